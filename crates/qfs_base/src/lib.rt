@@ -1,0 +1,6 @@
+//! The words that all crates of the file system share: numbers, keys, requests and replies,
+//! commands, scripts, and the metaserver's state.
+#![tactic(auto)]
+
+pub mod chunk;
+pub mod numbers;
