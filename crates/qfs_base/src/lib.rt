@@ -3,4 +3,5 @@
 #![tactic(auto)]
 
 pub mod chunk;
+pub mod layout;
 pub mod numbers;
