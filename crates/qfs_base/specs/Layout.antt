@@ -1,17 +1,9 @@
 -- How a file's bytes are dealt over blocks, rows and slots, for stripes of s bytes and chunks of at
 -- most r rows. A block holds r rows, a row holds one stripe in each of six data slots, and three
 -- parity slots stand beside them.
-use Rattle.std.specs.Prelude.{ℕ, ◌+◌, ◌-◌, ◌*◌, ◌/◌, ◌%◌, ◌≤◌, IsTrue, min}
-use Rattle.std.specs.Int.{div_ceil, is_power_of_two}
+use Rattle.std.specs.Prelude.{ℕ, ◌+◌, ◌-◌, ◌*◌, ◌/◌, ◌%◌, min}
+use Rattle.std.specs.Int.{div_ceil}
 use Rattle.qfs_base.specs.declared.layout.Spot.{Spot}
-
--- a stripe is a power of two from 16 to 65,536 bytes
-abbrev pub IsStripe : ℕ → Type 0
-IsStripe s = (16 ≤ s) × (s ≤ 65536) × IsTrue (is_power_of_two s)
-
--- a chunk has at most 1 to 1,024 rows
-abbrev pub IsRowCount : ℕ → Type 0
-IsRowCount r = (1 ≤ r) × (r ≤ 1024)
 
 -- the file bytes of a row: a stripe in each data slot
 abbrev pub row_bytes : ℕ → ℕ

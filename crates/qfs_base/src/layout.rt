@@ -1,11 +1,9 @@
 //! How a file is dealt over blocks, rows and slots.
 
-ghost use Rattle.std.specs.Prelude.{◌≤◌, IsTrue};
-ghost use Rattle.std.specs.Int.{is_power_of_two};
-
 use crate::numbers::Slot;
+use std::marker::Model;
 
-/// The shape of every file of a script: a chunk is up to `r` rows of a stripe of `s` bytes, and a
+/// The shape of every file of a script: a chunk has up to `r` rows of a stripe of `s` bytes, and a
 /// block is six data chunks and three parity chunks beside them.
 #[derive(Clone, Copy, PartialEq, Eq)]
 pub struct Layout {
@@ -13,11 +11,18 @@ pub struct Layout {
     pub s: u32,
     /// The most rows of a chunk: 1 to 1,024.
     pub r: u32,
-    pub ghost stripe_from: { 16 ≤ s },
-    pub ghost stripe_to: { s ≤ 65536 },
-    pub ghost stripe_power: { IsTrue (is_power_of_two s) },
-    pub ghost rows_from: { 1 ≤ r },
-    pub ghost rows_to: { r ≤ 1024 },
+}
+
+impl Model for Layout {
+    ghost use Rattle.qfs_base.specs.Shape.{Shape, IsStripe, IsRowCount};
+
+    ghost Value = { Shape };
+
+    ghost view = { λ layout. record { s = layout.s; r = layout.r } };
+
+    ghost invariant = { λ layout. IsStripe layout.s × IsRowCount layout.r };
+
+    ghost inverse = { λ shape. record { s = shape.s; r = shape.r } };
 }
 
 /// Where a byte of a file stands: in the chunk of `slot` of block `index`, at the byte `at` of that

@@ -1,7 +1,8 @@
 //! The calls on a layout.
 
 ghost use Rattle.std.specs.Prelude.{◌≡◌, ℕ, ◌<◌, ◌↔◌, IsSome, IfSome};
-ghost use Rattle.qfs_base.specs.Layout.{IsStripe, IsRowCount, row_bytes, block_bytes, blocks_of, rows_of};
+ghost use Rattle.qfs_base.specs.Shape.{IsStripe, IsRowCount};
+ghost use Rattle.qfs_base.specs.Layout.{row_bytes, block_bytes, blocks_of, rows_of};
 
 use qfs_base::layout::Layout;
 
@@ -34,14 +35,16 @@ pub trait LayoutCalls: Sized {
 
 /// The file bytes of a whole row.
 fn row_bytes(layout: &Layout) -> u32
-    ensures { result ≡ row_bytes layout.now.s }
+    ensures value { result ≡ row_bytes layout.now.s }
+    ensures positive { 0 < result }
 {
     DATA_SLOTS * layout.s
 }
 
 /// The file bytes of a whole block.
 fn block_bytes(layout: &Layout) -> u32
-    ensures { result ≡ block_bytes layout.now.s layout.now.r }
+    ensures value { result ≡ block_bytes layout.now.s layout.now.r }
+    ensures positive { 0 < result }
 {
     DATA_SLOTS * layout.s * layout.r
 }
