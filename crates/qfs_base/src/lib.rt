@@ -3,4 +3,9 @@
 #![tactic(auto)]
 
 pub mod chunk;
+pub mod key_map;
+pub mod listing;
+mod listing_compared;
+#[cfg(test)]
+mod listing_tests;
 pub mod numbers;
