@@ -3,5 +3,10 @@
 #![tactic(auto)]
 
 pub mod chunk;
+pub mod key_map;
 pub mod layout;
+pub mod listing;
+mod listing_compared;
+#[cfg(test)]
+mod listing_tests;
 pub mod numbers;
