@@ -1,3 +1,5 @@
 pub mod KeyMap
 pub mod Layout
+pub mod Path
+pub mod Recipe
 pub mod Shape

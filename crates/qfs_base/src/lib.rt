@@ -10,3 +10,5 @@ mod listing_compared;
 #[cfg(test)]
 mod listing_tests;
 pub mod numbers;
+pub mod path;
+pub mod recipe;
