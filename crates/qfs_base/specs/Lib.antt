@@ -1,1 +1,3 @@
 pub mod KeyMap
+pub mod NumberSet
+pub mod NumberSetLaws

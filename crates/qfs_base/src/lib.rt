@@ -9,3 +9,4 @@ mod listing_compared;
 #[cfg(test)]
 mod listing_tests;
 pub mod numbers;
+pub mod server_set;
