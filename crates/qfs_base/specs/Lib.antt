@@ -3,3 +3,5 @@ pub mod Layout
 pub mod Path
 pub mod Recipe
 pub mod Shape
+pub mod NumberSet
+pub mod NumberSetLaws

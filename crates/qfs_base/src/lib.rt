@@ -12,3 +12,4 @@ mod listing_tests;
 pub mod numbers;
 pub mod path;
 pub mod recipe;
+pub mod server_set;
