@@ -1,10 +1,10 @@
 -- The parts that records are made of. A part says which values have a spelling, what it is, and how
 -- a value is read off the front of a list of bytes: the value and the bytes that follow it, or
 -- nothing where no front of the bytes spells one.
-use Rattle.std.specs.Prelude.{◌≡◌, ℕ, zero, suc, ◌≤◌, ◌<◌, ◌==◌, ◌^◌, Bool, List, [], ◌∷◌, ◌++◌, length, take, drop, IsTrue, All, nat_eq, nat_lt, if◌then◌else◌, Option, Some, None, IfSome, flat_map}
+use Rattle.std.specs.Prelude.{ℕ, ◌<◌, ◌^◌, Bool, List, ◌++◌, length, take, drop, IsTrue, All, nat_eq, nat_lt, if◌then◌else◌, Option, Some, None}
 use Rattle.std.specs.Option.{option_and_then, option_map}
 use Rattle.std.specs.List.{starts_with}
-use Rattle.std.specs.Int.{Width, w8, w16, w32, w64, byte_len, to_be_bytes, from_be_bytes}
+use Rattle.std.specs.Int.{Width, byte_len, to_be_bytes, from_be_bytes}
 
 pub record Part (A : Type 0) : Type 1 where
   pub Fits : A → Type 0

@@ -2,5 +2,8 @@
 //! value, and reading it back.
 #![tactic(auto)]
 
+mod chunk;
 mod reading;
+mod writing;
 
+pub use chunk::{ChunkRead, chunk_records_are_apart, read_chunk, write_chunk};
