@@ -1,10 +1,11 @@
 //! The calls on a layout.
 
-ghost use Rattle.std.specs.Prelude.{◌≡◌, ℕ, ◌<◌, ◌↔◌, IsSome, IfSome};
+ghost use Rattle.std.specs.Prelude.{◌≡◌, ℕ, ◌+◌, ◌*◌, ◌/◌, ◌^◌, ◌<◌, ◌≤◌, ◌↔◌, IsSome, IfSome};
 ghost use Rattle.qfs_base.specs.Shape.{IsStripe, IsRowCount};
-ghost use Rattle.qfs_base.specs.Layout.{row_bytes, block_bytes, blocks_of, rows_of};
+ghost use Rattle.qfs_base.specs.Layout.{row_bytes, block_bytes, blocks_of, rows_of, place_of, offset_of};
 
-use qfs_base::layout::Layout;
+use qfs_base::layout::{Layout, Spot};
+use qfs_base::numbers::Slot;
 
 /// The slots of a block that hold the file's own bytes.
 const DATA_SLOTS: u32 = 6;
@@ -31,6 +32,24 @@ pub trait LayoutCalls: Sized {
     fn rows_of(&self, len: u32, index: u32) -> u32
         requires { index < blocks_of (stripe self.now) (rows self.now) len }
         ensures { result ≡ rows_of (stripe self.now) (rows self.now) len index };
+
+    /// Where byte `o` of a file stands. `o` is below 268,435,456.
+    fn place_of(&self, o: u64) -> Spot
+        requires { o < 2 ^ 28 }
+        ensures value { result ≡ place_of (stripe self.now) (rows self.now) o }
+        ensures back { offset_of (stripe self.now) (rows self.now) result.index result.slot result.at ≡ o }
+        ensures slot { result.slot < 6 }
+        ensures within { result.at < stripe self.now * rows self.now };
+
+    /// Which byte of a file stands at byte `at` of the chunk of data slot `slot`, in block `index`.
+    /// The index is below 4,194,304, the slot below 6, and `at` below the bytes of a whole chunk.
+    fn offset_of(&self, index: u32, slot: Slot, at: u32) -> u64
+        requires index { index < 4194304 }
+        requires slot { slot < 6 }
+        requires at { at < stripe self.now * rows self.now }
+        ensures value { result ≡ offset_of (stripe self.now) (rows self.now) index slot at }
+        ensures back { place_of (stripe self.now) (rows self.now) result
+            ≡ record { index = index; row = at / stripe self.now; slot = slot; at = at } };
 }
 
 /// The file bytes of a whole row.
@@ -45,6 +64,7 @@ fn row_bytes(layout: &Layout) -> u32
 fn block_bytes(layout: &Layout) -> u32
     ensures value { result ≡ block_bytes layout.now.s layout.now.r }
     ensures positive { 0 < result }
+    ensures largest { result ≤ 402653184 }
 {
     DATA_SLOTS * layout.s * layout.r
 }
@@ -70,6 +90,26 @@ impl LayoutCalls for Layout {
         let whole = block_bytes(self);
         let held = (len - index * whole).min(whole);
         held.div_ceil(row_bytes(self))
+    }
+
+    fn place_of(&self, o: u64) -> Spot {
+        let o = o as u32;
+        let inside = o % block_bytes(self);
+        let row = inside / row_bytes(self);
+        Spot {
+            index: o / block_bytes(self),
+            row,
+            slot: (inside / self.s % DATA_SLOTS) as Slot,
+            at: row * self.s + inside % self.s,
+        }
+    }
+
+    fn offset_of(&self, index: u32, slot: Slot, at: u32) -> u64 {
+        let row = u64::from(at / self.s);
+        let in_row = u32::from(slot) * self.s + at % self.s;
+        u64::from(index) * u64::from(block_bytes(self))
+            + row * u64::from(row_bytes(self))
+            + u64::from(in_row)
     }
 }
 
