@@ -1,9 +1,9 @@
 -- A byte's place gives its offset back, and an offset its place.
-use Rattle.std.proofs.Common.{◌≡◌, ◌∙◌, refl, sym, ap, arith, ℕ, ◌+◌, ◌*◌, ◌/◌, ◌%◌, ◌<◌, ◌≤◌}
+use Rattle.std.proofs.Common.{◌≡◌, ◌∙◌, ap, arith, ℕ, ◌+◌, ◌*◌, ◌/◌, ◌%◌, ◌<◌}
 use Rattle.std.proofs.Math.Nat.{div-div-eq-div-mul, mul_comm}
 use Rattle.std.proofs.lemmas.Nat.{div-add-mod', div-mul-add, mod-mul-add, mul-add-lt, mul-le, div_below, mod_below}
 use Rattle.qfs_base.specs.declared.layout.Spot.{Spot}
-use Rattle.qfs_base.specs.Layout.{row_bytes, block_bytes, place_of, offset_of}
+use Rattle.qfs_base.specs.Layout.{block_bytes, place_of, offset_of}
 
 -- a byte of a block by its row, its slot and its place in the stripe
 row_slot_byte : (b s : ℕ) → 0 < s → b / (6 * s) * (6 * s) + b / s % 6 * s + b % s ≡ b
@@ -44,11 +44,10 @@ same_spot i i' w w' j j' a a' index row slot at =
 inner_parts : (s row j t : ℕ) → 0 < s → j < 6 → t < s → let i = row * (6 * s) + (j * s + t) in (i / (6 * s) ≡ row) × (i / s % 6 ≡ j) × (i % s ≡ t)
 inner_parts s row j t some slot inside =
     let in_row : j * s + t < 6 * s = omega (arith, mul-add-lt j s t 6 slot inside) in
-    let stripes : row * (6 * s) + (j * s + t) ≡ (row * 6 + j) * s + t = omega arith in
-    (
+    let stripes : row * (6 * s) + (j * s + t) ≡ (row * 6 + j) * s + t = omega arith in (
       div-mul-add row (6 * s) (j * s + t) in_row,
       ap (λ n. n / s % 6) stripes ∙ ap (λ n. n % 6) (div-mul-add (row * 6 + j) s t inside) ∙ mod-mul-add row 6 j slot,
-      ap (λ n. n % s) stripes ∙ mod-mul-add (row * 6 + j) s t inside
+      ap (λ n. n % s) stripes ∙ mod-mul-add (row * 6 + j) s t inside,
     )
 
 pub place_of_offset : (s r k j a : ℕ) → 0 < s → j < 6 → a < s * r → place_of s r (offset_of s r k j a) ≡ record { index = k; row = a / s; slot = j; at = a }
@@ -66,5 +65,5 @@ place_of_offset s r k j a some slot within =
     let slot_is : offset_of s r k j a % (6 * s * r) / s % 6 ≡ j = ap (λ n. n / s % 6) inner_is ∙ parts.1 in
     let t_is : offset_of s r k j a % (6 * s * r) % s ≡ a % s = ap (λ n. n % s) inner_is ∙ parts.2 in
     let at_is : offset_of s r k j a % (6 * s * r) / (6 * s) * s + offset_of s r k j a % (6 * s * r) % s ≡ a =
-        ap (λ n. n * s + offset_of s r k j a % (6 * s * r) % s) row_is ∙ ap (λ n. a / s * s + n) t_is ∙ div-add-mod' a s in
+    ap (λ n. n * s + offset_of s r k j a % (6 * s * r) % s) row_is ∙ ap (λ n. a / s * s + n) t_is ∙ div-add-mod' a s in
     same_spot _ _ _ _ _ _ _ _ index_is row_is slot_is at_is

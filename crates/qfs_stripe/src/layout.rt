@@ -2,8 +2,9 @@
 
 ghost use Rattle.std.specs.Prelude.{◌≡◌, ℕ, ◌+◌, ◌*◌, ◌/◌, ◌^◌, ◌<◌, ◌≤◌, ◌↔◌, IsSome, IfSome};
 ghost use Rattle.qfs_base.specs.Shape.{IsStripe, IsRowCount};
-ghost use Rattle.qfs_base.specs.Layout.{row_bytes, block_bytes, blocks_of, rows_of, place_of, offset_of};
+ghost use Rattle.qfs_base.specs.Layout.{row_bytes, block_bytes, blocks_of, rows_of, place_of, offset_of, windows_of};
 
+use crate::windows::Windows;
 use qfs_base::layout::{Layout, Spot};
 use qfs_base::numbers::Slot;
 
@@ -50,6 +51,16 @@ pub trait LayoutCalls: Sized {
         ensures value { result ≡ offset_of (stripe self.now) (rows self.now) index slot at }
         ensures back { place_of (stripe self.now) (rows self.now) result
             ≡ record { index = index; row = at / stripe self.now; slot = slot; at = at } };
+
+    /// The windows in which `count` bytes from byte `from` on are read, of a file of `len` bytes: by
+    /// block and then by aligned group of 16 rows, of each group that the range touches, the rows
+    /// from the first to the last that it touches. A range is cut at the file's end. Each of the
+    /// three is at most 268,435,456.
+    fn windows(&self, len: u32, from: u32, count: u32) -> Windows
+        requires len { len ≤ 2 ^ 28 }
+        requires from { from ≤ 2 ^ 28 }
+        requires count { count ≤ 2 ^ 28 }
+        ensures { result ≡ windows_of (stripe self.now) (rows self.now) len from count };
 }
 
 /// The file bytes of a whole row.
@@ -111,18 +122,74 @@ impl LayoutCalls for Layout {
             + row * u64::from(row_bytes(self))
             + u64::from(in_row)
     }
+
+    fn windows(&self, len: u32, from: u32, count: u32) -> Windows {
+        let end = len.min(from + count);
+        if end <= from {
+            return Windows::none();
+        }
+        let row = row_bytes(self);
+        Windows::between(self.r, from / row, end.div_ceil(row))
+    }
 }
 
 #[cfg(test)]
 mod tests {
     use super::*;
+    use qfs_base::layout::Window;
     use std::test::Fail;
 
     #[test]
     fn a_million_bytes_are_three_rows_of_one_block(rt: HostRuntime) -> Result<(), Fail> {
         let usual = Layout::new(65536, 1024).ok_or("the usual layout")?;
         assert_eq!(rt; usual.blocks_of(1_000_000), 1);
-        assert_eq!(rt; usual.rows_of(1_000_000, 0), 3);
+        assert_eq!(rt; usual.rows_of(1_000_000, 0) * usual.s, 196_608);
+        Ok(())
+    }
+
+    #[test]
+    fn bytes_at_the_ends_of_rows_and_blocks(rt: HostRuntime) -> Result<(), Fail> {
+        let small = Layout::new(16, 2).ok_or("a small layout")?;
+        let known = [
+            (95, 0, 0, 5, 15),
+            (96, 0, 1, 0, 16),
+            (191, 0, 1, 5, 31),
+            (192, 1, 0, 0, 0),
+        ];
+        for (offset, index, row, slot, at) in known {
+            let wanted = Spot {
+                index,
+                row,
+                slot,
+                at,
+            };
+            assert!(rt; small.place_of(offset) == wanted);
+            assert_eq!(rt; small.offset_of(index, slot, at), offset);
+        }
+        Ok(())
+    }
+
+    fn window(index: u32, first_row: u32, rows: u32) -> Window {
+        Window {
+            index,
+            first_row,
+            rows,
+        }
+    }
+
+    // A row has 96 bytes and a block 40 rows. The bytes 1,500 to 4,399 lie in the rows 15 to 45.
+    #[test]
+    fn a_range_by_its_windows(rt: HostRuntime) -> Result<(), Fail> {
+        let layout = Layout::new(16, 40).ok_or("a layout")?;
+        let windows: Vec<Window> = layout.windows(4400, 1500, 3000).collect(rt.alloc())?;
+        let wanted = [
+            window(0, 15, 1),
+            window(0, 16, 16),
+            window(0, 32, 8),
+            window(1, 0, 6),
+        ];
+        assert!(rt; windows.as_slice() == wanted.as_slice());
+        assert!(rt; layout.windows(4400, 4400, 3000).next().is_none());
         Ok(())
     }
 }

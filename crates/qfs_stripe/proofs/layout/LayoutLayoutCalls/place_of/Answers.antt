@@ -1,8 +1,8 @@
-use Rattle.std.proofs.Common.{◌≡◌, subst, sym, ap, arith, rules, ◌*◌, ◌<◌}
+use Rattle.std.proofs.Common.{◌≡◌, subst, sym, ap, arith, ◌*◌, ◌<◌}
 use Rattle.std.proofs.lemmas.Grind.{common_steps}
 use Rattle.qfs_base.specs.declared.layout.Spot.{Spot}
 use Rattle.qfs_base.specs.Shape.{Shape}
-use Rattle.qfs_base.specs.Layout.{place_of, offset_of}
+use Rattle.qfs_base.specs.Layout.{offset_of}
 use Rattle.qfs_stripe.proofs.Places.{offset_of_place, place_within}
 use Rattle.qfs_stripe.proofs.layout.LayoutLayoutCalls.place_of.Goals as goal
 
