@@ -1,7 +1,7 @@
 -- How a file's bytes are dealt over blocks, rows and slots, for stripes of s bytes and chunks of at
 -- most r rows. A block holds r rows, a row holds one stripe in each of six data slots, and three
 -- parity slots stand beside them.
-use Rattle.std.specs.Prelude.{ℕ, ◌+◌, ◌-◌, ◌*◌, ◌/◌, ◌%◌, min, max, map, List, [], nat_lt, if◌then◌else◌}
+use Rattle.std.specs.Prelude.{ℕ, ◌+◌, ◌-◌, ◌*◌, ◌/◌, ◌%◌, min, max, map, flat_map, List, [], nat_lt, if◌then◌else◌}
 use Rattle.std.specs.Int.{div_ceil}
 use Rattle.std.specs.List.{range_with_len}
 use Rattle.qfs_base.specs.declared.layout.Spot.{Spot}
@@ -38,35 +38,38 @@ place_of s r o =
 abbrev pub offset_of : ℕ → ℕ → ℕ → ℕ → ℕ → ℕ
 offset_of s r k j a = k * block_bytes s r + a / s * row_bytes s + j * s + a % s
 
--- the rows of an aligned group
-abbrev pub group_rows : ℕ
-group_rows = 16
+-- the rows of an aligned group, which are read together
+abbrev pub window_rows : ℕ
+window_rows = 16
 
--- how many aligned groups of rows a whole block has
-abbrev pub groups_in_block : ℕ → ℕ
-groups_in_block r = div_ceil r group_rows
-
--- the group that row g is in. Rows and groups are numbered through the blocks of a file
-abbrev pub group_of : ℕ → ℕ → ℕ
-group_of r g = g / r * groups_in_block r + g % r / group_rows
-
--- the rows of group m, cut to those from first up to past
+-- what lies in aligned group g of the rows of block k from first up to past
 abbrev pub window_at : ℕ → ℕ → ℕ → ℕ → Window
-window_at r first past m =
-    let k = m / groups_in_block r in
-    let start = k * r + m % groups_in_block r * group_rows in
-    let low = max first start in
-    let high = min past (min (start + group_rows) (k * r + r)) in
-    record { index = k; first_row = low - k * r; rows = high - low }
+window_at k first past g =
+    let low = max first (g * window_rows) in
+    let high = min past (g * window_rows + window_rows) in
+    record { index = k; first_row = low; rows = high - low }
 
--- the windows of the rows from first up to past, of which there are some
-abbrev pub windows_between : ℕ → ℕ → ℕ → List Window
-windows_between r first past =
-    map (window_at r first past) (range_with_len (group_of r first) (group_of r (past - 1) + 1 - group_of r first))
+-- the windows of the rows of block k from first up to past
+abbrev pub windows_of_rows : ℕ → ℕ → ℕ → List Window
+windows_of_rows k first past =
+    let low = first / window_rows in
+    map (window_at k first past) (range_with_len low (div_ceil past window_rows - low))
 
--- the windows of count bytes from the byte `from` on, of a file of len bytes: of each aligned group of
--- rows that this range touches, the rows from the first to the last that it touches
+-- the blocks that the bytes from `from` up to `to` touch, of which there is at least one
+abbrev pub blocks_touched : ℕ → ℕ → ℕ → ℕ → List ℕ
+blocks_touched s r from to =
+    let low = from / block_bytes s r in
+    range_with_len low (div_ceil to (block_bytes s r) - low)
+
+-- the windows of the rows of block k that these bytes touch
+abbrev pub windows_touched : ℕ → ℕ → ℕ → ℕ → ℕ → List Window
+windows_touched s r from to k =
+    let start = k * block_bytes s r in
+    windows_of_rows k ((from - start) / row_bytes s) (div_ceil (min (to - start) (block_bytes s r)) (row_bytes s))
+
+-- the windows of count bytes from the byte `from` on, of a file of len bytes, block by block: of each
+-- aligned group of 16 rows that the range touches, the rows from the first to the last that it touches
 abbrev pub windows_of : ℕ → ℕ → ℕ → ℕ → ℕ → List Window
 windows_of s r len from count =
-    let end = min len (from + count) in
-    if nat_lt from end then windows_between r (from / row_bytes s) (div_ceil end (row_bytes s)) else []
+    let to = min len (from + count) in
+    if nat_lt from to then flat_map (windows_touched s r from to) (blocks_touched s r from to) else []

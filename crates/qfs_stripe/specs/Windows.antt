@@ -2,12 +2,12 @@
 use Rattle.std.specs.Prelude.{◌+◌, ◌-◌, ◌<◌, ◌≤◌, ◌^◌, List, map}
 use Rattle.std.specs.List.{range_with_len}
 use Rattle.qfs_base.specs.declared.layout.Window.{Window}
-use Rattle.qfs_base.specs.Layout.{group_of, window_at}
+use Rattle.qfs_stripe.specs.Groups.{group_of, group_window}
 use Rattle.qfs_stripe.specs.declared.windows.Windows.TheInside.{Inside}
 
 -- the windows of the groups that are left
 abbrev pub windows_left : Inside → List Window
-windows_left w = map (window_at w.block_rows w.first w.past) (range_with_len w.group (w.groups_past - w.group))
+windows_left w = map (group_window w.block_rows w.first w.past) (range_with_len w.group (w.groups_past - w.group))
 
 -- the groups that are left are among those of the rows from the first on
 pub record IsWindows (w : Inside) : Type 0 where

@@ -2,7 +2,7 @@
 
 ghost use Rattle.std.specs.Prelude.{◌≡◌, ◌-◌, ◌<◌, ◌≤◌, ◌^◌, []};
 ghost use Rattle.std.specs.Iterator.{YieldsFirst, item_count};
-ghost use Rattle.qfs_base.specs.Layout.{groups_in_block, group_of, window_at, windows_between};
+ghost use Rattle.qfs_stripe.specs.Groups.{groups_in_block, group_of, group_window, windows_between};
 
 use qfs_base::layout::Window;
 use std::marker::Model;
@@ -100,19 +100,19 @@ impl Iterator for Windows {
         }
         let group = self.group;
         self.group = group + 1;
-        Some(window_at(self.block_rows, self.first, self.past, group))
+        Some(group_window(self.block_rows, self.first, self.past, group))
     }
 }
 
 /// The rows of a group, cut to those from `first` up to `past`. Some of its rows are among those.
-fn window_at(block_rows: u32, first: u32, past: u32, group: u32) -> Window
+fn group_window(block_rows: u32, first: u32, past: u32, group: u32) -> Window
     requires block { 1 ≤ block_rows }
     requires size { block_rows ≤ 1024 }
     requires rows { first < past }
     requires fits { past ≤ 2 ^ 28 }
     requires from { group_of block_rows first ≤ group }
     requires to { group ≤ group_of block_rows (past - 1) }
-    ensures { result ≡ window_at block_rows first past group }
+    ensures { result ≡ group_window block_rows first past group }
 {
     let groups = groups_in_block(block_rows);
     let index = group / groups;

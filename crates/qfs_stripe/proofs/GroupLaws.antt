@@ -4,7 +4,7 @@ use Rattle.std.specs.List.{range_with_len}
 use Rattle.std.proofs.lemmas.Bool.{cases_lt}
 use Rattle.std.proofs.lemmas.Grind.{div_ceil_times}
 use Rattle.std.proofs.lemmas.Nat.{div-add-mod', mod_below, mul-le}
-use Rattle.qfs_base.specs.Layout.{groups_in_block, group_of}
+use Rattle.qfs_stripe.specs.Groups.{groups_in_block, group_of}
 
 -- the first row of a group up to that of row g isn't past g
 starts_up_to : (r groups m g : ℕ) → 0 < r → 0 < groups → r ≤ groups * 16 → groups * 16 < r + 16 → m ≤ g / r * groups + g % r / 16 → m / groups * r + m % groups * 16 ≤ g

@@ -1,6 +1,6 @@
 use Rattle.std.proofs.Common.{arith}
-use Rattle.qfs_stripe.proofs.Groups.{touches}
-use Rattle.qfs_stripe.proofs.windows.window_at.Goals as goal
+use Rattle.qfs_stripe.proofs.GroupLaws.{touches}
+use Rattle.qfs_stripe.proofs.windows.group_window.Goals as goal
 
 pub overflow_mul-block : goal.overflow_mul-block
 overflow_mul-block c =
