@@ -1,17 +1,17 @@
 -- What was written of a part is read again, whatever follows, and what is read was written so.
-use Rattle.std.proofs.Common.{◌≡◌, ◌∙◌, refl, sym, ap, subst, arith, ℕ, ◌<◌, ◌≤◌, ◌^◌, Bool, true, false, cond, ltb, List, [], ◌∷◌, ◌++◌, length, get_or, take, drop, append_assoc, Option, Some, None, inl, inr, lit<}
-use Rattle.std.specs.Prelude.{nat_eq}
+use Rattle.std.proofs.Common.{◌≡◌, ◌∙◌, refl, sym, ap, subst, arith, ℕ, ◌<◌, ◌≤◌, ◌^◌, Bool, true, false, cond, ltb, List, [], ◌∷◌, ◌++◌, length, get_or, take, drop, append_assoc, Option, Some, None, inl, inr, lit<, zero, suc}
+use Rattle.std.specs.Prelude.{nat_eq, flat_map}
 use Rattle.std.specs.Option.{option_and_then, option_map}
-use Rattle.std.specs.List.{starts_with}
+use Rattle.std.specs.List.{starts_with, AllByRecursion}
 use Rattle.std.specs.Int.{Width, w8, w16, w32, w64, byte_len, to_be_bytes, from_be_bytes}
 use Rattle.std.proofs.lemmas.Bool.{ltb-false, le-ltb, cases_lt}
 use Rattle.std.proofs.lemmas.Bool.Decides.{Decides-eqb}
 use Rattle.std.proofs.lemmas.Slice.Eq.{starts_is}
 use Rattle.std.proofs.Math.Nat.{mod-eq_of_lt}
 use Rattle.std.proofs.lemmas.List.{take_at, drop_at, take-append-drop, length-append, length-take, get_or_past}
-use Rattle.std.proofs.lemmas.List.Elements.{All-take, All-drop}
+use Rattle.std.proofs.lemmas.List.Elements.{All-take, All-drop, All-tail}
 use Rattle.std.proofs.lemmas.Nat.{be_bytes_2, be_bytes_4, be_bytes_8, from_be_bytes-to_be_bytes_2, from_be_bytes-to_be_bytes_4, from_be_bytes-to_be_bytes_8}
-use Rattle.qfs_record.specs.Part.{Part, AreBytes, number, number_at, pair, such, shaped, marked, counted, counted_at}
+use Rattle.qfs_record.specs.Part.{Part, AreBytes, number, number_at, pair, such, shaped, marked, counted, counted_at, flag, flag_at, optional, optional_at, optional_text, many_at, listed}
 
 -- bytes are a value's text and a rest
 pub record Takes {A : Type 0} (part : Part A) (bytes : List ℕ) (value : A) (rest : List ℕ) : Type 0 where
@@ -239,3 +239,99 @@ counted16 = record { again = counted_again w16 wide16; spelled = counted_spelled
 
 pub counted32 : IsPart (counted w32)
 counted32 = record { again = counted_again w32 wide32; spelled = counted_spelled w32 wide32 }
+
+-- ---- truth values, optional values and lists
+
+flag_spelled : (bytes : List ℕ) (truth : Bool) (rest : List ℕ) → AreBytes bytes → flag_at bytes ≡ Some (truth, rest) → Takes flag bytes truth rest
+flag_spelled [] truth rest are read = absurd cc
+flag_spelled (zero ∷ bytes) truth rest are read =
+    let same = some_is {A = Bool × List ℕ} (false, bytes) (truth, rest) read in
+    let takes : Takes flag (0 ∷ bytes) false bytes = record { fits = tt; parts = refl; rest_fits = All-tail (λ byte. byte < 256) 0 bytes are } in
+    subst (λ (r : Bool × List ℕ). Takes flag (0 ∷ bytes) r.0 r.1) same takes
+flag_spelled (suc zero ∷ bytes) truth rest are read =
+    let same = some_is {A = Bool × List ℕ} (true, bytes) (truth, rest) read in
+    let takes : Takes flag (1 ∷ bytes) true bytes = record { fits = tt; parts = refl; rest_fits = All-tail (λ byte. byte < 256) 1 bytes are } in
+    subst (λ (r : Bool × List ℕ). Takes flag (1 ∷ bytes) r.0 r.1) same takes
+flag_spelled (suc (suc byte) ∷ bytes) truth rest are read = absurd cc
+
+flag_again : (truth : Bool) (rest : List ℕ) → flag.Fits truth → flag_at (flag.text truth ++ rest) ≡ Some (truth, rest)
+flag_again true rest fits = refl
+flag_again false rest fits = refl
+
+pub flag-is_part : IsPart flag
+flag-is_part = record { again = flag_again; spelled = flag_spelled }
+
+optional_spelled : {A : Type 0} (part : Part A) → IsPart part → (bytes : List ℕ) (value : Option A) (rest : List ℕ) → AreBytes bytes → optional_at part bytes ≡ Some (value, rest) → Takes (optional part) bytes value rest
+optional_spelled part is [] value rest are read = absurd cc
+optional_spelled {A} part is (zero ∷ bytes) value rest are read =
+    let same = some_is {A = Option A × List ℕ} (None, bytes) (value, rest) read in
+    let takes : Takes (optional part) (0 ∷ bytes) None bytes = record { fits = tt; parts = refl; rest_fits = All-tail (λ byte. byte < 256) 0 bytes are } in
+    subst (λ (r : Option A × List ℕ). Takes (optional part) (0 ∷ bytes) r.0 r.1) same takes
+optional_spelled {A} part is (suc zero ∷ bytes) value rest are read =
+    let f = map_some {B = Option A × List ℕ} (part.read bytes) (λ front. (Some front.0, front.1)) (value, rest) read in
+    let front = f.0 in
+    let p = is.spelled bytes front.0 front.1 (All-tail (λ byte. byte < 256) 1 bytes are) f.1 in
+    let takes : Takes (optional part) (1 ∷ bytes) (Some front.0) front.1 = record { fits = p.fits; parts = ap (λ (t : List ℕ). 1 ∷ t) p.parts; rest_fits = p.rest_fits } in
+    subst (λ (r : Option A × List ℕ). Takes (optional part) (1 ∷ bytes) r.0 r.1) f.2 takes
+optional_spelled part is (suc (suc byte) ∷ bytes) value rest are read = absurd cc
+
+optional_again : {A : Type 0} (part : Part A) → IsPart part → (value : Option A) (rest : List ℕ) → (optional part).Fits value → optional_at part (optional_text part value ++ rest) ≡ Some (value, rest)
+optional_again part is None rest fits = refl
+optional_again {A} part is (Some value) rest fits = ap (option_map (λ (front : A × List ℕ). (Some front.0, front.1))) (is.again value rest fits)
+
+pub optional-is_part : {A : Type 0} (part : Part A) → IsPart part → IsPart (optional part)
+optional-is_part part is = record { again = optional_again part is; spelled = optional_spelled part is }
+
+-- so many values and a rest
+record TakesMany {A : Type 0} (part : Part A) (count : ℕ) (bytes : List ℕ) (values : List A) (rest : List ℕ) : Type 0 where
+  long : length values ≡ count
+  fits : AllByRecursion part.Fits values
+  parts : bytes ≡ flat_map part.text values ++ rest
+  rest_fits : AreBytes rest
+
+many_spelled : {A : Type 0} (part : Part A) → IsPart part → (count : ℕ) (bytes : List ℕ) (values : List A) (rest : List ℕ) → AreBytes bytes → many_at part count bytes ≡ Some (values, rest) → TakesMany part count bytes values rest
+many_spelled {A} part is zero bytes values rest are read =
+    let same = some_is {A = List A × List ℕ} ([], bytes) (values, rest) read in
+    let takes : TakesMany part 0 bytes [] bytes = record { long = refl; fits = tt; parts = refl; rest_fits = are } in
+    subst (λ (r : List A × List ℕ). TakesMany part 0 bytes r.0 r.1) same takes
+many_spelled {A} part is (suc count) bytes values rest are read =
+    let f = then_some {B = List A × List ℕ} (part.read bytes) (λ front. option_map (λ back. (front.0 ∷ back.0, back.1)) (many_at part count front.1)) (values, rest) read in
+    let front = f.0 in
+    let b = map_some {B = List A × List ℕ} (many_at part count front.1) (λ back. (front.0 ∷ back.0, back.1)) (values, rest) f.2 in
+    let back = b.0 in
+    let p = is.spelled bytes front.0 front.1 are f.1 in
+    let q = many_spelled part is count front.1 back.0 back.1 p.rest_fits b.1 in
+    let takes : TakesMany part (suc count) bytes (front.0 ∷ back.0) back.1 = record {
+      long = ap suc q.long;
+      fits = (p.fits, q.fits);
+      parts = p.parts ∙ ap (λ (t : List ℕ). part.text front.0 ++ t) q.parts ∙ sym (append_assoc (part.text front.0) (flat_map part.text back.0) back.1);
+      rest_fits = q.rest_fits;
+    } in
+    subst (λ (r : List A × List ℕ). TakesMany part (suc count) bytes r.0 r.1) b.2 takes
+
+many_again : {A : Type 0} (part : Part A) → IsPart part → (values : List A) (rest : List ℕ) → AllByRecursion part.Fits values → many_at part (length values) (flat_map part.text values ++ rest) ≡ Some (values, rest)
+many_again part is [] rest fits = refl
+many_again part is (value ∷ values) rest fits =
+    rw (append_assoc (part.text value) (flat_map part.text values) rest, is.again value (flat_map part.text values ++ rest) fits.0, many_again part is values rest fits.1) refl
+
+listed_spelled : {A : Type 0} (part : Part A) → IsPart part → (bytes : List ℕ) (values : List A) (rest : List ℕ) → AreBytes bytes → (listed part).read bytes ≡ Some (values, rest) → Takes (listed part) bytes values rest
+listed_spelled {A} part is bytes values rest are read =
+    let f = then_some {B = List A × List ℕ} (number_at w32 bytes) (λ count. many_at part count.0 count.1) (values, rest) read in
+    let count = f.0 in
+    let p = number_spelled w32 wide32 bytes count.0 count.1 are f.1 in
+    let q = many_spelled part is count.0 count.1 values rest p.rest_fits f.2 in
+    record {
+      fits = (subst (λ (n : ℕ). n < 2 ^ 32) (sym q.long) p.fits, q.fits);
+      parts = p.parts ∙ ap (λ (t : List ℕ). to_be_bytes w32 count.0 ++ t) q.parts ∙ sym (append_assoc (to_be_bytes w32 count.0) (flat_map part.text values) rest)
+          ∙ ap (λ (n : ℕ). (to_be_bytes w32 n ++ flat_map part.text values) ++ rest) (sym q.long);
+      rest_fits = q.rest_fits;
+    }
+
+listed_again : {A : Type 0} (part : Part A) → IsPart part → (values : List A) (rest : List ℕ) → (listed part).Fits values → (listed part).read ((to_be_bytes w32 (length values) ++ flat_map part.text values) ++ rest) ≡ Some (values, rest)
+listed_again {A} part is values rest fits =
+    ap (listed part).read (append_assoc (to_be_bytes w32 (length values)) (flat_map part.text values) rest)
+    ∙ ap (option_and_then {U = List A × List ℕ} (λ count. many_at part count.0 count.1)) (number_again w32 wide32 (length values) (flat_map part.text values ++ rest) fits.0)
+    ∙ many_again part is values rest fits.1
+
+pub listed-is_part : {A : Type 0} (part : Part A) → IsPart part → IsPart (listed part)
+listed-is_part part is = record { again = listed_again part is; spelled = listed_spelled part is }

@@ -1,10 +1,10 @@
 -- The parts that records are made of. A part says which values have a spelling, what it is, and how
 -- a value is read off the front of a list of bytes: the value and the bytes that follow it, or
 -- nothing where no front of the bytes spells one.
-use Rattle.std.specs.Prelude.{ℕ, ◌<◌, ◌^◌, Bool, List, ◌++◌, length, take, drop, IsTrue, All, nat_eq, nat_lt, if◌then◌else◌, Option, Some, None}
+use Rattle.std.specs.Prelude.{ℕ, ◌<◌, ◌^◌, Bool, List, ◌++◌, length, take, drop, IsTrue, All, nat_eq, nat_lt, if◌then◌else◌, Option, Some, None, zero, suc, [], ◌∷◌, true, false, IfSome, flat_map}
 use Rattle.std.specs.Option.{option_and_then, option_map}
-use Rattle.std.specs.List.{starts_with}
-use Rattle.std.specs.Int.{Width, byte_len, to_be_bytes, from_be_bytes}
+use Rattle.std.specs.List.{starts_with, AllByRecursion}
+use Rattle.std.specs.Int.{Width, w32, byte_len, to_be_bytes, from_be_bytes}
 
 pub record Part (A : Type 0) : Type 1 where
   pub Fits : A → Type 0
@@ -70,4 +70,44 @@ counted w = record {
   Fits = λ bytes. AreBytes bytes × (length bytes < 256 ^ byte_len w);
   text = λ bytes. to_be_bytes w (length bytes) ++ bytes;
   read = counted_at w;
+}
+
+-- ---- truth values, optional values and lists
+
+abbrev pub flag_at : List ℕ → Option (Bool × List ℕ)
+flag_at [] = None
+flag_at (zero ∷ rest) = Some (false, rest)
+flag_at (suc zero ∷ rest) = Some (true, rest)
+flag_at (suc (suc byte) ∷ rest) = None
+
+-- a byte 0 or 1
+abbrev pub flag : Part Bool
+flag = record { Fits = λ _. Unit {0}; text = λ truth. if truth then 1 ∷ [] else 0 ∷ []; read = flag_at }
+
+abbrev pub optional_text : {A : Type 0} → Part A → Option A → List ℕ
+optional_text part None = 0 ∷ []
+optional_text part (Some value) = 1 ∷ part.text value
+
+abbrev pub optional_at : {A : Type 0} → Part A → List ℕ → Option (Option A × List ℕ)
+optional_at part [] = None
+optional_at part (zero ∷ rest) = Some (None, rest)
+optional_at part (suc zero ∷ rest) = option_map (λ front. (Some front.0, front.1)) (part.read rest)
+optional_at part (suc (suc byte) ∷ rest) = None
+
+-- a byte 0, or a byte 1 and the value
+abbrev pub optional : {A : Type 0} → Part A → Part (Option A)
+optional part = record { Fits = λ value. IfSome value part.Fits; text = optional_text part; read = optional_at part }
+
+-- so many values, one after another
+abbrev pub many_at : {A : Type 0} → Part A → ℕ → List ℕ → Option (List A × List ℕ)
+many_at part zero bytes = Some ([], bytes)
+many_at part (suc n) bytes =
+    option_and_then (λ front. option_map (λ back. (front.0 ∷ back.0, back.1)) (many_at part n front.1)) (part.read bytes)
+
+-- values with their count in four bytes before them
+abbrev pub listed : {A : Type 0} → Part A → Part (List A)
+listed part = record {
+  Fits = λ values. (length values < 2 ^ 32) × AllByRecursion part.Fits values;
+  text = λ values. to_be_bytes w32 (length values) ++ flat_map part.text values;
+  read = λ bytes. option_and_then (λ count. many_at part count.0 count.1) (number_at w32 bytes);
 }
