@@ -3,4 +3,16 @@
 #![tactic(auto)]
 
 pub mod chunk;
+pub mod command;
+pub mod history;
+pub mod image;
+pub mod layout;
+pub mod listing;
+pub mod lists;
 pub mod numbers;
+pub mod path;
+pub mod recipe;
+pub mod reply;
+pub mod request;
+pub mod script;
+pub mod server_set;

@@ -1,0 +1,9 @@
+//! stub
+use crate::lists::Bytes;
+
+#[derive(Drop)]
+pub enum Recipe {
+    Hex(Bytes),
+    Fill { byte: u8, len: u32 },
+    Pattern { start: u32, len: u32 },
+}
