@@ -63,7 +63,14 @@ pub enum Shown {
     Digest(Bytes),
 }
 
-/// What a command reports when it has ended. `R` is what a get keeps of the bytes it read.
+/// What is kept of bytes that were read: how many they are, and what is shown of them.
+#[derive(Drop)]
+pub struct Excerpt {
+    pub len: u32,
+    pub shown: Shown,
+}
+
+/// What a command reports when it has ended. `R` is what a get keeps of the bytes that it read.
 #[derive(Drop)]
 pub enum Reply<R> {
     Done {
@@ -217,7 +224,7 @@ pub enum Reply<R> {
 pub struct ReplyLine {
     pub actor: ActorId,
     pub command: u16,
-    pub reply: Reply<Shown>,
+    pub reply: Reply<Excerpt>,
 }
 
 /// The reports of commands that have ended, by actor and command.
