@@ -6,8 +6,12 @@ pub mod chunk;
 pub mod command;
 pub mod history;
 pub mod image;
+pub mod key_map;
 pub mod layout;
 pub mod listing;
+mod listing_compared;
+#[cfg(test)]
+mod listing_tests;
 pub mod lists;
 pub mod numbers;
 pub mod path;
