@@ -1,1 +1,3 @@
 pub mod KeyMap
+pub mod Layout
+pub mod Shape
