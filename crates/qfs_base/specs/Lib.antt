@@ -1,4 +1,9 @@
 pub mod KeyMap
 pub mod Key
 pub mod Layout
+pub mod NameTree
+pub mod Outcome
+pub mod Path
+pub mod Recipe
 pub mod Shape
+pub mod Table
