@@ -2,6 +2,8 @@ pub mod KeyMap
 pub mod Key
 pub mod Layout
 pub mod NameTree
+pub mod NumberSet
+pub mod NumberSetLaws
 pub mod Outcome
 pub mod Path
 pub mod Recipe
