@@ -1,5 +1,5 @@
-pub mod KeyMap
 pub mod Key
+pub mod KeyMap
 pub mod Layout
 pub mod NameTree
 pub mod NumberSet
