@@ -1,7 +1,7 @@
 -- The rules of a name tree, over what stands under each path: a directory, an unclosed file or a
 -- closed one. The root is a directory that is always there, and no row of the tree. The same rules
 -- serve the tree of the metaserver and the files of a file history.
-use Rattle.std.specs.Prelude.{ℕ, ◌+◌, ◌-◌, nat_eq, nat_lt, Bool, true, false, ◌&&◌, cond, List, [], ◌∷◌, ◌++◌, length, take, drop, map, filter, find, filter_map, Option, Some, None, is_some}
+use Rattle.std.specs.Prelude.{ℕ, ◌-◌, nat_eq, nat_lt, Bool, true, ◌&&◌, cond, List, [], ◌∷◌, ◌++◌, length, take, drop, map, filter, find, filter_map, Option, Some, None}
 use Rattle.std.specs.Option.{option_or, option_map}
 use Rattle.std.specs.Bool.{then_some}
 use Rattle.std.specs.declared.cmp.Ordering.{Ordering}
@@ -120,18 +120,18 @@ moved from to path = to ++ drop (length from) path
 unfoldable pub grows_too_deep : List Standing → PathNames → PathNames → Bool
 grows_too_deep tree from to =
     list_any
-      (λ (row : Standing). is_within from row.path && nat_lt most_names (length (moved from to row.path)))
-      tree
+    (λ (row : Standing). is_within from row.path && nat_lt most_names (length (moved from to row.path)))
+    tree
 
 -- why an entry isn't renamed: what is moved isn't there, it would come to lie within itself, its new
 -- place isn't free or isn't there, or it would lie too deep
 unfoldable pub rename_refusal : List Standing → PathNames → PathNames → Option TreeRefusal
 rename_refusal tree from to =
     option_or (parents_refusal Not.Missing tree from)
-      (option_or (source_refusal (kind_at tree from))
-        (option_or (refused_if (is_within from to) Not.IntoSelf)
-          (option_or (add_refusal tree to)
-            (refused_if (grows_too_deep tree from to) Not.TooDeep))))
+    (option_or (source_refusal (kind_at tree from))
+    (option_or (refused_if (is_within from to) Not.IntoSelf)
+    (option_or (add_refusal tree to)
+    (refused_if (grows_too_deep tree from to) Not.TooDeep))))
 
 -- the name of a path that has just one
 unfoldable pub only_name : PathNames → Option (List ℕ)
@@ -148,8 +148,8 @@ name_in directory path =
 unfoldable pub names_below : List Standing → PathNames → List Name
 names_below tree directory =
     filter_map
-      (λ (row : Standing). option_map (λ name. record { part = name; kind = row.kind }) (name_in directory row.path))
-      tree
+    (λ (row : Standing). option_map (λ name. record { part = name; kind = row.kind }) (name_in directory row.path))
+    tree
 
 -- a tree of rows that hold more than a path and what stands there: `path_of` reads a row's path, and
 -- `at_path` is the row under another path
@@ -175,5 +175,5 @@ module _ {Row : Type 0} (path_of : Row → PathNames) where
   renamed at_path from to rows =
       let is_moved : Row → Bool = λ row. is_within from (path_of row) in
       place_all row_cmp
-        (map (λ row. at_path (moved from to (path_of row)) row) (filter is_moved rows))
-        (without is_moved rows)
+      (map (λ row. at_path (moved from to (path_of row)) row) (filter is_moved rows))
+      (without is_moved rows)

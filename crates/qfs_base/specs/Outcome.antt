@@ -3,7 +3,6 @@ use Rattle.qfs_base.specs.declared.history.Outcome.{Outcome}
 use Rattle.qfs_base.specs.declared.history.Outcome.TheVariants.{Done, Failed, NoMemory}
 use Rattle.qfs_base.specs.declared.reply.MetaReply.{MetaReply}
 use Rattle.qfs_base.specs.declared.reply.MetaReply.TheVariants as Told
-use Rattle.qfs_base.specs.declared.reply.ChunkReply.{ChunkReply}
 use Rattle.qfs_base.specs.declared.reply.ChunkAnswer.{ChunkAnswer}
 use Rattle.qfs_base.specs.declared.reply.ChunkAnswer.TheVariants as Said
 use Rattle.qfs_base.specs.declared.reply.NodeReply.{NodeReply}

@@ -1,5 +1,5 @@
 -- What each change does to the metaserver's state.
-use Rattle.std.specs.Prelude.{ℕ, ◌+◌, nat_lt, Bool, true, false, not, ◌||◌, List, [], ◌∷◌, ◌++◌, fold, Option, Some, None}
+use Rattle.std.specs.Prelude.{ℕ, ◌+◌, nat_lt, Bool, true, false, ◌||◌, List, [], ◌∷◌, ◌++◌, fold, Option, Some, None}
 use Rattle.std.specs.List.{list_any}
 use Rattle.qfs_base.specs.declared.chunk.BlockId.{BlockId}
 use Rattle.qfs_base.specs.declared.chunk.ChunkKey.{ChunkKey}
@@ -45,7 +45,7 @@ unfoldable pub grant_slot : BlockId → ℕ → ℕ → ℕ → ℕ → MetaImag
 grant_slot block slot server actor lease m =
     let life : ℕ = (server_at m.servers server).life in
     with_slots
-      (with_slot block slot (granted_slot server life actor lease (slot_at m.slots block slot)) m.slots) m
+    (with_slot block slot (granted_slot server life actor lease (slot_at m.slots block slot)) m.slots) m
 
 -- a pending grant is condemned and gone
 unfoldable pub give_up : BlockId → ℕ → MetaImage → Option Grant → MetaImage
@@ -68,7 +68,7 @@ confirm_slot block slot m state =
 unfoldable pub empty_slot : BlockId → ℕ → MetaImage → SlotRecord → MetaImage
 empty_slot block slot m state =
     change_record block slot emptied_slot
-      (condemn_any block slot (condemn_any block slot m state.current) (granted_copy state.grant))
+    (condemn_any block slot (condemn_any block slot m state.current) (granted_copy state.grant))
 
 -- a lease ends, and blocks no condemned copy any more
 unfoldable pub finish_lease : ℕ → MetaImage → MetaImage
@@ -84,8 +84,8 @@ is_that_copy copy (Some other) = same_copy other copy
 unfoldable pub is_known_copy : BlockId → ℕ → Copy → SlotRecord → List CondemnedRow → Bool
 is_known_copy block slot copy state condemned =
     is_that_copy copy state.current
-      || is_that_copy copy (granted_copy state.grant)
-      || list_any (is_copy_of block slot copy) condemned
+    || is_that_copy copy (granted_copy state.grant)
+    || list_any (is_copy_of block slot copy) condemned
 
 -- a copy is condemned, unless it is known
 unfoldable pub condemn_unknown : BlockId → ℕ → Copy → MetaImage → Bool → MetaImage
@@ -97,15 +97,15 @@ unfoldable pub condemn_stray : ℕ → ℕ → ChunkKey → MetaImage → MetaIm
 condemn_stray server life key m =
     let copy : Copy = record { server = server; life = life; version = key.version } in
     condemn_unknown key.block key.slot copy m
-      (is_known_copy key.block key.slot copy (slot_at m.slots key.block key.slot) m.condemned)
+    (is_known_copy key.block key.slot copy (slot_at m.slots key.block key.slot) m.condemned)
 
 -- a server is up in this life; where that is a new one, the condemned copies on it are gone
 unfoldable pub bring_up : ℕ → ℕ → MetaImage → MetaImage
 bring_up server life m =
-    record m
-      { servers = change_server (server_up life) m.servers server
-      ; condemned = forget_if_risen server m.condemned (nat_lt (server_at m.servers server).life life)
-      }
+    record m {
+      servers = change_server (server_up life) m.servers server;
+      condemned = forget_if_risen server m.condemned (nat_lt (server_at m.servers server).life life);
+    }
 
 -- the state after a change
 unfoldable pub apply : MetaImage → Change → MetaImage

@@ -1,27 +1,25 @@
 -- Condemned copies: they wait for their deletion, in the order of their numbers, each with the live
 -- leases that block it.
-use Rattle.std.specs.Prelude.{ℕ, ◌+◌, ◌==◌, nat_lt, Bool, true, false, ◌&&◌, List, [], ◌∷◌, ◌++◌, map, filter, find, Option, Some, None}
-use Rattle.std.specs.List.{list_any}
+use Rattle.std.specs.Prelude.{ℕ, ◌+◌, ◌==◌, nat_lt, Bool, true, false, ◌&&◌, List, [], ◌∷◌, ◌++◌, map, find, Option, Some, None}
 use Rattle.qfs_base.specs.declared.chunk.BlockId.{BlockId}
 use Rattle.qfs_base.specs.declared.chunk.Copy.{Copy}
-use Rattle.qfs_base.specs.declared.reply.Condemned.{Condemned}
 use Rattle.qfs_base.specs.declared.image.CondemnedRow.{CondemnedRow}
 use Rattle.qfs_base.specs.declared.image.Lease.{Lease}
 use Rattle.qfs_base.specs.declared.image.MetaImage.{MetaImage}
 use Rattle.qfs_base.specs.declared.image.ServerView.{ServerView}
 use Rattle.qfs_base.specs.Table.{without, change_where}
-use Rattle.qfs_model_meta.specs.Leases.{is_lease, leases_on}
-use Rattle.qfs_model_meta.specs.Servers.{server_at, is_listed, is_live}
+use Rattle.qfs_model_meta.specs.Leases.{leases_on}
+use Rattle.qfs_model_meta.specs.Servers.{is_listed, is_live}
 use Rattle.qfs_model_meta.specs.Slots.{same_block, same_copy}
 
 -- a copy that was condemned just now: all live leases on its file block it
 unfoldable pub condemned_row : ℕ → BlockId → ℕ → Copy → List Lease → CondemnedRow
 condemned_row number block slot copy leases =
-    record
-      { condemned = record { number = number; block = block; slot = slot; copy = copy }
-      ; ordered = false
-      ; blockers = leases_on block.file leases
-      }
+    record {
+      condemned = record { number = number; block = block; slot = slot; copy = copy };
+      ordered = false;
+      blockers = leases_on block.file leases;
+    }
 
 -- the state with a copy put last on the list of condemned copies, if it is live; else it is forgotten
 unfoldable pub list_if_live : CondemnedRow → MetaImage → Bool → MetaImage

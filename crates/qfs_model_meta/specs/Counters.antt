@@ -18,6 +18,6 @@ risen last n = min (n + 1) last
 unfoldable pub counters_fit : MetaImage → Bool
 counters_fit m =
     nat_lt m.next_file (last_u32 + 1)
-      && nat_lt m.next_lease (last_u64 + 1)
-      && nat_lt m.next_condemned (last_u64 + 1)
-      && nat_lt (length m.history) (last_u32 + 1)
+    && nat_lt m.next_lease (last_u64 + 1)
+    && nat_lt m.next_condemned (last_u64 + 1)
+    && nat_lt (length m.history) (last_u32 + 1)

@@ -1,5 +1,5 @@
 -- What the metaserver decides on a request, and how refusals come in their order.
-use Rattle.std.specs.Prelude.{ℕ, Bool, true, false, not, List, length, Option, Some, None}
+use Rattle.std.specs.Prelude.{ℕ, Bool, true, false, List, Option, Some, None}
 use Rattle.std.specs.Option.{option_map}
 use Rattle.qfs_base.specs.declared.reply.MetaReply.{MetaReply}
 use Rattle.qfs_base.specs.declared.reply.MetaReply.TheVariants as Told

@@ -1,5 +1,5 @@
 -- The actors that were dropped, each with the turn just before.
-use Rattle.std.specs.Prelude.{ℕ, ◌==◌, Bool, List, find, Option}
+use Rattle.std.specs.Prelude.{ℕ, ◌==◌, List, find, Option}
 use Rattle.std.specs.Option.{option_map}
 use Rattle.std.specs.declared.cmp.Ordering.{Ordering}
 use Rattle.std.specs.Ordering.{nat_cmp}

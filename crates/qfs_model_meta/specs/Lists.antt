@@ -46,13 +46,13 @@ block_count layout len = blocks_of layout.s layout.r len
 -- what an actor is told of a grant that it is about to get, for a slot of a file of len bytes
 unfoldable pub new_grant : Shape → ℕ → BlockId → ℕ → ℕ → ℕ → NineCopies → MetaImage → Granted
 new_grant layout len block slot server lease sources m =
-    record
-      { block = block
-      ; slot = slot
-      ; version = (slot_at m.slots block slot).next
-      ; server = server
-      ; life = (server_at m.servers server).life
-      ; lease = lease
-      ; sources = sources
-      ; rows = rows_of layout.s layout.r len block.index
-      }
+    record {
+      block = block;
+      slot = slot;
+      version = (slot_at m.slots block slot).next;
+      server = server;
+      life = (server_at m.servers server).life;
+      lease = lease;
+      sources = sources;
+      rows = rows_of layout.s layout.r len block.index;
+    }

@@ -1,5 +1,5 @@
 -- The choice of servers for new chunks: the one with the fewest live copies and grants.
-use Rattle.std.specs.Prelude.{ℕ, ◌==◌, nat_lt, Bool, true, false, cond, not, ◌&&◌, List, [], ◌∷◌, ◌++◌, map, filter, fold, Option, Some, None}
+use Rattle.std.specs.Prelude.{ℕ, nat_lt, Bool, cond, not, ◌&&◌, List, [], map, filter, fold, Option}
 use Rattle.std.specs.Option.{option_map}
 use Rattle.std.specs.List.{reduce, enumerate_from}
 use Rattle.qfs_base.specs.declared.chunk.BlockId.{BlockId}

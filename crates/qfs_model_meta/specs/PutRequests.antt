@@ -1,7 +1,7 @@
 -- The requests of a put: a file is created, its slots are granted one after another, and it is closed
 -- or given up.
 use Rattle.std.specs.Prelude.{ℕ, nat_lt, Bool, true, false, List, [], ◌∷◌, ◌++◌, length, map, find, flat_map, Option, Some, None, is_none}
-use Rattle.std.specs.Option.{option_or, option_map}
+use Rattle.std.specs.Option.{option_map}
 use Rattle.std.specs.List.{range_with_len}
 use Rattle.qfs_base.specs.declared.chunk.BlockId.{BlockId}
 use Rattle.qfs_base.specs.declared.image.Grant.{Grant}
@@ -15,7 +15,7 @@ use Rattle.qfs_base.specs.NameTree.{PathNames, add_refusal}
 use Rattle.qfs_base.specs.Shape.{Shape}
 use Rattle.qfs_model_meta.specs.Apply.{apply_all}
 use Rattle.qfs_model_meta.specs.Change.{Change, AddFile, GrantSlot, FailGrant, GiveUp, CloseFile, AbortFile}
-use Rattle.qfs_model_meta.specs.Decision.{Decision, Tells, Makes, refuse, unless, need, refuse_file}
+use Rattle.qfs_model_meta.specs.Decision.{Decision, Makes, refuse, unless, need, refuse_file}
 use Rattle.qfs_model_meta.specs.Lists.{slot_numbers, block_count, no_sources, new_grant}
 use Rattle.qfs_model_meta.specs.Placing.{census, choose, barred_for_put}
 use Rattle.qfs_model_meta.specs.Slots.{slot_at, slots_of}
@@ -25,7 +25,7 @@ use Rattle.qfs_model_meta.specs.TreeRows.{standing, unclosed_file}
 unfoldable pub decide_create : ℕ → PathNames → ℕ → ℕ → MetaImage → Decision
 decide_create actor path command len m =
     refuse_file (length m.history) (add_refusal (standing m.tree) path)
-      (Makes (AddFile path actor command len ∷ []) (Told.Created m.next_file (length m.history)))
+    (Makes (AddFile path actor command len ∷ []) (Told.Created m.next_file (length m.history)))
 
 -- a second grant is taken where the first one's server failed; else the slot is taken
 unfoldable pub taken_refusal : Bool → Option Grant → Option MetaReply
@@ -42,13 +42,13 @@ failed_grant block slot (Some grant) = FailGrant block slot ∷ []
 unfoldable pub grant_for_put : Shape → ℕ → ℕ → BlockId → ℕ → List Change → MetaImage → MetaImage → Decision
 grant_for_put layout actor len block slot failing m freed =
     need (Told.NoServer block slot)
-      (λ server.
-        Makes
-          (failing ++ GrantSlot block slot server actor 0 ∷ [])
-          (Told.Granted (new_grant layout len block slot server 0 no_sources freed)))
-      (choose
-        (census freed.servers freed.slots)
-        (barred_for_put freed.servers freed.slots block (slot_at freed.slots block slot).failed))
+    (λ server.
+    Makes
+    (failing ++ GrantSlot block slot server actor 0 ∷ [])
+    (Told.Granted (new_grant layout len block slot server 0 no_sources freed)))
+    (choose
+    (census freed.servers freed.slots)
+    (barred_for_put freed.servers freed.slots block (slot_at freed.slots block slot).failed))
 
 -- a server for a slot of a file that this actor hasn't closed yet
 unfoldable pub decide_grant : Shape → ℕ → BlockId → ℕ → Bool → MetaImage → Decision
@@ -56,18 +56,18 @@ decide_grant layout actor block slot again m =
     let pending : Option Grant = (slot_at m.slots block slot).grant in
     let failing : List Change = failed_grant block slot pending in
     need Told.Gone
-      (λ (row : TreeRow).
-        unless (nat_lt block.index (block_count layout row.len)) Told.NoBlock
-          (refuse (taken_refusal again pending)
-            (grant_for_put layout actor row.len block slot failing m (apply_all failing m))))
-      (unclosed_file actor block.file m.tree)
+    (λ (row : TreeRow).
+    unless (nat_lt block.index (block_count layout row.len)) Told.NoBlock
+    (refuse (taken_refusal again pending)
+    (grant_for_put layout actor row.len block slot failing m (apply_all failing m))))
+    (unclosed_file actor block.file m.tree)
 
 -- all slots of so many blocks of a file, by index and slot
 unfoldable pub slot_ids : ℕ → ℕ → List SlotId
 slot_ids file count =
     flat_map
-      (λ index. map (λ slot. record { block = record { file = file; index = index }; slot = slot }) slot_numbers)
-      (range_with_len 0 count)
+    (λ index. map (λ slot. record { block = record { file = file; index = index }; slot = slot }) slot_numbers)
+    (range_with_len 0 count)
 
 -- whether a slot has no pending grant
 unfoldable pub lacks_grant : List SlotRow → SlotId → Bool
@@ -87,13 +87,13 @@ first_ungranted file count slots =
 unfoldable pub decide_close : Shape → ℕ → ℕ → MetaImage → Decision
 decide_close layout actor file m =
     need Told.Gone
-      (λ (row : TreeRow).
-        refuse
-          (option_map
-            (λ (id : SlotId). Told.Incomplete id.block.index id.slot)
-            (first_ungranted file (block_count layout row.len) m.slots))
-          (Makes (CloseFile file actor row.command ∷ []) (Told.Done (length m.history))))
-      (unclosed_file actor file m.tree)
+    (λ (row : TreeRow).
+    refuse
+    (option_map
+    (λ (id : SlotId). Told.Incomplete id.block.index id.slot)
+    (first_ungranted file (block_count layout row.len) m.slots))
+    (Makes (CloseFile file actor row.command ∷ []) (Told.Done (length m.history))))
+    (unclosed_file actor file m.tree)
 
 -- the changes that give an unclosed file up: its grants are condemned by index and slot
 unfoldable pub abort_changes : ℕ → List SlotRow → List Change
@@ -104,5 +104,5 @@ abort_changes file slots =
 unfoldable pub decide_abort : ℕ → ℕ → MetaImage → Decision
 decide_abort actor file m =
     need Told.Gone
-      (λ (row : TreeRow). Makes (abort_changes file m.slots) (Told.Done (length m.history)))
-      (unclosed_file actor file m.tree)
+    (λ (row : TreeRow). Makes (abort_changes file m.slots) (Told.Done (length m.history)))
+    (unclosed_file actor file m.tree)

@@ -1,6 +1,6 @@
 -- The slots of blocks: the copy that is current, the grant that is pending, and which versions and
 -- servers were tried. The table holds the slots that were ever granted, by file, index and slot.
-use Rattle.std.specs.Prelude.{ℕ, ◌+◌, ◌==◌, min, Bool, true, false, ◌&&◌, List, [], ◌∷◌, ◌++◌, map, filter, flat_map, find, count_by, Option, Some, None, unwrap_or}
+use Rattle.std.specs.Prelude.{ℕ, ◌+◌, ◌==◌, Bool, ◌&&◌, List, [], ◌++◌, filter, flat_map, find, count_by, Option, Some, None, unwrap_or}
 use Rattle.std.specs.Option.{option_map, option_to_list}
 use Rattle.std.specs.declared.cmp.Ordering.{Ordering}
 use Rattle.std.specs.Ordering.{nat_cmp, ordering_then}
@@ -9,12 +9,10 @@ use Rattle.qfs_base.specs.declared.chunk.Copy.{Copy}
 use Rattle.qfs_base.specs.declared.image.Grant.{Grant}
 use Rattle.qfs_base.specs.declared.image.SlotRecord.{SlotRecord}
 use Rattle.qfs_base.specs.declared.image.SlotRow.{SlotRow}
-use Rattle.qfs_base.specs.declared.image.ServerView.{ServerView}
 use Rattle.qfs_base.specs.Key.{block_cmp}
 use Rattle.qfs_base.specs.NumberSet.{with_member}
 use Rattle.qfs_base.specs.Table.{without, change_where, place}
 use Rattle.qfs_model_meta.specs.Counters.{risen, last_u32}
-use Rattle.qfs_model_meta.specs.Servers.{is_live}
 
 -- a slot that was never granted: versions start at 1
 unfoldable pub never_granted : SlotRecord
@@ -62,17 +60,17 @@ grants_of_block block slots =
 unfoldable pub copies_of_block : BlockId → List SlotRow → List Copy
 copies_of_block block slots =
     flat_map
-      (λ (row : SlotRow). option_to_list row.state.current ++ option_to_list (granted_copy row.state.grant))
-      (filter (is_of_block block) slots)
+    (λ (row : SlotRow). option_to_list row.state.current ++ option_to_list (granted_copy row.state.grant))
+    (filter (is_of_block block) slots)
 
 -- a slot with a new grant: its version is the next one
 unfoldable pub granted_slot : ℕ → ℕ → ℕ → ℕ → SlotRecord → SlotRecord
 granted_slot server life actor lease slot =
     let copy : Copy = record { server = server; life = life; version = slot.next } in
-    record slot
-      { next = risen last_u32 slot.next
-      ; grant = Some (record { copy = copy; actor = actor; lease = lease })
-      }
+    record slot {
+      next = risen last_u32 slot.next;
+      grant = Some (record { copy = copy; actor = actor; lease = lease });
+    }
 
 -- a slot whose pending grant is gone
 unfoldable pub ungranted_slot : SlotRecord → SlotRecord
@@ -122,4 +120,4 @@ is_on server life copy = (copy.server == server) && (copy.life == life)
 unfoldable pub count_on : ℕ → ℕ → List SlotRow → ℕ
 count_on server life slots =
     count_by (is_on server life) (flat_map (λ (row : SlotRow). option_to_list row.state.current) slots)
-      + count_by (is_on server life) (flat_map (λ (row : SlotRow). option_to_list (granted_copy row.state.grant)) slots)
+    + count_by (is_on server life) (flat_map (λ (row : SlotRow). option_to_list (granted_copy row.state.grant)) slots)

@@ -1,5 +1,5 @@
 -- One step of the metaserver.
-use Rattle.std.specs.Prelude.{ℕ, Bool, true, false, cond, List, [], replicate, Option, Some, None}
+use Rattle.std.specs.Prelude.{ℕ, Bool, true, false, cond, [], replicate, Option, Some, None}
 use Rattle.qfs_base.specs.declared.history.Outcome.{Outcome}
 use Rattle.qfs_base.specs.declared.history.Outcome.TheVariants as Ended
 use Rattle.qfs_base.specs.declared.image.MetaImage.{MetaImage}
@@ -70,17 +70,17 @@ first_server = record { up = true; leaving = false; life = 1; until = 0 }
 -- the metaserver of so many servers as every run begins
 unfoldable pub opening : ℕ → MetaImage
 opening servers =
-    record
-      { turn = 0
-      ; clock = 0
-      ; next_file = 1
-      ; next_lease = 1
-      ; next_condemned = 1
-      ; servers = replicate servers first_server
-      ; tree = []
-      ; slots = []
-      ; leases = []
-      ; condemned = []
-      ; dropped = []
-      ; history = []
-      }
+    record {
+      turn = 0;
+      clock = 0;
+      next_file = 1;
+      next_lease = 1;
+      next_condemned = 1;
+      servers = replicate servers first_server;
+      tree = [];
+      slots = [];
+      leases = [];
+      condemned = [];
+      dropped = [];
+      history = [];
+    }

@@ -1,12 +1,11 @@
 -- The rows of the metaserver's name tree: beside each path its file, 0 for a directory, and the
 -- command that made it.
-use Rattle.std.specs.Prelude.{ℕ, zero, suc, ◌==◌, Bool, true, false, ◌&&◌, List, [], ◌∷◌, ◌++◌, map, find, Option, Some, None, unwrap_or}
+use Rattle.std.specs.Prelude.{ℕ, zero, suc, ◌==◌, Bool, true, false, ◌&&◌, List, [], map, find, Option}
 use Rattle.qfs_base.specs.declared.image.TreeRow.{TreeRow}
 use Rattle.qfs_base.specs.declared.lists.NameKind.{NameKind}
 use Rattle.qfs_base.specs.declared.lists.NameKind.TheVariants.{Directory, Unclosed, Closed}
 use Rattle.qfs_base.specs.NameTree.{PathNames, Standing, added, renamed, taken, stands_at}
 use Rattle.qfs_base.specs.Table.{without, change_where, look}
-use Rattle.std.specs.List.{list_any}
 
 -- what stands at a row: file 0 is a directory
 unfoldable pub kind_of : ℕ → Bool → NameKind

@@ -7,7 +7,7 @@ use Rattle.qfs_base.specs.declared.reply.MetaReply.TheVariants as Told
 use Rattle.qfs_base.specs.declared.request.MetaRequest.{MetaRequest}
 use Rattle.qfs_base.specs.declared.request.MetaRequest.TheVariants as Ask
 use Rattle.qfs_base.specs.Shape.{Shape}
-use Rattle.qfs_model_meta.specs.Step.{Served, meta_step, opening}
+use Rattle.qfs_model_meta.specs.Step.{Served, meta_step}
 
 -- the layout of the worked runs: stripes of 16 bytes, two rows
 abbrev pub small_layout : Shape
@@ -27,7 +27,7 @@ slash_a = (97 ∷ []) ∷ []
 abbrev pub put_a : List MetaRequest
 put_a =
     Ask.Create slash_a 1 5 ∷ map (λ slot. Ask.Grant 1 0 slot Rattle.std.specs.Prelude.false) (0 ∷ 1 ∷ 2 ∷ 3 ∷ 4 ∷ 5 ∷ 6 ∷ 7 ∷ 8 ∷ [])
-      ++ Ask.Close 1 ∷ Ask.OpenFile slash_a ∷ Ask.Release 1 ∷ []
+    ++ Ask.Close 1 ∷ Ask.OpenFile slash_a ∷ Ask.Release 1 ∷ []
 
 abbrev pub granted_on : ℕ → MetaReply
 granted_on slot =
@@ -36,5 +36,5 @@ granted_on slot =
 abbrev pub put_a_replies : List MetaReply
 put_a_replies =
     Told.Created 1 0 ∷ map granted_on (0 ∷ 1 ∷ 2 ∷ 3 ∷ 4 ∷ 5 ∷ 6 ∷ 7 ∷ 8 ∷ []) ++ Told.Done 1 ∷
-      Told.Opened (record { lease = 1; place = 2; file = 1; len = 5; blocks = map (λ slot. Some (record { server = Rattle.std.specs.Prelude.suc slot; life = 1; version = 1 })) (0 ∷ 1 ∷ 2 ∷ 3 ∷ 4 ∷ 5 ∷ 6 ∷ 7 ∷ 8 ∷ []) ∷ [] })
-      ∷ Told.Done 2 ∷ []
+    Told.Opened (record { lease = 1; place = 2; file = 1; len = 5; blocks = map (λ slot. Some (record { server = Rattle.std.specs.Prelude.suc slot; life = 1; version = 1 })) (0 ∷ 1 ∷ 2 ∷ 3 ∷ 4 ∷ 5 ∷ 6 ∷ 7 ∷ 8 ∷ []) ∷ [] })
+    ∷ Told.Done 2 ∷ []

@@ -9,5 +9,4 @@ ghost use Rattle.qfs_model_meta.specs.Worked.{replies_to, put_a, put_a_replies};
 /// slots are granted on the servers 1 to 9 in turn, and the get is told of all of them.
 pub fn puts_and_gets()
     ensures { replies_to 1 put_a (opening 9) ≡ put_a_replies }
-{
-}
+{}
