@@ -1,0 +1,12 @@
+pub mod Work
+pub mod Hold
+pub mod Ask
+pub mod Tree
+pub mod Put
+pub mod Windows
+pub mod Read
+pub mod Get
+pub mod Command
+pub mod Actor
+pub mod Examples
+pub mod Standin
