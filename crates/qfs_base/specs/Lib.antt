@@ -1,3 +1,4 @@
 pub mod KeyMap
+pub mod Key
 pub mod Layout
 pub mod Shape

@@ -23,7 +23,7 @@ pub type TurnList = Listing<ActorId>;
 pub type Nine = Listing<Option<Copy>>;
 
 /// A file or directory right below another.
-#[derive(Drop)]
+#[derive(PartialEq, Eq, Drop)]
 pub struct Name {
     pub part: Bytes,
     pub kind: NameKind,

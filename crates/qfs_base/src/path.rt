@@ -2,7 +2,7 @@
 use crate::listing::Listing;
 use crate::lists::Bytes;
 
-#[derive(Drop)]
+#[derive(Clone, PartialEq, Eq, Drop)]
 pub struct Path {
     pub parts: Listing<Bytes>,
 }

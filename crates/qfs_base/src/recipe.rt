@@ -1,7 +1,7 @@
 //! stub
 use crate::lists::Bytes;
 
-#[derive(Drop)]
+#[derive(Clone, PartialEq, Eq, Drop)]
 pub enum Recipe {
     Hex(Bytes),
     Fill { byte: u8, len: u32 },

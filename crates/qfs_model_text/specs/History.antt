@@ -19,7 +19,7 @@ entry_words (Change.Renamed from to) = codes "renamed" ∷ written from ∷ writ
 unfoldable pub history_lines_from : ℕ → List Entry → List ℕ
 history_lines_from place [] = []
 history_lines_from place (entry ∷ entries) =
-    line (codes "history" ∷ decimal place ∷ entry_words entry) ++ history_lines_from (place + 1) entries
+    line (codes "history") (decimal place ∷ entry_words entry) ++ history_lines_from (place + 1) entries
 
 -- the lines of a history
 abbrev pub history_lines : List Entry → List ℕ

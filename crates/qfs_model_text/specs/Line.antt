@@ -1,15 +1,22 @@
 -- The words of a line and the lines of a text.
-use Rattle.std.specs.Prelude.{ℕ, List, [], ◌∷◌, ◌++◌, codes, decimal}
-use Rattle.std.specs.List.{join_with_byte}
+use Rattle.std.specs.Prelude.{ℕ, List, [], ◌∷◌, ◌++◌, flat_map}
 use Rattle.qfs_base.specs.declared.path.Path.{Path}
 
 -- a text of words, each of which is a list of bytes
 abbrev pub Words : Type 0
 Words = List (List ℕ)
 
--- the words with one blank between them, and the end of the line
-unfoldable pub line : Words → List ℕ
-line words = join_with_byte 32 words ++ 10 ∷ []
+-- a blank, and the word behind it
+abbrev pub spaced : List ℕ → List ℕ
+spaced word = 32 ∷ word
+
+-- the words behind a first one, each after a blank
+abbrev pub more_words : Words → List ℕ
+more_words words = flat_map spaced words
+
+-- a line: a first word and more with one blank between any two, and the end of the line
+abbrev pub line : List ℕ → Words → List ℕ
+line word words = word ++ more_words words ++ 10 ∷ []
 
 -- a colon, and the bytes behind it
 abbrev pub after_colon : List ℕ → List ℕ

@@ -55,4 +55,4 @@ runs (step ∷ steps) = runs_after step 1 steps
 
 -- the order line
 abbrev pub order_line : List Step → List ℕ
-order_line order = line (codes "order" ∷ runs order)
+order_line order = line (codes "order") (runs order)

@@ -138,7 +138,7 @@ reply_words Says.Unnamed = codes "unnamed" ∷ []
 
 -- the actor, the number of its command, and the reply
 abbrev pub reply_line : ReplyLine → List ℕ
-reply_line r = line (decimal r.actor ∷ decimal r.command ∷ reply_words r.reply)
+reply_line r = line (decimal r.actor) (decimal r.command ∷ reply_words r.reply)
 
 -- the lines of the replies
 abbrev pub reply_lines : List ReplyLine → List ℕ
