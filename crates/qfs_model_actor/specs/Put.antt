@@ -11,36 +11,26 @@ use Rattle.qfs_base.specs.declared.reply.MetaReply.{MetaReply}
 use Rattle.qfs_base.specs.declared.reply.MetaReply.TheVariants as Said
 use Rattle.qfs_base.specs.declared.request.ChunkRequest.TheVariants as Serve
 use Rattle.qfs_base.specs.declared.request.MetaRequest.TheVariants as Ask
+use Rattle.qfs_model_slot.specs.CodeWord.{all_slots}
 use Rattle.qfs_model_slot.specs.Slot.{slot_of}
 use Rattle.qfs_model_actor.specs.Work.{Work, ends, for_each}
 use Rattle.qfs_model_actor.specs.Hold.{nothing, unclosed, unnamed}
 use Rattle.qfs_model_actor.specs.Ask.{ask, ask_server, key_of, after_store}
 use Rattle.qfs_model_actor.specs.Tree.{refused}
+use Rattle.qfs_model_actor.specs.Grants.{with_grant_of}
 
 -- how many grants of one slot a put takes
 abbrev pub MOST_GRANTS : ℕ
 MOST_GRANTS = 64
-
--- the nine slots of a block
-abbrev pub all_slots : List ℕ
-all_slots = range_with_len 0 9
 
 -- the file was given up for want of a server
 unfoldable pub aborted : ℕ → ℕ → MetaReply → Work
 aborted index slot (Said.Done place) = ends (Report.PutNoServer place index slot)
 aborted index slot answer = unnamed
 
--- a grant counts where it is of the block and slot that were asked for
-unfoldable pub if_meant : Bool → (Granted → Work) → Granted → Work
-if_meant true next g = next g
-if_meant false next g = unnamed
-
-unfoldable pub is_grant_of : ℕ → ℕ → Granted → Bool
-is_grant_of index slot g = g.block.index == index && g.slot == slot
-
 -- a slot has a server, or none is left for it
 unfoldable pub chosen : ℕ → ℕ → ℕ → (Granted → Work) → MetaReply → Work
-chosen file index slot next (Said.Granted g) = if_meant (is_grant_of index slot g) next g
+chosen file index slot next (Said.Granted g) = with_grant_of index slot next g
 chosen file index slot next (Said.NoServer block at) = ask nothing (Ask.Abort file) (aborted index slot)
 chosen file index slot next answer = unnamed
 

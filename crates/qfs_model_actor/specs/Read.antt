@@ -6,26 +6,16 @@ use Rattle.qfs_base.specs.declared.chunk.Copy.{Copy}
 use Rattle.qfs_base.specs.declared.lists.Cause.{Cause}
 use Rattle.qfs_base.specs.declared.lists.Cause.TheVariants as Because
 use Rattle.qfs_base.specs.declared.lists.SlotCause.{SlotCause}
+use Rattle.qfs_model_slot.specs.CodeWord.{DATA_SLOTS, all_slots}
 use Rattle.qfs_model_actor.specs.Work.{Work}
 use Rattle.qfs_model_actor.specs.Hold.{Hold}
 use Rattle.qfs_model_actor.specs.Ask.{fetch}
-use Rattle.qfs_model_actor.specs.Windows.{Rows}
-
--- how many slots give a block
-abbrev pub ENOUGH : ℕ
-ENOUGH = 6
-
-abbrev pub all_slots : List ℕ
-all_slots = range_with_len 0 9
+use Rattle.qfs_model_actor.specs.Pieces.{Piece}
+use Rattle.qfs_base.specs.declared.layout.Window.{Window}
 
 -- where a slot can be read, or why it can't
 abbrev pub Source : Type 0
 Source = Result Copy Cause
-
--- a slot with the bytes that it gave in a window
-pub record Piece : Type 0 where
-  pub slot : ℕ
-  pub bytes : List ℕ
 
 -- a slot is read where it is listed
 unfoldable pub source_of_listed : Option (Option Copy) → Source
@@ -48,7 +38,7 @@ causes_of sources = filter_map (λ (slot, source). cause_at slot source) (enumer
 
 -- whether too few slots are left to read the block
 unfoldable pub are_too_few : List Source → Bool
-are_too_few sources = nat_lt (count_by is_ok sources) ENOUGH
+are_too_few sources = nat_lt (count_by is_ok sources) DATA_SLOTS
 
 -- a block that is read: for whom, in which stripes, what is kept of the six pieces of a window, and what comes where
 -- too few slots are left
@@ -56,7 +46,7 @@ pub record Reading : Type 0 where
   pub hold : Hold
   pub block : BlockId
   pub stripe : ℕ
-  pub kept : Rows → List Piece → List ℕ
+  pub kept : Window → List Piece → List ℕ
   pub too_few : List SlotCause → Work
 
 -- goes on with these sources unless they are too few
@@ -74,27 +64,27 @@ at_source passed read (Some (Err cause)) = passed cause
 at_source passed read None = passed Because.Unlisted
 
 -- asks for the rows of a window from one slot after another, until so many more have answered
-unfoldable pub read_slots : Reading → Rows → ℕ → List ℕ → List Source → List Piece → (List Source → List Piece → Work) → Work
-read_slots reading rows zero slots sources pieces next = next sources pieces
-read_slots reading rows (suc wanted) [] sources pieces next = next sources pieces
-read_slots reading rows (suc wanted) (slot ∷ slots) sources pieces next =
+unfoldable pub read_slots : Reading → Window → ℕ → List ℕ → List Source → List Piece → (List Source → List Piece → Work) → Work
+read_slots reading w zero slots sources pieces next = next sources pieces
+read_slots reading w (suc wanted) [] sources pieces next = next sources pieces
+read_slots reading w (suc wanted) (slot ∷ slots) sources pieces next =
     at_source
-        (λ cause. read_slots reading rows (suc wanted) slots sources pieces next)
-        (fetch reading.hold reading.block slot (rows.first * reading.stripe) (rows.count * reading.stripe)
-            (λ room. read_slots reading rows wanted slots sources (pieces ++ record { slot = slot; bytes = room } ∷ []) next)
+        (λ cause. read_slots reading w (suc wanted) slots sources pieces next)
+        (fetch reading.hold reading.block slot (w.first_row * reading.stripe) (w.rows * reading.stripe)
+            (λ room. read_slots reading w wanted slots sources (pieces ++ record { slot = slot; bytes = room } ∷ []) next)
             (λ cause. with_enough reading
-                (λ left. read_slots reading rows (suc wanted) slots left pieces next)
+                (λ left. read_slots reading w (suc wanted) slots left pieces next)
                 (slice_set sources slot (Err cause))))
         (slice_get sources slot)
 
 -- reads these windows one after another, and keeps of each what is wanted
-unfoldable pub read_windows : Reading → List Rows → List Source → List ℕ → (List ℕ → Work) → Work
+unfoldable pub read_windows : Reading → List Window → List Source → List ℕ → (List ℕ → Work) → Work
 read_windows reading [] sources got next = next got
-read_windows reading (rows ∷ windows) sources got next =
-    read_slots reading rows ENOUGH all_slots sources []
-        (λ left pieces. read_windows reading windows left (got ++ reading.kept rows pieces) next)
+read_windows reading (w ∷ windows) sources got next =
+    read_slots reading w DATA_SLOTS all_slots sources []
+        (λ left pieces. read_windows reading windows left (got ++ reading.kept w pieces) next)
 
 -- reads these windows of a block whose copies are listed so
-unfoldable pub read_block : Reading → List Rows → List (Option Copy) → List ℕ → (List ℕ → Work) → Work
+unfoldable pub read_block : Reading → List Window → List (Option Copy) → List ℕ → (List ℕ → Work) → Work
 read_block reading windows nine got next =
     with_enough reading (λ sources. read_windows reading windows sources got next) (sources_of nine)

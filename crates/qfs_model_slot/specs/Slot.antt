@@ -3,7 +3,7 @@ use Rattle.std.specs.Prelude.{ℕ, ◌-◌, ◌*◌, Bool, true, false, List, ma
 use Rattle.std.specs.List.{range_with_len}
 use Rattle.qfs_base.specs.Shape.{Shape}
 use Rattle.qfs_base.specs.Layout.{rows_of, offset_of}
-use Rattle.qfs_model_slot.specs.CodeWord.{DATA_SLOTS, parity}
+use Rattle.qfs_model_slot.specs.CodeWord.{DATA_SLOTS, data_slots, parity}
 
 -- byte a of data slot j of block k: the file's byte that stands there, or 0 past the file's end
 unfoldable pub data_byte : Shape → List ℕ → ℕ → ℕ → ℕ → ℕ
@@ -11,7 +11,7 @@ data_byte layout bytes k j a = slice_index bytes (offset_of layout.s layout.r k 
 
 -- byte a of each of the six data slots of block k
 unfoldable pub data_bytes : Shape → List ℕ → ℕ → ℕ → List ℕ
-data_bytes layout bytes k a = map (λ j. data_byte layout bytes k j a) (range_with_len 0 DATA_SLOTS)
+data_bytes layout bytes k a = map (λ j. data_byte layout bytes k j a) data_slots
 
 -- byte a of slot j of block k, where the flag says whether it is a data slot: a parity slot completes the code word
 unfoldable pub byte_of_kind : Shape → List ℕ → ℕ → ℕ → ℕ → Bool → ℕ
