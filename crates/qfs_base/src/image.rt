@@ -68,7 +68,7 @@ pub struct Grant {
 }
 
 /// What is known of a slot of a block.
-#[derive(Clone, Copy, PartialEq, Eq)]
+#[derive(Clone, Copy)]
 pub struct SlotRecord {
     /// The version that the next grant gets.
     pub next: Version,
@@ -79,7 +79,7 @@ pub struct SlotRecord {
 }
 
 /// A slot with its record.
-#[derive(Clone, Copy, PartialEq, Eq)]
+#[derive(Clone, Copy)]
 pub struct SlotRow {
     pub block: BlockId,
     pub slot: Slot,

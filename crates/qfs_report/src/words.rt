@@ -2,11 +2,10 @@
 //! what was to be appended.
 ghost use Rattle.std.specs.Prelude.{◌≡◌, ◌++◌, ◌∷◌, [], decimal, OnOk};
 ghost use Rattle.hex.specs.Hex.{encode_lower};
-ghost use Rattle.qfs_model_text.specs.Line.{spaced, parts_text, path_text};
+ghost use Rattle.qfs_base.specs.Path.{path_text};
+ghost use Rattle.qfs_model_text.specs.Line.{spaced};
 
 use itoa::Buffer;
-use qfs_base::listing::Listing;
-use qfs_base::lists::Bytes;
 use qfs_base::path::Path;
 use std::alloc::{AllocError, Global};
 
@@ -44,26 +43,12 @@ pub fn push_hex(alloc: Global, out: &mut Vec<u8>, bytes: &[u8]) -> Result<(), Al
     push_word(out, text.as_bytes())
 }
 
-/// Appends each part behind a slash.
-fn push_parts(out: &mut Vec<u8>, parts: &[Bytes]) -> Result<(), AllocError>
-    ensures { OnOk result (out.new.items ≡ out.old.items ++ parts_text parts.now) }
-{
-    for part in parts {
-        out.push(b'/')?;
-        out.extend_from_slice(part.as_slice())?;
-    }
-    Ok(())
-}
-
 /// Appends a blank and a path as it is written.
 pub fn push_path(out: &mut Vec<u8>, path: &Path) -> Result<(), AllocError>
-    ensures { OnOk result (out.new.items ≡ out.old.items ++ spaced (path_text path.now.parts)) }
+    ensures { OnOk result (out.new.items ≡ out.old.items ++ spaced (path_text path.now)) }
 {
     out.push(b' ')?;
-    if path.parts.is_empty() {
-        out.push(b'/')?;
-    }
-    push_parts(out, path.parts.as_slice())
+    path.print(out)
 }
 
 /// Ends the line.
