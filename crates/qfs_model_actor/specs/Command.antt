@@ -15,7 +15,7 @@ use Rattle.qfs_model_actor.specs.Move.{move_work, rebalance_work, evacuate_work}
 use Rattle.qfs_model_actor.specs.Sweep.{sweep_work}
 use Rattle.qfs_model_actor.specs.Servers.{stop_work, start_work, wipe_work, hibernate_work}
 use Rattle.qfs_model_actor.specs.System.{tick_work, drop_work, checkpoint_work, restart_work}
-use Rattle.qfs_model_actor.specs.Standin.{bytes_of}
+use Rattle.qfs_base.specs.Recipe.{bytes_of}
 
 -- a file command, the actor's command of this number
 unfoldable pub file_work : Shape → ℕ → FileCommand → Work

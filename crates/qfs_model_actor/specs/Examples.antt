@@ -10,8 +10,7 @@ use Rattle.qfs_base.specs.declared.command.Command.TheVariants as Does
 use Rattle.qfs_base.specs.declared.command.FileCommand.TheVariants as File
 use Rattle.qfs_base.specs.declared.command.Reply.TheVariants as Report
 use Rattle.qfs_base.specs.declared.lists.Cause.TheVariants as Because
-use Rattle.qfs_base.specs.declared.path.Path.{Path}
-use Rattle.qfs_base.specs.declared.recipe.Recipe.TheVariants as Of
+use Rattle.qfs_base.specs.declared.recipe.Form.TheVariants as Of
 use Rattle.qfs_base.specs.declared.reply.ChunkAnswer.{ChunkAnswer}
 use Rattle.qfs_base.specs.declared.reply.ChunkAnswer.TheVariants as Did
 use Rattle.qfs_base.specs.declared.reply.MetaReply.{MetaReply}
@@ -46,8 +45,8 @@ abbrev pub small : Shape
 small = record { s = 16; r = 2 }
 
 -- /a, its five bytes, and the bytes of a chunk that holds nothing
-abbrev pub path_a : Path
-path_a = record { parts = (97 ∷ []) ∷ [] }
+abbrev pub path_a : List (List ℕ)
+path_a = (97 ∷ []) ∷ []
 
 abbrev pub five : List ℕ
 five = 1 ∷ 2 ∷ 3 ∷ 4 ∷ 5 ∷ []

@@ -5,7 +5,6 @@ use Rattle.qfs_base.specs.Shape.{Shape}
 use Rattle.qfs_base.specs.declared.chunk.Copy.{Copy}
 use Rattle.qfs_base.specs.declared.command.Range.{Range}
 use Rattle.qfs_base.specs.declared.command.Reply.TheVariants as Report
-use Rattle.qfs_base.specs.declared.path.Path.{Path}
 use Rattle.qfs_base.specs.declared.reply.MetaReply.{MetaReply}
 use Rattle.qfs_base.specs.declared.reply.MetaReply.TheVariants as Said
 use Rattle.qfs_base.specs.declared.reply.Opened.{Opened}
@@ -72,5 +71,5 @@ unfoldable pub range_of : Option Range → Range
 range_of (Some range) = range
 range_of None = record { from = 0; count = MOST_BYTES }
 
-unfoldable pub get_work : Shape → Path → Option Range → Work
+unfoldable pub get_work : Shape → List (List ℕ) → Option Range → Work
 get_work layout path range = ask nothing (Ask.OpenFile path) (was_opened layout (range_of range))

@@ -1,9 +1,10 @@
 -- Which grants count as answers to a request.
-use Rattle.std.specs.Prelude.{ℕ, ◌==◌, ◌&&◌, Bool, true, false, List, [], ◌∷◌, Option, Some, None, filter_map, option_map}
+use Rattle.std.specs.Prelude.{ℕ, ◌==◌, ◌&&◌, Bool, true, false, List, [], ◌∷◌, Option, Some, None, filter_map, option_map, nat_lt, nat_le}
 use Rattle.std.specs.List.{enumerate_from}
 use Rattle.qfs_base.specs.declared.chunk.Copy.{Copy}
 use Rattle.qfs_base.specs.declared.reply.Granted.{Granted}
 use Rattle.qfs_base.specs.declared.request.SlotId.{SlotId}
+use Rattle.qfs_model_slot.specs.CodeWord.{SLOTS}
 use Rattle.qfs_model_actor.specs.Work.{Work}
 use Rattle.qfs_model_actor.specs.Hold.{unnamed}
 
@@ -23,6 +24,18 @@ if_meant next g false = unnamed
 -- goes on with a grant of the block and slot that were asked for
 unfoldable pub with_grant_of : ℕ → ℕ → (Granted → Work) → Granted → Work
 with_grant_of index slot next g = if_meant next g (is_grant_of index slot g)
+
+-- the most rows of a chunk
+abbrev pub MOST_ROWS : ℕ
+MOST_ROWS = 1024
+
+-- a grant of one of nine slots, of no more rows than a chunk can have
+unfoldable pub is_in_range : Granted → Bool
+is_in_range g = nat_lt g.slot SLOTS && nat_le g.rows MOST_ROWS
+
+-- goes on with a grant whose numbers are in their ranges
+unfoldable pub with_proper : (Granted → Work) → Granted → Work
+with_proper next g = if_meant next g (is_in_range g)
 
 -- a slot and its copy, where it is listed
 abbrev pub listed_at : ℕ → Option Copy → Option (ℕ × Copy)

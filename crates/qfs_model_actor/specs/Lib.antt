@@ -16,5 +16,7 @@ pub mod Servers
 pub mod System
 pub mod Command
 pub mod Actor
+pub mod Shown
 pub mod Examples
+pub mod MoreExamples
 pub mod Standin

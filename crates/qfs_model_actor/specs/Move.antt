@@ -4,7 +4,6 @@ use Rattle.std.specs.List.{enumerate_from}
 use Rattle.qfs_base.specs.Shape.{Shape}
 use Rattle.qfs_base.specs.declared.chunk.Copy.{Copy}
 use Rattle.qfs_base.specs.declared.command.Reply.TheVariants as Report
-use Rattle.qfs_base.specs.declared.path.Path.{Path}
 use Rattle.qfs_base.specs.declared.reply.Granted.{Granted}
 use Rattle.qfs_base.specs.declared.reply.MetaReply.{MetaReply}
 use Rattle.qfs_base.specs.declared.reply.MetaReply.TheVariants as Said
@@ -13,7 +12,7 @@ use Rattle.qfs_base.specs.declared.request.SlotId.{SlotId}
 use Rattle.qfs_model_actor.specs.Work.{Report, Work, ends}
 use Rattle.qfs_model_actor.specs.Hold.{nothing, granted, unnamed}
 use Rattle.qfs_model_actor.specs.Ask.{ask, fetch}
-use Rattle.qfs_model_actor.specs.Grants.{with_grant_of, slot_of_grant, source_of, with_source}
+use Rattle.qfs_model_actor.specs.Grants.{with_grant_of, with_proper, slot_of_grant, source_of, with_source}
 use Rattle.qfs_model_actor.specs.Windows.{windows_of_rows}
 use Rattle.qfs_base.specs.declared.layout.Window.{Window}
 use Rattle.qfs_model_actor.specs.Repair.{store_granted, give_up}
@@ -27,10 +26,16 @@ copy_windows stripe failed g source next (w ∷ windows) got =
         (λ cause. give_up failed g (Report.SourceFailed source.server cause))
         source
 
--- moves the slot of a grant from a copy: it is done, or it has failed with a report
-unfoldable pub move_slot : Shape → Work → (Report → Work) → Granted → Copy → Work
-move_slot layout done failed g source =
-    copy_windows layout.s failed g source (store_granted done failed g) (windows_of_rows g.block.index 0 g.rows) []
+-- reads the chunk of a grant from a copy and stores it
+unfoldable pub copy_chunk : Shape → Work → (Report → Work) → Granted → Copy → Work
+copy_chunk layout done failed g source =
+    copy_windows layout.s failed g source (λ chunk. store_granted done failed g chunk)
+        (windows_of_rows g.block.index 0 g.rows) []
+
+-- moves the slot of a grant from the one copy that it lists: it is done, or it has failed with a report
+unfoldable pub move_slot : Shape → (Copy → Work) → (Report → Work) → Granted → Work
+move_slot layout done failed g =
+    with_proper (λ g. with_source (λ source. copy_chunk layout (done source) failed g source) (source_of g)) g
 
 -- the report of a slot that was moved
 abbrev pub moved : Granted → Copy → Report
@@ -39,8 +44,7 @@ moved g source = Report.Moved g.block g.slot source.server g.server g.version
 -- the move of a slot was granted or refused
 unfoldable pub after_move_at : Shape → ℕ → ℕ → MetaReply → Work
 after_move_at layout index slot (Said.Granted g) =
-    with_grant_of index slot
-        (λ g. with_source (λ source. move_slot layout (ends (moved g source)) ends g source) (source_of g)) g
+    with_grant_of index slot (λ g. move_slot layout (λ source. ends (moved g source)) ends g) g
 after_move_at layout index slot (Said.BadPath refusal) = ends (Report.BadPath refusal)
 after_move_at layout index slot Said.NoBlock = ends Report.NoBlock
 after_move_at layout index slot (Said.Taken version) = ends (Report.Taken version)
@@ -48,15 +52,13 @@ after_move_at layout index slot (Said.Away server) = ends (Report.Away server)
 after_move_at layout index slot (Said.Barred server) = ends (Report.Barred server)
 after_move_at layout index slot answer = unnamed
 
-unfoldable pub move_work : Shape → Path → ℕ → ℕ → ℕ → Work
+unfoldable pub move_work : Shape → List (List ℕ) → ℕ → ℕ → ℕ → Work
 move_work layout path index slot to = ask nothing (Ask.MoveAt path index slot to) (after_move_at layout index slot)
 
 -- a move was granted that evens the servers out, or there is none
 unfoldable pub after_balance_next : Shape → ℕ → (ℕ → Work) → MetaReply → Work
 after_balance_next layout so_far next (Said.Granted g) =
-    with_source
-        (λ source. move_slot layout (next (so_far + 1)) (λ report. ends (Report.Rebalanced so_far 1)) g source)
-        (source_of g)
+    move_slot layout (λ source. next (so_far + 1)) (λ report. ends (Report.Rebalanced so_far 1)) g
 after_balance_next layout so_far next Said.Nothing = ends (Report.Rebalanced so_far 0)
 after_balance_next layout so_far next answer = unnamed
 
@@ -94,9 +96,7 @@ count_left server so_far = ask nothing (Ask.LeftOn server) (evacuated so_far)
 -- the next slot on the server was granted, or there is none, or no server for it
 unfoldable pub after_evac_next : Shape → ℕ → Leaving → (Leaving → Work) → MetaReply → Work
 after_evac_next layout server so_far next (Said.Granted g) =
-    with_source
-        (λ source. move_slot layout (next (one_moved so_far g)) (λ report. next (one_not_moved so_far g)) g source)
-        (source_of g)
+    move_slot layout (λ source. next (one_moved so_far g)) (λ report. next (one_not_moved so_far g)) g
 after_evac_next layout server so_far next Said.Nothing = count_left server so_far
 after_evac_next layout server so_far next (Said.NoServer block slot) =
     ends (Report.EvacNoServer so_far.moved so_far.failed block slot)

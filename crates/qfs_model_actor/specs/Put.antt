@@ -1,17 +1,16 @@
 -- A put: Create; for each block and each slot a Grant and a Put, again under a new grant where a Put failed; Close. The
 -- file is aborted where the command ends early.
-use Rattle.std.specs.Prelude.{ℕ, zero, suc, ◌==◌, ◌&&◌, Bool, true, false, List, length}
+use Rattle.std.specs.Prelude.{ℕ, zero, suc, ◌+◌, ◌-◌, Bool, true, false, List, length}
 use Rattle.std.specs.List.{range_with_len}
 use Rattle.qfs_base.specs.Layout.{blocks_of}
 use Rattle.qfs_base.specs.Shape.{Shape}
 use Rattle.qfs_base.specs.declared.command.Reply.TheVariants as Report
-use Rattle.qfs_base.specs.declared.path.Path.{Path}
 use Rattle.qfs_base.specs.declared.reply.Granted.{Granted}
 use Rattle.qfs_base.specs.declared.reply.MetaReply.{MetaReply}
 use Rattle.qfs_base.specs.declared.reply.MetaReply.TheVariants as Said
 use Rattle.qfs_base.specs.declared.request.ChunkRequest.TheVariants as Serve
 use Rattle.qfs_base.specs.declared.request.MetaRequest.TheVariants as Ask
-use Rattle.qfs_model_slot.specs.CodeWord.{all_slots}
+use Rattle.qfs_model_slot.specs.CodeWord.{SLOTS, all_slots}
 use Rattle.qfs_model_slot.specs.Slot.{slot_of}
 use Rattle.qfs_model_actor.specs.Work.{Work, ends, for_each}
 use Rattle.qfs_model_actor.specs.Hold.{nothing, unclosed, unnamed}
@@ -53,6 +52,13 @@ store_slot (suc grants) again layout bytes file index slot rest =
     ask_grant file index slot again
         (λ g. store layout bytes file index slot rest (store_slot grants true layout bytes file index slot rest) g)
 
+-- the slots of a block from this one on, and the blocks of a file of len bytes
+abbrev pub slots_from : ℕ → List ℕ
+slots_from slot = range_with_len slot (SLOTS - slot)
+
+abbrev pub blocks_from : Shape → ℕ → ℕ → List ℕ
+blocks_from layout len index = range_with_len index (blocks_of layout.s layout.r len - index)
+
 -- stores these slots of a block, and goes on
 unfoldable pub store_slots : Shape → List ℕ → ℕ → ℕ → List ℕ → Work → Work
 store_slots layout bytes file index slots rest = for_each (store_slot MOST_GRANTS false layout bytes file index) slots rest
@@ -60,9 +66,9 @@ store_slots layout bytes file index slots rest = for_each (store_slot MOST_GRANT
 -- stores all slots of these blocks, and goes on
 unfoldable pub store_blocks : Shape → List ℕ → ℕ → List ℕ → Work → Work
 store_blocks layout bytes file blocks rest =
-    for_each (λ index. store_slots layout bytes file index all_slots) blocks rest
+    for_each (λ index more. store_slots layout bytes file index all_slots more) blocks rest
 
--- the file is closed
+-- the file was closed
 unfoldable pub closed : ℕ → MetaReply → Work
 closed len (Said.Done place) = ends (Report.Stored place len)
 closed len answer = unnamed
@@ -70,16 +76,21 @@ closed len answer = unnamed
 unfoldable pub close_file : ℕ → ℕ → Work
 close_file len file = ask (unclosed file) (Ask.Close file) (closed len)
 
--- all that a put does with its file
-unfoldable pub fill_file : Shape → List ℕ → ℕ → Work
-fill_file layout bytes file =
-    store_blocks layout bytes file (range_with_len 0 (blocks_of layout.s layout.r (length bytes))) (close_file (length bytes) file)
+-- what is left of a put from block `index` on
+unfoldable pub put_blocks_from : Shape → List ℕ → ℕ → ℕ → Work
+put_blocks_from layout bytes file index =
+    store_blocks layout bytes file (blocks_from layout (length bytes) index) (close_file (length bytes) file)
+
+-- what is left of a put from a slot of block `index` on
+unfoldable pub put_slots_from : Shape → List ℕ → ℕ → ℕ → ℕ → Work
+put_slots_from layout bytes file index slot =
+    store_slots layout bytes file index (slots_from slot) (put_blocks_from layout bytes file (index + 1))
 
 -- the file is there
 unfoldable pub created : Shape → List ℕ → MetaReply → Work
-created layout bytes (Said.Created file place) = fill_file layout bytes file
+created layout bytes (Said.Created file place) = put_blocks_from layout bytes file 0
 created layout bytes answer = refused answer
 
 -- the put that is the actor's command of this number
-unfoldable pub put_work : Shape → ℕ → Path → List ℕ → Work
+unfoldable pub put_work : Shape → ℕ → List (List ℕ) → List ℕ → Work
 put_work layout number path bytes = ask nothing (Ask.Create path number (length bytes)) (created layout bytes)

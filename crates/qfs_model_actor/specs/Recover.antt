@@ -2,7 +2,6 @@
 use Rattle.std.specs.Prelude.{ℕ, zero, suc, ◌+◌, ◌*◌, List, [], Option, Some, None}
 use Rattle.qfs_base.specs.Shape.{Shape}
 use Rattle.qfs_base.specs.declared.command.Reply.TheVariants as Report
-use Rattle.qfs_base.specs.declared.path.Path.{Path}
 use Rattle.qfs_base.specs.declared.reply.Granted.{Granted}
 use Rattle.qfs_base.specs.declared.reply.MetaReply.{MetaReply}
 use Rattle.qfs_base.specs.declared.reply.MetaReply.TheVariants as Said
@@ -11,7 +10,7 @@ use Rattle.qfs_base.specs.declared.request.SlotId.{SlotId}
 use Rattle.qfs_model_actor.specs.Work.{Report, Work, ends}
 use Rattle.qfs_model_actor.specs.Hold.{nothing, granted, unnamed}
 use Rattle.qfs_model_actor.specs.Ask.{ask}
-use Rattle.qfs_model_actor.specs.Grants.{with_grant_of, slot_of_grant}
+use Rattle.qfs_model_actor.specs.Grants.{with_grant_of, with_proper, slot_of_grant}
 use Rattle.qfs_model_actor.specs.Windows.{windows_of_rows}
 use Rattle.qfs_model_actor.specs.Read.{Reading, read_block}
 use Rattle.qfs_model_actor.specs.Pieces.{restored_slot}
@@ -28,10 +27,15 @@ reading_for layout failed g =
         ; too_few = λ causes. give_up failed g (Report.TooFew g.block.index causes)
         }
 
+-- makes the chunk of a grant anew and stores it
+unfoldable pub restore_chunk : Shape → Work → (Report → Work) → Granted → Work
+restore_chunk layout done failed g =
+    read_block (reading_for layout failed g) (windows_of_rows g.block.index 0 g.rows) g.sources []
+        (λ chunk. store_granted done failed g chunk)
+
 -- recovers the slot of a grant: it is done, or it has failed with a report
 unfoldable pub recover_slot : Shape → Work → (Report → Work) → Granted → Work
-recover_slot layout done failed g =
-    read_block (reading_for layout failed g) (windows_of_rows g.block.index 0 g.rows) g.sources [] (store_granted done failed g)
+recover_slot layout done failed g = with_proper (λ g. restore_chunk layout done failed g) g
 
 -- the report of a slot that was recovered
 abbrev pub recovered : Granted → Report
@@ -48,7 +52,7 @@ after_recover_at layout index slot Said.Whole = ends Report.Whole
 after_recover_at layout index slot (Said.NoServer block at) = ends (Report.NoServer block at)
 after_recover_at layout index slot answer = unnamed
 
-unfoldable pub recover_work : Shape → Path → ℕ → ℕ → Work
+unfoldable pub recover_work : Shape → List (List ℕ) → ℕ → ℕ → Work
 recover_work layout path index slot = ask nothing (Ask.RecoverAt path index slot) (after_recover_at layout index slot)
 
 -- where a heal stands: the last slot that was granted, and how many were recovered and failed

@@ -1,7 +1,6 @@
 -- The commands on the name tree: one request each.
-use Rattle.std.specs.Prelude.{ℕ}
+use Rattle.std.specs.Prelude.{ℕ, List}
 use Rattle.qfs_base.specs.declared.command.Reply.TheVariants as Report
-use Rattle.qfs_base.specs.declared.path.Path.{Path}
 use Rattle.qfs_base.specs.declared.reply.MetaReply.{MetaReply}
 use Rattle.qfs_base.specs.declared.reply.MetaReply.TheVariants as Said
 use Rattle.qfs_base.specs.declared.request.MetaRequest.{MetaRequest}
@@ -27,5 +26,5 @@ listed answer = refused answer
 unfoldable pub change_work : MetaRequest → Work
 change_work request = ask nothing request changed
 
-unfoldable pub list_work : Path → Work
+unfoldable pub list_work : List (List ℕ) → Work
 list_work path = ask nothing (Ask.List path) listed
