@@ -1,5 +1,5 @@
 -- A command asks a node.
-use Rattle.std.specs.Prelude.{ℕ, ◌*◌, ◌==◌, Bool, true, false, List, [], ◌∷◌, length, replicate}
+use Rattle.std.specs.Prelude.{ℕ, ◌==◌, Bool, true, false, List, length, replicate}
 use Rattle.qfs_base.specs.declared.chunk.BlockId.{BlockId}
 use Rattle.qfs_base.specs.declared.chunk.ChunkKey.{ChunkKey}
 use Rattle.qfs_base.specs.declared.chunk.Copy.{Copy}
@@ -8,7 +8,6 @@ use Rattle.qfs_base.specs.declared.lists.Cause.{Cause}
 use Rattle.qfs_base.specs.declared.lists.Cause.TheVariants as Because
 use Rattle.qfs_base.specs.declared.reply.ChunkAnswer.{ChunkAnswer}
 use Rattle.qfs_base.specs.declared.reply.ChunkAnswer.TheVariants as Did
-use Rattle.qfs_base.specs.declared.reply.ChunkReply.{ChunkReply}
 use Rattle.qfs_base.specs.declared.reply.MetaReply.{MetaReply}
 use Rattle.qfs_base.specs.declared.reply.NodeReply.{NodeReply}
 use Rattle.qfs_base.specs.declared.reply.NodeReply.TheVariants as From
@@ -16,7 +15,7 @@ use Rattle.qfs_base.specs.declared.request.ChunkRequest.{ChunkRequest}
 use Rattle.qfs_base.specs.declared.request.ChunkRequest.TheVariants as Serve
 use Rattle.qfs_base.specs.declared.request.MetaRequest.{MetaRequest}
 use Rattle.qfs_base.specs.declared.request.NodeRequest.TheVariants as To
-use Rattle.qfs_model_actor.specs.Work.{Report, Work, ends, asks}
+use Rattle.qfs_model_actor.specs.Work.{Work, asks}
 use Rattle.qfs_model_actor.specs.Hold.{Hold, unnamed, ask_or, end_with}
 
 -- asks the metaserver
@@ -67,4 +66,4 @@ after_fetch len fetched failed room answer = unnamed
 unfoldable pub fetch : Hold → BlockId → ℕ → ℕ → ℕ → (List ℕ → Work) → (Cause → Work) → Copy → Work
 fetch hold block slot from len fetched failed copy =
     asks (To.Chunk copy.server (Serve.Fetch (key_of block slot copy.version) copy.life from (replicate len 0)))
-        (on_chunk hold (after_fetch len fetched failed))
+    (on_chunk hold (after_fetch len fetched failed))

@@ -1,5 +1,5 @@
 -- A file of five bytes that is put and read again, exchange by exchange, as one works it out by eye.
-use Rattle.std.specs.Prelude.{◌≡◌, ℕ, ◌+◌, Bool, true, false, List, [], ◌∷◌, ◌++◌, map, flat_map, Option, Some, None, replicate}
+use Rattle.std.specs.Prelude.{◌≡◌, ℕ, ◌+◌, false, List, [], ◌∷◌, ◌++◌, map, Option, Some, None, replicate}
 use Rattle.std.specs.List.{range_with_len}
 use Rattle.qfs_base.specs.Shape.{Shape}
 use Rattle.qfs_base.specs.declared.chunk.BlockId.{BlockId}
@@ -25,7 +25,7 @@ use Rattle.qfs_base.specs.declared.request.NodeRequest.{NodeRequest}
 use Rattle.qfs_base.specs.declared.request.NodeRequest.TheVariants as To
 use Rattle.qfs_model_actor.specs.Work.{Report, Work, ends, asked, follow}
 use Rattle.qfs_model_actor.specs.Command.{work_of}
-use Rattle.qfs_model_actor.specs.Actor.{Actor, starting, after_replies}
+use Rattle.qfs_model_actor.specs.Actor.{starting, after_replies}
 
 -- a request with its answer
 pub record Exchange : Type 0 where
@@ -77,9 +77,9 @@ key slot = record { block = block; slot = slot; version = 1 }
 abbrev pub stores : ℕ → List ℕ → List Exchange
 stores slot chunk =
     meta (Ask.Grant 1 0 slot false)
-        (Said.Granted (record { block = block; slot = slot; version = 1; server = slot + 1; life = 1; lease = 0; sources = replicate 9 None; rows = 1 }))
-        ∷ serve (slot + 1) (Serve.Put (key slot) 1 chunk) Did.Stored []
-        ∷ []
+    (Said.Granted (record { block = block; slot = slot; version = 1; server = slot + 1; life = 1; lease = 0; sources = replicate 9 None; rows = 1 }))
+    ∷ serve (slot + 1) (Serve.Put (key slot) 1 chunk) Did.Stored []
+    ∷ []
 
 -- a slot is fetched, or its server answers otherwise
 abbrev pub fetches : ℕ → ChunkAnswer → List ℕ → Exchange
@@ -89,9 +89,9 @@ fetches slot answer room = serve (slot + 1) (Serve.Fetch (key slot) 1 0 zeros) a
 abbrev pub put_exchanges : List Exchange
 put_exchanges =
     meta (Ask.Create path_a 1 5) (Said.Created 1 0)
-        ∷ stores 0 with_five ++ stores 1 zeros ++ stores 2 zeros ++ stores 3 zeros ++ stores 4 zeros ++ stores 5 zeros
-        ++ stores 6 with_five ++ stores 7 with_five ++ stores 8 with_five
-        ++ meta (Ask.Close 1) (Said.Done 1) ∷ []
+    ∷ stores 0 with_five ++ stores 1 zeros ++ stores 2 zeros ++ stores 3 zeros ++ stores 4 zeros ++ stores 5 zeros
+    ++ stores 6 with_five ++ stores 7 with_five ++ stores 8 with_five
+    ++ meta (Ask.Close 1) (Said.Done 1) ∷ []
 
 -- each slot is listed
 abbrev pub listed : List (Option Copy)
@@ -101,7 +101,7 @@ listed = map (λ server. Some (record { server = server; life = 1; version = 1 }
 abbrev pub opens : Exchange
 opens =
     meta (Ask.OpenFile path_a)
-        (Said.Opened (record { lease = 1; place = 2; file = 1; len = 5; blocks = listed ∷ [] }))
+    (Said.Opened (record { lease = 1; place = 2; file = 1; len = 5; blocks = listed ∷ [] }))
 
 abbrev pub releases : Exchange
 releases = meta (Ask.Release 1) (Said.Done 2)
@@ -110,28 +110,28 @@ releases = meta (Ask.Release 1) (Said.Done 2)
 abbrev pub get_exchanges : List Exchange
 get_exchanges =
     opens
-        ∷ fetches 0 Did.Fetched with_five
-        ∷ fetches 1 Did.Fetched zeros
-        ∷ fetches 2 Did.Fetched zeros
-        ∷ fetches 3 Did.Fetched zeros
-        ∷ fetches 4 Did.Fetched zeros
-        ∷ fetches 5 Did.Fetched zeros
-        ∷ releases ∷ []
+    ∷ fetches 0 Did.Fetched with_five
+    ∷ fetches 1 Did.Fetched zeros
+    ∷ fetches 2 Did.Fetched zeros
+    ∷ fetches 3 Did.Fetched zeros
+    ∷ fetches 4 Did.Fetched zeros
+    ∷ fetches 5 Did.Fetched zeros
+    ∷ releases ∷ []
 
 -- servers 1, 4, 8 and 9 are down, and so too few slots answer
 abbrev pub too_few_exchanges : List Exchange
 too_few_exchanges =
     opens
-        ∷ fetches 0 Did.Down zeros
-        ∷ fetches 1 Did.Fetched zeros
-        ∷ fetches 2 Did.Fetched zeros
-        ∷ fetches 3 Did.Down zeros
-        ∷ fetches 4 Did.Fetched zeros
-        ∷ fetches 5 Did.Fetched zeros
-        ∷ fetches 6 Did.Fetched with_five
-        ∷ fetches 7 Did.Down zeros
-        ∷ fetches 8 Did.Down zeros
-        ∷ releases ∷ []
+    ∷ fetches 0 Did.Down zeros
+    ∷ fetches 1 Did.Fetched zeros
+    ∷ fetches 2 Did.Fetched zeros
+    ∷ fetches 3 Did.Down zeros
+    ∷ fetches 4 Did.Fetched zeros
+    ∷ fetches 5 Did.Fetched zeros
+    ∷ fetches 6 Did.Fetched with_five
+    ∷ fetches 7 Did.Down zeros
+    ∷ fetches 8 Did.Down zeros
+    ∷ releases ∷ []
 
 abbrev pub put_command : Command
 put_command = Does.File (File.Put path_a (Of.Hex five))
@@ -148,12 +148,12 @@ pub record FileIsPutAndRead : Type 0 where
 abbrev pub TooFewAnswer : Type 0
 TooFewAnswer =
     Goes (work_of small 2 get_command) too_few_exchanges
-        (Report.ReadTooFew 2 0
-            (record { slot = 0; cause = Because.Down }
-                ∷ record { slot = 3; cause = Because.Down }
-                ∷ record { slot = 7; cause = Because.Down }
-                ∷ record { slot = 8; cause = Because.Down }
-                ∷ []))
+    (Report.ReadTooFew 2 0
+    (record { slot = 0; cause = Because.Down }
+    ∷ record { slot = 3; cause = Because.Down }
+    ∷ record { slot = 7; cause = Because.Down }
+    ∷ record { slot = 8; cause = Because.Down }
+    ∷ []))
 
 -- an actor with both commands, after all its replies
 abbrev pub both : List Command
@@ -162,4 +162,4 @@ both = put_command ∷ get_command ∷ []
 abbrev pub ActorEnds : Type 0
 ActorEnds =
     after_replies (starting small 1 both) (replies_of (put_exchanges ++ get_exchanges))
-        ≡ record { number = 1; layout = small; commands = both; ended = Report.Stored 1 5 ∷ Report.Read 2 five ∷ []; heard = [] }
+    ≡ record { number = 1; layout = small; commands = both; ended = Report.Stored 1 5 ∷ Report.Read 2 five ∷ []; heard = [] }

@@ -1,5 +1,5 @@
 -- A get: OpenFile; the Fetches of its range; Release. The lease is released where the command ends early.
-use Rattle.std.specs.Prelude.{ℕ, ◌+◌, ◌-◌, ◌*◌, ◌==◌, ◌&&◌, Bool, true, false, List, [], ◌∷◌, map, min, length, take, drop, Option, Some, None, slice_get, unwrap_or, nat_le, nat_lt, find, flat_map, option_map}
+use Rattle.std.specs.Prelude.{ℕ, ◌+◌, ◌==◌, ◌&&◌, Bool, true, false, List, [], ◌∷◌, min, length, Option, Some, None, slice_get, unwrap_or, nat_le, nat_lt}
 use Rattle.qfs_base.specs.Layout.{blocks_of}
 use Rattle.qfs_base.specs.Shape.{Shape}
 use Rattle.qfs_base.specs.declared.chunk.Copy.{Copy}
@@ -24,13 +24,13 @@ MOST_BYTES = 268435456
 -- what a get reads of block k, for the bytes from `from` up to `to` of its file
 unfoldable pub reading_of : Shape → Opened → ℕ → ℕ → ℕ → Reading
 reading_of layout o from to k =
-    record
-        { hold = opened o.lease
-        ; block = record { file = o.file; index = k }
-        ; stripe = layout.s
-        ; kept = λ w pieces. cut_to_range from to (window_offset layout w) (rows_of_file layout.s w.rows (data_of pieces))
-        ; too_few = λ causes. end_with (opened o.lease) (Report.ReadTooFew o.place k causes)
-        }
+    record {
+      hold = opened o.lease;
+      block = record { file = o.file; index = k };
+      stripe = layout.s;
+      kept = λ w pieces. cut_to_range from to (window_offset layout w) (rows_of_file layout.s w.rows (data_of pieces));
+      too_few = λ causes. end_with (opened o.lease) (Report.ReadTooFew o.place k causes);
+    }
 
 -- the listed copies of block k
 abbrev pub listed_in : Opened → ℕ → List (Option Copy)
@@ -41,7 +41,7 @@ unfoldable pub read_blocks : Shape → Opened → ℕ → ℕ → List ℕ → L
 read_blocks layout o from to [] got = end_with (opened o.lease) (Report.Read o.place got)
 read_blocks layout o from to (k ∷ ks) got =
     read_block (reading_of layout o from to k) (windows_touched layout from to k) (listed_in o k) got
-        (λ more. read_blocks layout o from to ks more)
+    (λ more. read_blocks layout o from to ks more)
 
 -- reads the bytes from `from` up to `to`, of which there is one where the flag says so
 unfoldable pub read_if_any : Shape → Opened → ℕ → ℕ → Bool → Work

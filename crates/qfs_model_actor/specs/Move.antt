@@ -1,6 +1,5 @@
 -- Moves: the copy of a slot is read whole from its server and stored on another.
-use Rattle.std.specs.Prelude.{ℕ, zero, suc, ◌+◌, ◌*◌, ◌==◌, ◌&&◌, Bool, true, false, List, [], ◌∷◌, ◌++◌, Option, Some, None, filter_map, option_map}
-use Rattle.std.specs.List.{enumerate_from}
+use Rattle.std.specs.Prelude.{ℕ, zero, suc, ◌+◌, ◌*◌, List, [], ◌∷◌, ◌++◌, Option, Some, None}
 use Rattle.qfs_base.specs.Shape.{Shape}
 use Rattle.qfs_base.specs.declared.chunk.Copy.{Copy}
 use Rattle.qfs_base.specs.declared.command.Reply.TheVariants as Report
@@ -22,15 +21,15 @@ unfoldable pub copy_windows : ℕ → (Report → Work) → Granted → Copy →
 copy_windows stripe failed g source next [] got = next got
 copy_windows stripe failed g source next (w ∷ windows) got =
     fetch (granted g) g.block g.slot (w.first_row * stripe) (w.rows * stripe)
-        (λ room. copy_windows stripe failed g source next windows (got ++ room))
-        (λ cause. give_up failed g (Report.SourceFailed source.server cause))
-        source
+    (λ room. copy_windows stripe failed g source next windows (got ++ room))
+    (λ cause. give_up failed g (Report.SourceFailed source.server cause))
+    source
 
 -- reads the chunk of a grant from a copy and stores it
 unfoldable pub copy_chunk : Shape → Work → (Report → Work) → Granted → Copy → Work
 copy_chunk layout done failed g source =
     copy_windows layout.s failed g source (λ chunk. store_granted done failed g chunk)
-        (windows_of_rows g.block.index 0 g.rows) []
+    (windows_of_rows g.block.index 0 g.rows) []
 
 -- moves the slot of a grant from the one copy that it lists: it is done, or it has failed with a report
 unfoldable pub move_slot : Shape → (Copy → Work) → (Report → Work) → Granted → Work
@@ -107,7 +106,7 @@ unfoldable pub evacuate_on : Shape → ℕ → ℕ → Leaving → Work
 evacuate_on layout server zero so_far = count_left server so_far
 evacuate_on layout server (suc budget) so_far =
     ask nothing (Ask.EvacNext server so_far.after)
-        (after_evac_next layout server so_far (λ further. evacuate_on layout server budget further))
+    (after_evac_next layout server so_far (λ further. evacuate_on layout server budget further))
 
 -- the server takes no new chunks from now on
 unfoldable pub after_leave : Shape → ℕ → ℕ → MetaReply → Work

@@ -1,5 +1,5 @@
 -- What six of the nine slots of a block give in a window of rows.
-use Rattle.std.specs.Prelude.{ℕ, ◌*◌, ◌==◌, List, [], ◌∷◌, Option, Some, None, map, find, flat_map, take, drop}
+use Rattle.std.specs.Prelude.{ℕ, ◌*◌, ◌==◌, List, [], Option, Some, None, map, find, flat_map, take, drop}
 use Rattle.std.specs.List.{range_with_len}
 use Rattle.qfs_model_slot.specs.CodeWord.{data_slots, all_slots}
 use Rattle.qfs_model_actor.specs.Standin.{restored}

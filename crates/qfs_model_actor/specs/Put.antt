@@ -42,15 +42,15 @@ ask_grant file index slot again next =
 unfoldable pub store : Shape → List ℕ → ℕ → ℕ → ℕ → Work → Work → Granted → Work
 store layout bytes file index slot stored failed g =
     ask_server (unclosed file) g.server
-        (Serve.Put (key_of (record { file = file; index = index }) slot g.version) g.life (slot_of layout bytes index slot))
-        (after_store stored (λ cause. failed))
+    (Serve.Put (key_of (record { file = file; index = index }) slot g.version) g.life (slot_of layout bytes index slot))
+    (after_store stored (λ cause. failed))
 
 -- stores a slot under at most so many grants, and goes on; one grant more is none that a put takes
 unfoldable pub store_slot : ℕ → Bool → Shape → List ℕ → ℕ → ℕ → ℕ → Work → Work
 store_slot zero again layout bytes file index slot rest = ask_grant file index slot again (λ g. unnamed)
 store_slot (suc grants) again layout bytes file index slot rest =
     ask_grant file index slot again
-        (λ g. store layout bytes file index slot rest (store_slot grants true layout bytes file index slot rest) g)
+    (λ g. store layout bytes file index slot rest (store_slot grants true layout bytes file index slot rest) g)
 
 -- the slots of a block from this one on, and the blocks of a file of len bytes
 abbrev pub slots_from : ℕ → List ℕ

@@ -1,6 +1,6 @@
 -- Reading a block from any six of its nine slots, window by window.
-use Rattle.std.specs.Prelude.{ℕ, zero, suc, ◌+◌, ◌*◌, ◌<◌, Bool, true, false, List, [], ◌∷◌, ◌++◌, map, length, Option, Some, None, Result, Ok, Err, slice_get, slice_set, count_by, filter_map, is_ok, nat_lt, unwrap_or}
-use Rattle.std.specs.List.{range_with_len, enumerate_from}
+use Rattle.std.specs.Prelude.{ℕ, zero, suc, ◌*◌, Bool, true, false, List, [], ◌∷◌, ◌++◌, map, Option, Some, None, Result, Ok, Err, slice_get, slice_set, count_by, filter_map, is_ok, nat_lt}
+use Rattle.std.specs.List.{enumerate_from}
 use Rattle.qfs_base.specs.declared.chunk.BlockId.{BlockId}
 use Rattle.qfs_base.specs.declared.chunk.Copy.{Copy}
 use Rattle.qfs_base.specs.declared.lists.Cause.{Cause}
@@ -69,20 +69,20 @@ read_slots reading w zero slots sources pieces next = next sources pieces
 read_slots reading w (suc wanted) [] sources pieces next = next sources pieces
 read_slots reading w (suc wanted) (slot ∷ slots) sources pieces next =
     at_source
-        (λ cause. read_slots reading w (suc wanted) slots sources pieces next)
-        (fetch reading.hold reading.block slot (w.first_row * reading.stripe) (w.rows * reading.stripe)
-            (λ room. read_slots reading w wanted slots sources (pieces ++ record { slot = slot; bytes = room } ∷ []) next)
-            (λ cause. with_enough reading
-                (λ left. read_slots reading w (suc wanted) slots left pieces next)
-                (slice_set sources slot (Err cause))))
-        (slice_get sources slot)
+    (λ cause. read_slots reading w (suc wanted) slots sources pieces next)
+    (fetch reading.hold reading.block slot (w.first_row * reading.stripe) (w.rows * reading.stripe)
+    (λ room. read_slots reading w wanted slots sources (pieces ++ record { slot = slot; bytes = room } ∷ []) next)
+    (λ cause. with_enough reading
+    (λ left. read_slots reading w (suc wanted) slots left pieces next)
+    (slice_set sources slot (Err cause))))
+    (slice_get sources slot)
 
 -- reads these windows one after another, and keeps of each what is wanted
 unfoldable pub read_windows : Reading → List Window → List Source → List ℕ → (List ℕ → Work) → Work
 read_windows reading [] sources got next = next got
 read_windows reading (w ∷ windows) sources got next =
     read_slots reading w DATA_SLOTS all_slots sources []
-        (λ left pieces. read_windows reading windows left (got ++ reading.kept w pieces) next)
+    (λ left pieces. read_windows reading windows left (got ++ reading.kept w pieces) next)
 
 -- reads these windows of a block whose copies are listed so
 unfoldable pub read_block : Reading → List Window → List (Option Copy) → List ℕ → (List ℕ → Work) → Work

@@ -1,5 +1,5 @@
 -- Recoveries: a missing chunk is made anew from six others of its block and stored on another server.
-use Rattle.std.specs.Prelude.{ℕ, zero, suc, ◌+◌, ◌*◌, List, [], Option, Some, None}
+use Rattle.std.specs.Prelude.{ℕ, zero, suc, ◌+◌, List, [], Option, Some, None}
 use Rattle.qfs_base.specs.Shape.{Shape}
 use Rattle.qfs_base.specs.declared.command.Reply.TheVariants as Report
 use Rattle.qfs_base.specs.declared.reply.Granted.{Granted}
@@ -19,19 +19,19 @@ use Rattle.qfs_model_actor.specs.Repair.{store_granted, give_up}
 -- what a recovery reads: all rows of the block, of which it keeps the bytes of its own slot, made anew
 unfoldable pub reading_for : Shape → (Report → Work) → Granted → Reading
 reading_for layout failed g =
-    record
-        { hold = granted g
-        ; block = g.block
-        ; stripe = layout.s
-        ; kept = λ w pieces. restored_slot pieces g.slot
-        ; too_few = λ causes. give_up failed g (Report.TooFew g.block.index causes)
-        }
+    record {
+      hold = granted g;
+      block = g.block;
+      stripe = layout.s;
+      kept = λ w pieces. restored_slot pieces g.slot;
+      too_few = λ causes. give_up failed g (Report.TooFew g.block.index causes);
+    }
 
 -- makes the chunk of a grant anew and stores it
 unfoldable pub restore_chunk : Shape → Work → (Report → Work) → Granted → Work
 restore_chunk layout done failed g =
     read_block (reading_for layout failed g) (windows_of_rows g.block.index 0 g.rows) g.sources []
-        (λ chunk. store_granted done failed g chunk)
+    (λ chunk. store_granted done failed g chunk)
 
 -- recovers the slot of a grant: it is done, or it has failed with a report
 unfoldable pub recover_slot : Shape → Work → (Report → Work) → Granted → Work

@@ -1,8 +1,7 @@
 -- What a recovery and a move share: the granted copy is stored and confirmed, and the grant is abandoned where that
 -- fails.
-use Rattle.std.specs.Prelude.{ℕ, ◌*◌, List}
+use Rattle.std.specs.Prelude.{ℕ, List}
 use Rattle.qfs_base.specs.declared.command.Reply.TheVariants as Report
-use Rattle.qfs_base.specs.declared.lists.Cause.{Cause}
 use Rattle.qfs_base.specs.declared.reply.Granted.{Granted}
 use Rattle.qfs_base.specs.declared.reply.MetaReply.{MetaReply}
 use Rattle.qfs_base.specs.declared.reply.MetaReply.TheVariants as Said
@@ -31,4 +30,4 @@ give_up failed g report = give_back (failed report) (granted g)
 unfoldable pub store_granted : Work → (Report → Work) → Granted → List ℕ → Work
 store_granted done failed g chunk =
     ask_server (granted g) g.server (Serve.Put (key_of g.block g.slot g.version) g.life chunk)
-        (after_store (confirm done failed g) (λ cause. give_up failed g (Report.DestFailed g.server cause)))
+    (after_store (confirm done failed g) (λ cause. give_up failed g (Report.DestFailed g.server cause)))

@@ -1,6 +1,5 @@
 -- Servers that go and come: stop, start, wipe and hibernate.
-use Rattle.std.specs.Prelude.{ℕ, List}
-use Rattle.qfs_base.specs.declared.chunk.ChunkKey.{ChunkKey}
+use Rattle.std.specs.Prelude.{ℕ}
 use Rattle.qfs_base.specs.declared.command.Reply.TheVariants as Report
 use Rattle.qfs_base.specs.declared.reply.ChunkAnswer.{ChunkAnswer}
 use Rattle.qfs_base.specs.declared.reply.ChunkAnswer.TheVariants as Did

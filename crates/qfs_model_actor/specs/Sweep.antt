@@ -29,7 +29,7 @@ after_erase number erased next answer = unnamed
 unfoldable pub erase : ℕ → (ℕ → Work) → Condemned → Work
 erase erased next c =
     ask_server nothing c.copy.server (Serve.Erase (key_of c.block c.slot c.copy.version) c.copy.life)
-        (after_erase c.number erased next)
+    (after_erase c.number erased next)
 
 -- a copy was ordered deleted, or there is none that may be
 unfoldable pub after_order : ℕ → (ℕ → ℕ → Work) → MetaReply → Work
