@@ -17,6 +17,7 @@ pub mod System
 pub mod Command
 pub mod Actor
 pub mod Shown
+pub mod Steps
 pub mod Examples
 pub mod MoreExamples
 pub mod Standin
