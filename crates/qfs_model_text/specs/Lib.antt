@@ -1,6 +1,5 @@
 pub mod Line
 pub mod Reply
-pub mod WithRead
 pub mod History
 pub mod Order
 pub mod Output

@@ -9,9 +9,9 @@ use Rattle.qfs_base.specs.declared.command.Shown.TheVariants as Show
 use Rattle.qfs_base.specs.declared.history.Step.{Step}
 use Rattle.qfs_base.specs.declared.script.Script.{Script}
 use Rattle.qfs_model_actor.specs.Actor.{Actor}
+use Rattle.qfs_model_actor.specs.Shown.{shown_reply}
 use Rattle.qfs_model_actor.specs.Work.{Report}
 use Rattle.qfs_model_text.specs.Output.{plain_output}
-use Rattle.qfs_model_text.specs.WithRead.{with_read}
 use Rattle.qfs_model_world.specs.World.{World, after}
 
 -- how many bytes are shown as they are
@@ -29,7 +29,7 @@ excerpt_of bytes = record { len = length bytes; shown = shown_if_few bytes (nat_
 
 -- a report as it is kept and printed
 abbrev pub kept_report : Report → Reply Excerpt
-kept_report report = with_read excerpt_of report
+kept_report report = shown_reply excerpt_of report
 
 -- the reply lines of an actor's commands that have ended, of which the first is command k
 unfoldable pub lines_from : ℕ → ℕ → List Report → List ReplyLine

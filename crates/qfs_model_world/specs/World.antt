@@ -55,7 +55,7 @@ pub record Turned : Type 0 where
 -- the metaserver served a request
 unfoldable pub meta_turned : World → Served → Turned
 meta_turned world served =
-    record { world = record world { meta = served.image }; reply = From.Meta served.reply }
+    record { world = record world { meta = served.meta }; reply = From.Meta served.reply }
 
 -- a chunk server served a request
 unfoldable pub chunk_turned : World → ℕ → Answered → Turned
