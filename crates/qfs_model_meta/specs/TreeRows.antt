@@ -1,11 +1,13 @@
 -- The rows of the metaserver's name tree: beside each path its file, 0 for a directory, and the
 -- command that made it.
-use Rattle.std.specs.Prelude.{ℕ, zero, suc, ◌==◌, Bool, true, false, ◌&&◌, List, [], map, find, Option}
+use Rattle.std.specs.Prelude.{ℕ, zero, suc, ◌==◌, Bool, true, false, ◌&&◌, ◌||◌, List, [], map, filter, find, Option}
+use Rattle.std.specs.List.{list_any}
 use Rattle.qfs_base.specs.declared.image.TreeRow.{TreeRow}
 use Rattle.qfs_base.specs.declared.lists.NameKind.{NameKind}
 use Rattle.qfs_base.specs.declared.lists.NameKind.TheVariants.{Directory, Unclosed, Closed}
 use Rattle.qfs_base.specs.NameTree.{PathNames, Standing, added, renamed, taken, stands_at}
-use Rattle.qfs_base.specs.Table.{without, change_where, look}
+use Rattle.std.specs.Ordering.{nat_cmp}
+use Rattle.qfs_base.specs.Table.{without, change_where, look, place_all}
 
 -- what stands at a row: file 0 is a directory
 unfoldable pub kind_of : ℕ → Bool → NameKind
@@ -62,6 +64,22 @@ is_closed_row row = is_closed (kind_of row.file row.closed)
 unfoldable pub unclosed_file : ℕ → ℕ → List TreeRow → Option TreeRow
 unclosed_file actor file tree =
     find (λ (row : TreeRow). is_unclosed_row row && has_file file row && (row.actor == actor)) tree
+
+-- the files that an actor hasn't closed, by number
+unfoldable pub unclosed_files : ℕ → List TreeRow → List ℕ
+unclosed_files actor tree =
+    place_all nat_cmp
+      (map (λ (row : TreeRow). row.file) (filter (λ (row : TreeRow). is_unclosed_row row && (row.actor == actor)) tree))
+      []
+
+-- a closed file
+unfoldable pub closed_file : ℕ → List TreeRow → Option TreeRow
+closed_file file tree = find (λ (row : TreeRow). is_closed_row row && has_file file row) tree
+
+-- whether a file is in the tree, closed or not
+unfoldable pub file_stands : ℕ → List TreeRow → Bool
+file_stands file tree =
+    list_any (λ (row : TreeRow). (is_closed_row row || is_unclosed_row row) && has_file file row) tree
 
 -- a row after its file was closed
 unfoldable pub close_row : TreeRow → TreeRow
