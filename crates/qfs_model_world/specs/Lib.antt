@@ -1,1 +1,4 @@
 pub mod Server
+pub mod World
+pub mod Fits
+pub mod Text
