@@ -1,11 +1,11 @@
 -- Every request of the metaserver, and what it decides.
-use Rattle.std.specs.Prelude.{ℕ, Bool, true, false, length}
+use Rattle.std.specs.Prelude.{ℕ, length}
 use Rattle.qfs_base.specs.declared.image.MetaImage.{MetaImage}
 use Rattle.qfs_base.specs.declared.reply.MetaReply.TheVariants as Told
 use Rattle.qfs_base.specs.declared.request.MetaRequest.{MetaRequest}
 use Rattle.qfs_base.specs.declared.request.MetaRequest.TheVariants as Ask
 use Rattle.qfs_base.specs.Shape.{Shape}
-use Rattle.qfs_model_meta.specs.Decision.{Decision, Tells, UsesDisks, unless}
+use Rattle.qfs_model_meta.specs.Decision.{Decision, UsesDisks, unless}
 use Rattle.qfs_model_meta.specs.DropRequest.{decide_drop}
 use Rattle.qfs_model_meta.specs.GetRequests.{decide_open, decide_release}
 use Rattle.qfs_model_meta.specs.MoveRequests.{decide_move, decide_evacuate, decide_balance}

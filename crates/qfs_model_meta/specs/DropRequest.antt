@@ -1,5 +1,5 @@
 -- The request that drops an actor: its leases, grants and unclosed files are given up.
-use Rattle.std.specs.Prelude.{ℕ, ◌==◌, Bool, true, false, ◌&&◌, List, [], ◌∷◌, ◌++◌, length, map, filter, flat_map, Option, Some, None, is_some}
+use Rattle.std.specs.Prelude.{ℕ, ◌==◌, Bool, false, ◌&&◌, List, [], ◌∷◌, ◌++◌, length, map, filter, flat_map, Option, Some, None, is_some}
 use Rattle.qfs_base.specs.declared.image.Grant.{Grant}
 use Rattle.qfs_base.specs.declared.image.MetaImage.{MetaImage}
 use Rattle.qfs_base.specs.declared.image.SlotRow.{SlotRow}
@@ -17,20 +17,28 @@ unfoldable pub is_granted_to : ℕ → Option Grant → Bool
 is_granted_to actor None = false
 is_granted_to actor (Some grant) = grant.actor == actor
 
--- the slots of closed files that are granted to an actor, by file, index and slot
-unfoldable pub slots_granted_to : ℕ → List TreeRow → List SlotRow → List SlotRow
-slots_granted_to actor tree slots =
-    filter
-      (λ (row : SlotRow). is_granted_to actor row.state.grant && is_some (closed_file row.block.file tree))
-      slots
+-- whether a slot of a closed file is granted to an actor
+unfoldable pub is_recovery_of : ℕ → List TreeRow → SlotRow → Bool
+is_recovery_of actor tree row =
+    is_granted_to actor row.state.grant && is_some (closed_file row.block.file tree)
+
+-- the changes that give an actor's recoveries and moves up, by file, index and slot
+unfoldable pub recovery_changes : ℕ → List TreeRow → List SlotRow → List Change
+recovery_changes actor tree slots =
+    map (λ (row : SlotRow). GiveUp row.block row.slot) (filter (is_recovery_of actor tree) slots)
+
+-- the changes that give its unclosed files up, by number
+unfoldable pub unclosed_changes : ℕ → List TreeRow → List SlotRow → List Change
+unclosed_changes actor tree slots =
+    flat_map (λ file. abort_changes file slots) (unclosed_files actor tree)
 
 -- an actor counts as dropped, its leases end, its recoveries and moves are given up, and then its
--- unclosed files by number
+-- unclosed files
 unfoldable pub drop_changes : ℕ → MetaImage → List Change
 drop_changes actor m =
     DropActor actor ∷ map EndLease (leases_of actor m.leases)
-      ++ map (λ (row : SlotRow). GiveUp row.block row.slot) (slots_granted_to actor m.tree m.slots)
-      ++ flat_map (λ file. abort_changes file m.slots) (unclosed_files actor m.tree)
+    ++ recovery_changes actor m.tree m.slots
+    ++ unclosed_changes actor m.tree m.slots
 
 -- a second drop of an actor changes nothing
 unfoldable pub changes_unless_dropped : ℕ → MetaImage → Option ℕ → List Change

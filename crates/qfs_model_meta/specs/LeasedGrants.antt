@@ -1,6 +1,5 @@
 -- What recoveries and moves share: a lease on the file, and a grant of one of its slots under it.
 use Rattle.std.specs.Prelude.{ℕ, ◌==◌, nat_lt, Bool, true, false, ◌&&◌, List, [], ◌∷◌, Option, Some, None, is_none}
-use Rattle.std.specs.declared.cmp.Ordering.{Ordering}
 use Rattle.std.specs.Ordering.{nat_cmp, ordering_then, is_lt}
 use Rattle.qfs_base.specs.declared.chunk.BlockId.{BlockId}
 use Rattle.qfs_base.specs.declared.chunk.Copy.{Copy}
@@ -52,20 +51,23 @@ unfoldable pub closed_len : Option TreeRow → ℕ
 closed_len None = 0
 closed_len (Some row) = row.len
 
--- a lease on the file and a grant on this server
-unfoldable pub grant_leased : Shape → ℕ → BlockId → ℕ → ℕ → NineCopies → MetaImage → Decision
-grant_leased layout actor block slot server sources m =
-    Makes
-      (GiveLease actor block.file ∷ GrantSlot block slot server actor m.next_lease ∷ [])
-      (Told.Granted
-        (new_grant layout (closed_len (closed_file block.file m.tree)) block slot server m.next_lease sources m))
+-- the changes of a recovery or move: a lease on the file, and a grant under it
+unfoldable pub lease_and_grant : ℕ → BlockId → ℕ → ℕ → ℕ → List Change
+lease_and_grant lease block slot server actor =
+    GiveLease actor block.file ∷ GrantSlot block slot server actor lease ∷ []
+
+-- a slot of a closed file is granted on a server, under the next lease
+unfoldable pub grant_leased : Shape → ℕ → BlockId → ℕ → NineCopies → MetaImage → ℕ → Decision
+grant_leased layout actor block slot sources m server =
+    let len : ℕ = closed_len (closed_file block.file m.tree) in
+    Makes (lease_and_grant m.next_lease block slot server actor)
+    (Told.Granted (new_grant layout len block slot server m.next_lease sources m))
 
 -- the same on the server that is chosen, which has no other copy of the block
 unfoldable pub grant_chosen : Shape → ℕ → BlockId → ℕ → NineCopies → MetaImage → Decision
 grant_chosen layout actor block slot sources m =
-    need (Told.NoServer block slot)
-      (λ server. grant_leased layout actor block slot server sources m)
-      (choose (census m.servers m.slots) (barred_for_block m.servers m.slots block))
+    need (Told.NoServer block slot) (grant_leased layout actor block slot sources m)
+    (choose (census m.servers m.slots) (barred_for_block m.servers m.slots block))
 
 -- a recovery reads the listed copies of the other slots
 unfoldable pub grant_recovery : Shape → ℕ → BlockId → ℕ → MetaImage → Decision

@@ -1,9 +1,10 @@
 -- The requests that grant the move of a copy to another server: a given one, the one that an
 -- evacuation chooses, or one that has fewer copies.
-use Rattle.std.specs.Prelude.{ℕ, ◌+◌, nat_lt, nat_le, Bool, not, ◌&&◌, List, [], find, Option, Some, None}
+use Rattle.std.specs.Prelude.{ℕ, ◌+◌, nat_lt, nat_le, Bool, not, ◌&&◌, List, [], find, Option}
 use Rattle.std.specs.List.{reduce}
 use Rattle.qfs_base.specs.declared.chunk.BlockId.{BlockId}
 use Rattle.qfs_base.specs.declared.chunk.Copy.{Copy}
+use Rattle.qfs_base.specs.declared.image.Grant.{Grant}
 use Rattle.qfs_base.specs.declared.image.MetaImage.{MetaImage}
 use Rattle.qfs_base.specs.declared.image.ServerView.{ServerView}
 use Rattle.qfs_base.specs.declared.image.SlotRecord.{SlotRecord}
@@ -30,61 +31,68 @@ unfoldable pub may_get : List ServerView → List SlotRow → BlockId → ℕ �
 may_get servers slots block server =
     takes_chunks (server_at servers server) && not (is_barred servers slots block server)
 
--- a copy is to move to a given server
+-- a current copy is to move to a given server, or refused
+unfoldable pub move_copy : Shape → ℕ → BlockId → ℕ → ℕ → MetaImage → Option Grant → Copy → Decision
+move_copy layout actor block slot to m pending copy =
+    refuse (pending_refusal pending)
+    (unless (is_listed m.servers copy) (Told.Away copy.server)
+    (unless (may_get m.servers m.slots block to) (Told.Barred to)
+    (grant_leased layout actor block slot (one_source slot copy) m to)))
+
+-- the current copy of a slot of a file is to move to a given server
 unfoldable pub decide_move : Shape → ℕ → PathNames → ℕ → ℕ → ℕ → MetaImage → Decision
 decide_move layout actor path index slot to m =
     let block : BlockId = record { file = (row_at m.tree path).file; index = index } in
     let state : SlotRecord = slot_at m.slots block slot in
     refuse_path (look_refusal (standing m.tree) path)
-      (unless (nat_lt index (block_count layout (row_at m.tree path).len)) Told.NoBlock
-        (need Told.NoBlock
-          (λ (copy : Copy).
-            refuse (pending_refusal state.grant)
-              (unless (is_listed m.servers copy) (Told.Away copy.server)
-                (unless (may_get m.servers m.slots block to) (Told.Barred to)
-                  (grant_leased layout actor block slot to (one_source slot copy) m))))
-          state.current))
+    (unless (nat_lt index (block_count layout (row_at m.tree path).len)) Told.NoBlock
+    (need Told.NoBlock (move_copy layout actor block slot to m state.grant) state.current))
 
--- the first slot behind another whose copy is live on a server, and isn't being moved already
-unfoldable pub next_on : Shape → ℕ → Option SlotId → MetaImage → Option SlotRow
-next_on layout server after m =
-    find
-      (λ (row : SlotRow).
-        is_behind after row && is_at_rest layout m.tree row && is_live_on m.servers server row.state.current)
-      m.slots
+-- whether a slot's copy is live on a server, and isn't being recovered or moved already
+unfoldable pub is_to_move : Shape → ℕ → MetaImage → SlotRow → Bool
+is_to_move layout server m row =
+    is_at_rest layout m.tree row && is_live_on m.servers server row.state.current
 
--- the next copy on a server is to move to a server that is chosen
+-- the first such slot behind another
+unfoldable pub next_to_move : Shape → ℕ → Option SlotId → MetaImage → Option SlotRow
+next_to_move layout server after m =
+    find (λ (row : SlotRow). is_behind after row && is_to_move layout server m row) m.slots
+
+-- a slot's copy is to move to a server that is chosen
+unfoldable pub evacuate_slot : Shape → ℕ → MetaImage → SlotRow → Decision
+evacuate_slot layout actor m row =
+    grant_chosen layout actor row.block row.slot (move_source row.slot row.state.current) m
+
+-- the next copy on a server is to move away
 unfoldable pub decide_evacuate : Shape → ℕ → ℕ → Option SlotId → MetaImage → Decision
 decide_evacuate layout actor server after m =
-    need Told.Nothing
-      (λ (row : SlotRow).
-        grant_chosen layout actor row.block row.slot (move_source row.slot row.state.current) m)
-      (next_on layout server after m)
+    need Told.Nothing (evacuate_slot layout actor m) (next_to_move layout server after m)
 
--- the first slot whose copy is live on one server and whose block has no copy on another
-unfoldable pub next_to_even : Shape → ℕ → ℕ → MetaImage → Option SlotRow
-next_to_even layout giver taker m =
-    find
-      (λ (row : SlotRow).
-        is_at_rest layout m.tree row
-          && is_live_on m.servers giver row.state.current
-          && not (is_barred m.servers m.slots row.block taker))
-      m.slots
+-- whether a slot's copy may move from one server to another
+unfoldable pub fits_move : Shape → ℕ → ℕ → MetaImage → SlotRow → Bool
+fits_move layout giver taker m row =
+    is_to_move layout giver m row && not (is_barred m.servers m.slots row.block taker)
 
--- a copy is to move from one server to another, if that makes their loads more even
-unfoldable pub even_out : Shape → ℕ → Numbered → Numbered → MetaImage → Decision
-even_out layout actor giver taker m =
+-- a slot's copy is to move to a given server
+unfoldable pub move_slot : Shape → ℕ → ℕ → MetaImage → SlotRow → Decision
+move_slot layout actor to m row =
+    grant_leased layout actor row.block row.slot (move_source row.slot row.state.current) m to
+
+-- the first copy that fits is to move from one server to another, if that makes their loads more even
+unfoldable pub even_out : Shape → ℕ → MetaImage → Numbered → Numbered → Decision
+even_out layout actor m giver taker =
     unless (nat_le (taker.1.count + 2) giver.1.count) Told.Nothing
-      (need Told.Nothing
-        (λ (row : SlotRow).
-          grant_leased layout actor row.block row.slot taker.0 (move_source row.slot row.state.current) m)
-        (next_to_even layout giver.0 taker.0 m))
+    (need Told.Nothing (move_slot layout actor taker.0 m)
+    (find (fits_move layout giver.0 taker.0 m) m.slots))
 
--- of the servers that take chunks, the one with the highest load gives to the one with the lowest,
--- and among equals each is the one with the smallest number
+-- the server with the highest load gives to the one with the lowest
+unfoldable pub give_to_lightest : Shape → ℕ → MetaImage → List Numbered → Numbered → Decision
+give_to_lightest layout actor m takers giver =
+    need Told.Nothing (even_out layout actor m giver) (reduce lighter takers)
+
+-- the servers that take chunks are made more even; among equals each is the one with the smallest
+-- number
 unfoldable pub decide_balance : Shape → ℕ → MetaImage → Decision
 decide_balance layout actor m =
     let takers : List Numbered = open_servers [] (census m.servers m.slots) in
-    need Told.Nothing
-      (λ giver. need Told.Nothing (λ taker. even_out layout actor giver taker m) (reduce lighter takers))
-      (reduce heavier takers)
+    need Told.Nothing (give_to_lightest layout actor m takers) (reduce heavier takers)

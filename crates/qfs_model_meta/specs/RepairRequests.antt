@@ -1,5 +1,5 @@
 -- The requests that grant the recovery of a missing slot.
-use Rattle.std.specs.Prelude.{ℕ, nat_lt, Bool, true, false, not, ◌&&◌, ◌||◌, List, find, Option, Some, None}
+use Rattle.std.specs.Prelude.{ℕ, nat_lt, Bool, true, not, ◌&&◌, ◌||◌, List, find, Option, Some, None}
 use Rattle.qfs_base.specs.declared.chunk.BlockId.{BlockId}
 use Rattle.qfs_base.specs.declared.chunk.Copy.{Copy}
 use Rattle.qfs_base.specs.declared.image.MetaImage.{MetaImage}
@@ -34,22 +34,26 @@ decide_recover layout actor path index slot m =
     let block : BlockId = record { file = (row_at m.tree path).file; index = index } in
     let state : SlotRecord = slot_at m.slots block slot in
     refuse_path (look_refusal (standing m.tree) path)
-      (unless (nat_lt index (block_count layout (row_at m.tree path).len)) Told.NoBlock
-        (refuse (pending_refusal state.grant)
-          (unless (is_missing m.clock m.servers state.current) Told.Whole
-            (grant_recovery layout actor block slot m))))
+    (unless (nat_lt index (block_count layout (row_at m.tree path).len)) Told.NoBlock
+    (refuse (pending_refusal state.grant)
+    (unless (is_missing m.clock m.servers state.current) Told.Whole
+    (grant_recovery layout actor block slot m))))
 
--- the first missing slot behind another that isn't being recovered or moved already
-unfoldable pub next_missing : Shape → Option SlotId → MetaImage → Option SlotRow
-next_missing layout after m =
-    find
-      (λ (row : SlotRow).
-        is_behind after row && is_at_rest layout m.tree row && is_missing m.clock m.servers row.state.current)
-      m.slots
+-- whether a slot is missing, and isn't being recovered or moved already
+unfoldable pub is_to_heal : Shape → MetaImage → SlotRow → Bool
+is_to_heal layout m row =
+    is_at_rest layout m.tree row && is_missing m.clock m.servers row.state.current
+
+-- the first such slot behind another
+unfoldable pub next_to_heal : Shape → Option SlotId → MetaImage → Option SlotRow
+next_to_heal layout after m =
+    find (λ (row : SlotRow). is_behind after row && is_to_heal layout m row) m.slots
+
+-- a slot is to be recovered
+unfoldable pub heal_slot : Shape → ℕ → MetaImage → SlotRow → Decision
+heal_slot layout actor m row = grant_recovery layout actor row.block row.slot m
 
 -- the next missing slot is to be recovered
 unfoldable pub decide_heal : Shape → ℕ → Option SlotId → MetaImage → Decision
 decide_heal layout actor after m =
-    need Told.Nothing
-      (λ (row : SlotRow). grant_recovery layout actor row.block row.slot m)
-      (next_missing layout after m)
+    need Told.Nothing (heal_slot layout actor m) (next_to_heal layout after m)

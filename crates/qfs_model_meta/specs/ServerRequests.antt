@@ -3,7 +3,7 @@ use Rattle.std.specs.Prelude.{ℕ, nat_le, List, [], ◌∷◌, length, map}
 use Rattle.qfs_base.specs.declared.chunk.ChunkKey.{ChunkKey}
 use Rattle.qfs_base.specs.declared.image.MetaImage.{MetaImage}
 use Rattle.qfs_base.specs.declared.reply.MetaReply.TheVariants as Told
-use Rattle.qfs_model_meta.specs.Change.{Change, ServerUp, ServerDown, ServerLeaves, ServerSleeps, ClockTicks, CondemnStray}
+use Rattle.qfs_model_meta.specs.Change.{ServerUp, ServerDown, ServerLeaves, ServerSleeps, ClockTicks, CondemnStray}
 use Rattle.qfs_model_meta.specs.Counters.{risen, last_u64}
 use Rattle.qfs_model_meta.specs.Decision.{Decision, Tells, Makes, unless}
 use Rattle.qfs_model_meta.specs.Servers.{server_at, reading_after}
@@ -13,7 +13,7 @@ use Rattle.qfs_model_meta.specs.Slots.{count_on}
 unfoldable pub decide_hello : ℕ → ℕ → List ChunkKey → MetaImage → Decision
 decide_hello server life keys m =
     unless (nat_le (server_at m.servers server).life life) (Told.Old (server_at m.servers server).life)
-      (Makes (ServerUp server life ∷ map (CondemnStray server life) keys) (Told.Done (length m.history)))
+    (Makes (ServerUp server life ∷ map (CondemnStray server life) keys) (Told.Done (length m.history)))
 
 -- a server went down
 unfoldable pub decide_bye : ℕ → MetaImage → Decision
@@ -28,7 +28,7 @@ unfoldable pub decide_hibernate : ℕ → ℕ → MetaImage → Decision
 decide_hibernate server ticks m =
     let until : ℕ = reading_after m.clock ticks in
     unless (server_at m.servers server).up Told.NotUp
-      (Makes (ServerSleeps server until ∷ []) (Told.Until until))
+    (Makes (ServerSleeps server until ∷ []) (Told.Until until))
 
 -- the clock goes on by one
 unfoldable pub decide_tick : MetaImage → Decision

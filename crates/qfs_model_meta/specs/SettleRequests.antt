@@ -5,6 +5,7 @@ use Rattle.qfs_base.specs.declared.chunk.BlockId.{BlockId}
 use Rattle.qfs_base.specs.declared.image.Grant.{Grant}
 use Rattle.qfs_base.specs.declared.image.Lease.{Lease}
 use Rattle.qfs_base.specs.declared.image.MetaImage.{MetaImage}
+use Rattle.qfs_base.specs.declared.image.TreeRow.{TreeRow}
 use Rattle.qfs_base.specs.declared.reply.MetaReply.TheVariants as Told
 use Rattle.qfs_model_meta.specs.Change.{Change, EndLease, ConfirmSlot, GiveUp}
 use Rattle.qfs_model_meta.specs.Decision.{Decision, Makes, unless}
@@ -26,16 +27,20 @@ pending_version grant = option_map (λ (g : Grant). g.copy.version) grant
 unfoldable pub end_own_lease : ℕ → ℕ → List Lease → List Change
 end_own_lease actor lease leases = cond (holds_lease actor lease leases) (EndLease lease ∷ []) []
 
+-- whether a slot of a closed file has this actor's grant pending
+unfoldable pub may_confirm : ℕ → ℕ → ℕ → Option TreeRow → Option Grant → Bool
+may_confirm actor version lease closed pending =
+    is_some closed && is_own_grant actor version lease pending
+
 -- a grant is confirmed, where its file still stands
 unfoldable pub confirm_grant : ℕ → BlockId → ℕ → ℕ → ℕ → MetaImage → Bool → Decision
 confirm_grant actor block slot version lease m false =
     Makes (end_own_lease actor lease m.leases) Told.Vanished
 confirm_grant actor block slot version lease m true =
     let pending : Option Grant = (slot_at m.slots block slot).grant in
-    unless
-      (is_some (closed_file block.file m.tree) && is_own_grant actor version lease pending)
-      (Told.Stale (pending_version pending) version)
-      (Makes (EndLease lease ∷ ConfirmSlot block slot ∷ []) Told.Confirmed)
+    unless (may_confirm actor version lease (closed_file block.file m.tree) pending)
+    (Told.Stale (pending_version pending) version)
+    (Makes (EndLease lease ∷ ConfirmSlot block slot ∷ []) Told.Confirmed)
 
 -- the granted copy of a recovery or move becomes current
 unfoldable pub decide_confirm : ℕ → BlockId → ℕ → ℕ → ℕ → MetaImage → Decision
@@ -47,10 +52,13 @@ unfoldable pub give_up_own : ℕ → BlockId → ℕ → ℕ → ℕ → Option 
 give_up_own actor block slot version lease pending =
     cond (is_own_grant actor version lease pending) (GiveUp block slot ∷ []) []
 
+-- the changes of a recovery or move that is given up
+unfoldable pub abandon_changes : ℕ → BlockId → ℕ → ℕ → ℕ → MetaImage → List Change
+abandon_changes actor block slot version lease m =
+    end_own_lease actor lease m.leases
+    ++ give_up_own actor block slot version lease (slot_at m.slots block slot).grant
+
 -- a recovery or move is given up
 unfoldable pub decide_abandon : ℕ → BlockId → ℕ → ℕ → ℕ → MetaImage → Decision
 decide_abandon actor block slot version lease m =
-    Makes
-      (end_own_lease actor lease m.leases
-        ++ give_up_own actor block slot version lease (slot_at m.slots block slot).grant)
-      (Told.Done (length m.history))
+    Makes (abandon_changes actor block slot version lease m) (Told.Done (length m.history))

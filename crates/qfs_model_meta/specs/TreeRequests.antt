@@ -14,13 +14,13 @@ use Rattle.qfs_model_meta.specs.TreeRows.{standing, row_at}
 unfoldable pub decide_mkdir : PathNames → MetaImage → Decision
 decide_mkdir path m =
     refuse_file (length m.history) (add_refusal (standing m.tree) path)
-      (Makes (AddDirectory path ∷ []) (Told.Done (length m.history)))
+    (Makes (AddDirectory path ∷ []) (Told.Done (length m.history)))
 
 -- an empty directory is taken away
 unfoldable pub decide_rmdir : PathNames → MetaImage → Decision
 decide_rmdir path m =
     refuse_file (length m.history) (rmdir_refusal (standing m.tree) path)
-      (Makes (TakeDirectory path ∷ []) (Told.Done (length m.history)))
+    (Makes (TakeDirectory path ∷ []) (Told.Done (length m.history)))
 
 -- the changes that take a closed file away: its copies are condemned by index and slot first
 unfoldable pub remove_changes : PathNames → ℕ → List SlotRow → List Change
@@ -31,16 +31,16 @@ remove_changes path file slots =
 unfoldable pub decide_remove : PathNames → MetaImage → Decision
 decide_remove path m =
     refuse_file (length m.history) (look_refusal (standing m.tree) path)
-      (Makes (remove_changes path (row_at m.tree path).file m.slots) (Told.Done (length m.history)))
+    (Makes (remove_changes path (row_at m.tree path).file m.slots) (Told.Done (length m.history)))
 
 -- a file or directory is moved, with everything below it
 unfoldable pub decide_rename : PathNames → PathNames → MetaImage → Decision
 decide_rename from to m =
     refuse_file (length m.history) (rename_refusal (standing m.tree) from to)
-      (Makes (MovePath from to ∷ []) (Told.Done (length m.history)))
+    (Makes (MovePath from to ∷ []) (Told.Done (length m.history)))
 
 -- a directory is listed: nothing changes
 unfoldable pub decide_list : PathNames → MetaImage → Decision
 decide_list path m =
     refuse_file (length m.history) (directory_refusal (standing m.tree) path)
-      (Tells (Told.Names (length m.history) (names_below (standing m.tree) path)))
+    (Tells (Told.Names (length m.history) (names_below (standing m.tree) path)))

@@ -60,17 +60,22 @@ is_unclosed_row row = is_unclosed (kind_of row.file row.closed)
 unfoldable pub is_closed_row : TreeRow → Bool
 is_closed_row row = is_closed (kind_of row.file row.closed)
 
+-- whether a row is an actor's unclosed file
+unfoldable pub is_unclosed_of : ℕ → TreeRow → Bool
+is_unclosed_of actor row = is_unclosed_row row && (row.actor == actor)
+
 -- a file that an actor made and hasn't closed
 unfoldable pub unclosed_file : ℕ → ℕ → List TreeRow → Option TreeRow
 unclosed_file actor file tree =
-    find (λ (row : TreeRow). is_unclosed_row row && has_file file row && (row.actor == actor)) tree
+    find (λ (row : TreeRow). is_unclosed_of actor row && has_file file row) tree
+
+-- the numbers of these rows' files, rising
+unfoldable pub rising_files : List TreeRow → List ℕ
+rising_files rows = place_all nat_cmp (map (λ (row : TreeRow). row.file) rows) []
 
 -- the files that an actor hasn't closed, by number
 unfoldable pub unclosed_files : ℕ → List TreeRow → List ℕ
-unclosed_files actor tree =
-    place_all nat_cmp
-      (map (λ (row : TreeRow). row.file) (filter (λ (row : TreeRow). is_unclosed_row row && (row.actor == actor)) tree))
-      []
+unclosed_files actor tree = rising_files (filter (is_unclosed_of actor) tree)
 
 -- a closed file
 unfoldable pub closed_file : ℕ → List TreeRow → Option TreeRow

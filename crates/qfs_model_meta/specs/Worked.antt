@@ -1,5 +1,5 @@
 -- What the worked runs of the metaserver are made of: paths, requests and their replies.
-use Rattle.std.specs.Prelude.{ℕ, ◌+◌, Bool, true, false, List, [], ◌∷◌, ◌++◌, map, replicate, slice_set, codes, Option, Some, None}
+use Rattle.std.specs.Prelude.{ℕ, ◌+◌, false, List, [], ◌∷◌, ◌++◌, map, replicate, slice_set, codes, Option, Some, None}
 use Rattle.std.specs.List.{range_with_len}
 use Rattle.qfs_base.specs.declared.chunk.BlockId.{BlockId}
 use Rattle.qfs_base.specs.declared.chunk.Copy.{Copy}
@@ -99,16 +99,16 @@ only slot copy = slice_set (replicate 9 None) slot (Some copy)
 -- a grant of a slot of a file's first block, on a server in its first life, without sources
 abbrev pub grant_on : ℕ → ℕ → ℕ → ℕ → Granted
 grant_on file slot server version =
-    record
-      { block = first_block file
-      ; slot = slot
-      ; version = version
-      ; server = server
-      ; life = 1
-      ; lease = 0
-      ; sources = replicate 9 None
-      ; rows = 1
-      }
+    record {
+      block = first_block file;
+      slot = slot;
+      version = version;
+      server = server;
+      life = 1;
+      lease = 0;
+      sources = replicate 9 None;
+      rows = 1;
+    }
 
 -- a grant under a lease, with its sources
 abbrev pub leased_on : Granted → ℕ → List (Option Copy) → Granted
