@@ -375,3 +375,127 @@ sweep_on-steps (suc budget) after erased =
 sweep_work-steps : (budget : ℕ) → AsksAtMost (budget * 3) (sweep_work budget)
 unfolding sweep_work
 sweep_work-steps budget = sweep_on-steps budget 0 0
+
+-- ---- servers and the metaserver as a whole
+
+after_bye-steps : (n : ℕ) (a : MetaReply) → AsksAtMost n (after_bye a)
+unfolding after_bye
+after_bye-steps n (Said.Done place) = tt
+after_bye-steps n answer = tt
+
+after_stop-steps : (server : ℕ) (a : ChunkAnswer) → AsksAtMost 1 (after_stop server a)
+unfolding after_stop
+after_stop-steps server Did.Stopped = ask-nothing-steps 0 _ after_bye (after_bye-steps 0)
+after_stop-steps server answer = tt
+
+stop_work-steps : (server : ℕ) → AsksAtMost 2 (stop_work server)
+unfolding stop_work
+stop_work-steps server = ask_server-nothing-steps 1 server _ (after_stop server) (after_stop-steps server)
+
+after_hello-steps : (n : ℕ) (report : Report) (a : MetaReply) → AsksAtMost n (after_hello report a)
+unfolding after_hello
+after_hello-steps n report (Said.Done place) = tt
+after_hello-steps n report (Said.Old known) = tt
+after_hello-steps n report answer = tt
+
+after_inventory-steps : (server : ℕ) (report : Report) (a : ChunkAnswer) → AsksAtMost 1 (after_inventory server report a)
+unfolding after_inventory
+after_inventory-steps server report (Did.Inventory life keys) =
+    ask-nothing-steps 0 _ (after_hello report) (after_hello-steps 0 report)
+after_inventory-steps server report Did.Down = tt
+after_inventory-steps server report answer = tt
+
+tell_copies-steps : (server : ℕ) (report : Report) → AsksAtMost 2 (tell_copies server report)
+unfolding tell_copies
+tell_copies-steps server report =
+    ask_server-nothing-steps 1 server _ (after_inventory server report) (after_inventory-steps server report)
+
+after_start-steps : (server : ℕ) (a : ChunkAnswer) → AsksAtMost 2 (after_start server a)
+unfolding after_start
+after_start-steps server (Did.Started life) = tell_copies-steps server _
+after_start-steps server Did.Fault = tt
+after_start-steps server answer = tt
+
+start_work-steps : (server : ℕ) → AsksAtMost 3 (start_work server)
+unfolding start_work
+start_work-steps server = ask_server-nothing-steps 2 server _ (after_start server) (after_start-steps server)
+
+after_wipe-steps : (server : ℕ) (a : ChunkAnswer) → AsksAtMost 2 (after_wipe server a)
+unfolding after_wipe
+after_wipe-steps server (Did.Wiped life) = tell_copies-steps server _
+after_wipe-steps server Did.Fault = tt
+after_wipe-steps server answer = tt
+
+wipe_work-steps : (server : ℕ) → AsksAtMost 3 (wipe_work server)
+unfolding wipe_work
+wipe_work-steps server = ask_server-nothing-steps 2 server _ (after_wipe server) (after_wipe-steps server)
+
+after_rest-steps : (n until : ℕ) (a : ChunkAnswer) → AsksAtMost n (after_rest until a)
+unfolding after_rest
+after_rest-steps n until Did.Stopped = tt
+after_rest-steps n until answer = tt
+
+after_hibernate-steps : (server : ℕ) (a : MetaReply) → AsksAtMost 1 (after_hibernate server a)
+unfolding after_hibernate
+after_hibernate-steps server (Said.Until clock) =
+    ask_server-nothing-steps 0 server _ (after_rest clock) (after_rest-steps 0 clock)
+after_hibernate-steps server Said.NotUp = tt
+after_hibernate-steps server answer = tt
+
+hibernate_work-steps : (server ticks : ℕ) → AsksAtMost 2 (hibernate_work server ticks)
+unfolding hibernate_work
+hibernate_work-steps server ticks =
+    ask-nothing-steps 1 _ (after_hibernate server) (after_hibernate-steps server)
+
+ticked-steps : (n : ℕ) (a : MetaReply) → AsksAtMost n (ticked a)
+unfolding ticked
+ticked-steps n (Said.Clock now) = tt
+ticked-steps n answer = tt
+
+dropped-steps : (n : ℕ) (a : MetaReply) → AsksAtMost n (dropped a)
+unfolding dropped
+dropped-steps n (Said.Done place) = tt
+dropped-steps n answer = tt
+
+saved-steps : (n : ℕ) (a : MetaReply) → AsksAtMost n (saved a)
+unfolding saved
+saved-steps n (Said.Saved turn) = tt
+saved-steps n answer = tt
+
+restarted-steps : (n : ℕ) (a : MetaReply) → AsksAtMost n (restarted a)
+unfolding restarted
+restarted-steps n (Said.Restarted turn) = tt
+restarted-steps n answer = tt
+
+-- ---- all commands
+
+file_work-steps : (layout : Shape) (number : ℕ) (command : FileCommand)
+    → AsksAtMost (most_file_steps layout command) (file_work layout number command)
+unfolding file_work most_file_steps
+file_work-steps layout number (File.Mkdir path) = change_work-steps _
+file_work-steps layout number (File.Rmdir path) = change_work-steps _
+file_work-steps layout number (File.Remove path) = change_work-steps _
+file_work-steps layout number (File.Rename from to) = change_work-steps _
+file_work-steps layout number (File.List path) = list_work-steps path
+file_work-steps layout number (File.Put path recipe) = put_work-steps layout number path (bytes_of recipe)
+file_work-steps layout number (File.Get path range) = get_work-steps layout path range
+
+-- no command asks more than its bound
+pub work_of-steps : (layout : Shape) (number : ℕ) (command : Command)
+    → AsksAtMost (most_steps layout command) (work_of layout number command)
+unfolding work_of most_steps tick_work drop_work checkpoint_work restart_work
+work_of-steps layout number (Does.File command) = file_work-steps layout number command
+work_of-steps layout number (Does.Recover path index slot) = recover_work-steps layout path index slot
+work_of-steps layout number (Does.Move path index slot server) = move_work-steps layout path index slot server
+work_of-steps layout number (Does.Heal budget) = heal_work-steps layout budget
+work_of-steps layout number (Does.Rebalance budget) = rebalance_work-steps layout budget
+work_of-steps layout number (Does.Evacuate server budget) = evacuate_work-steps layout server budget
+work_of-steps layout number (Does.Sweep budget) = sweep_work-steps budget
+work_of-steps layout number (Does.Stop server) = stop_work-steps server
+work_of-steps layout number (Does.Start server) = start_work-steps server
+work_of-steps layout number (Does.Wipe server) = wipe_work-steps server
+work_of-steps layout number (Does.Hibernate server ticks) = hibernate_work-steps server ticks
+work_of-steps layout number Does.Tick = ask-nothing-steps 0 _ ticked (ticked-steps 0)
+work_of-steps layout number (Does.Drop actor) = ask-nothing-steps 0 _ dropped (dropped-steps 0)
+work_of-steps layout number Does.Checkpoint = ask-nothing-steps 0 _ saved (saved-steps 0)
+work_of-steps layout number Does.Restart = ask-nothing-steps 0 _ restarted (restarted-steps 0)
