@@ -1,5 +1,5 @@
 -- A map as the list of its entries in the order of their keys, and what its calls do to that list.
-use Rattle.std.specs.Prelude.{◌≡◌, Bool, List, [], ◌∷◌, Option, is_some}
+use Rattle.std.specs.Prelude.{Bool, List, Option, is_some}
 use Rattle.std.specs.declared.cmp.Ordering.{Ordering}
 use Rattle.std.specs.Ordering.{is_eq}
 use Rattle.std.specs.BTreeMap.{insert_entry}

@@ -6,7 +6,7 @@ pub mod chunk;
 pub mod key_map;
 pub mod listing;
 mod listing_compared;
-#[cfg(test)]
-mod listing_tests;
 pub mod numbers;
 pub mod server_set;
+#[cfg(test)]
+mod tests;
