@@ -3,10 +3,20 @@
 #![tactic(auto)]
 
 pub mod chunk;
+pub mod command;
+pub mod history;
+pub mod image;
 pub mod key_map;
+pub mod layout;
 pub mod listing;
 mod listing_compared;
+pub mod lists;
 pub mod numbers;
+pub mod path;
+pub mod recipe;
+pub mod reply;
+pub mod request;
+pub mod script;
 pub mod server_set;
 #[cfg(test)]
 mod tests;

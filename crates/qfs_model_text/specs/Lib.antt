@@ -1,0 +1,6 @@
+pub mod Line
+pub mod Reply
+pub mod History
+pub mod Order
+pub mod Output
+pub mod Examples

@@ -1,0 +1,8 @@
+//! The layout of files: which block, row and slot each byte stands in, and the windows of rows in
+//! which a range is read.
+#![tactic(auto)]
+
+mod layout;
+
+pub use layout::LayoutCalls;
+pub use qfs_base::layout::{Layout, Spot, Window};
