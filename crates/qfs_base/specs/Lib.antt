@@ -1,5 +1,7 @@
 pub mod KeyMap
+pub mod KeyMapLaws
 pub mod Key
+pub mod KeyLaws
 pub mod Layout
 pub mod Path
 pub mod Recipe

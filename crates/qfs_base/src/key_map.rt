@@ -25,6 +25,11 @@ impl<K: Ord, V> Model for KeyMap<K, V> {
     ghost coded = { coded_list (coded× K.code V.code) };
 
     ghost view = { λ it. it.map.entries };
+
+    ghost use Rattle.std.specs.List.Sorted.{IsStrictlySortedBy};
+    ghost use Rattle.std.specs.Map.{keys_of};
+
+    ghost invariant = { λ it. IsStrictlySortedBy K.cmp (keys_of it.map.entries) };
 }
 
 impl<K: Ord, V> KeyMap<K, V> {
