@@ -1,5 +1,7 @@
 pub mod Key
+pub mod KeyLaws
 pub mod KeyMap
+pub mod KeyMapLaws
 pub mod Layout
 pub mod NameTree
 pub mod NumberSet
