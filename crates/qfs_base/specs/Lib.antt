@@ -1,3 +1,4 @@
+pub mod Files
 pub mod Key
 pub mod KeyLaws
 pub mod KeyMap
