@@ -3,3 +3,4 @@ pub mod Steps
 pub mod StepsOfPut
 pub mod StepsOfReads
 pub mod StepsOfCommands
+pub mod Left

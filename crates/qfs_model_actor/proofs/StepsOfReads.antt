@@ -107,7 +107,7 @@ div_ceil-least a b q p h =
   suc_times q b = grind arith
 
 -- rounded up, no quotient is more than what is divided
-div_ceil-le_self : (a b : ℕ) → div_ceil a b ≤ a
+pub div_ceil-le_self : (a b : ℕ) → div_ceil a b ≤ a
 div_ceil-le_self a zero = omega (arith, div-zero a, mod-zero a)
 div_ceil-le_self a (suc b) = omega (arith, div-add-mod' a (suc b), mul-suc (a / suc b) b)
 
