@@ -18,7 +18,7 @@ use Rattle.qfs_base.specs.declared.reply.MetaReply.{MetaReply}
 use Rattle.qfs_base.specs.declared.reply.MetaReply.TheVariants as Said
 use Rattle.qfs_base.specs.declared.reply.Opened.{Opened}
 use Rattle.qfs_base.specs.Recipe.{bytes_of}
-use Rattle.qfs_model_slot.specs.CodeWord.{SLOTS}
+use Rattle.qfs_model_slot.specs.Slots.{SLOTS}
 use Rattle.qfs_model_actor.specs.Work.{Report, Work, ends}
 use Rattle.qfs_model_actor.specs.Hold.{Hold, nothing, opened, granted}
 use Rattle.qfs_model_actor.specs.Grants.{MOST_ROWS, if_meant, is_in_range, with_proper, with_source, source_of}

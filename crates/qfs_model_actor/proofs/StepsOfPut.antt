@@ -7,7 +7,7 @@ use Rattle.qfs_base.specs.Shape.{Shape}
 use Rattle.qfs_base.specs.declared.reply.Granted.{Granted}
 use Rattle.qfs_base.specs.declared.reply.MetaReply.{MetaReply}
 use Rattle.qfs_base.specs.declared.reply.MetaReply.TheVariants as Said
-use Rattle.qfs_model_slot.specs.CodeWord.{SLOTS, all_slots}
+use Rattle.qfs_model_slot.specs.Slots.{SLOTS, all_slots}
 use Rattle.qfs_model_actor.specs.Work.{Report, Work, ends, asks, for_each}
 use Rattle.qfs_model_actor.specs.Hold.{Hold, nothing, unclosed}
 use Rattle.qfs_model_actor.specs.Tree.{refused, changed, listed, change_work, list_work}

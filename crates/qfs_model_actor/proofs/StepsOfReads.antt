@@ -11,7 +11,7 @@ use Rattle.qfs_base.specs.declared.chunk.Copy.{Copy}
 use Rattle.qfs_base.specs.declared.layout.Window.{Window}
 use Rattle.qfs_base.specs.declared.lists.Cause.{Cause}
 use Rattle.qfs_base.specs.declared.lists.SlotCause.{SlotCause}
-use Rattle.qfs_model_slot.specs.CodeWord.{SLOTS, all_slots}
+use Rattle.qfs_model_slot.specs.Slots.{SLOTS, all_slots}
 use Rattle.qfs_model_actor.specs.Work.{Report, Work}
 use Rattle.qfs_model_actor.specs.Windows.{WINDOW_ROWS, window_at, windows_of_rows, blocks_touched, windows_touched}
 use Rattle.qfs_model_actor.specs.Pieces.{Piece}

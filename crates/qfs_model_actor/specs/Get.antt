@@ -1,5 +1,5 @@
 -- A get: OpenFile; the Fetches of its range; Release. The lease is released where the command ends early.
-use Rattle.std.specs.Prelude.{ℕ, ◌+◌, ◌==◌, ◌&&◌, Bool, true, false, List, [], ◌∷◌, min, length, Option, Some, None, slice_get, unwrap_or, nat_le, nat_lt}
+use Rattle.std.specs.Prelude.{ℕ, ◌+◌, ◌*◌, ◌==◌, ◌&&◌, Bool, true, false, List, [], ◌∷◌, min, length, Option, Some, None, slice_get, unwrap_or, nat_le, nat_lt}
 use Rattle.qfs_base.specs.Layout.{blocks_of}
 use Rattle.qfs_base.specs.Shape.{Shape}
 use Rattle.qfs_base.specs.declared.chunk.Copy.{Copy}
@@ -28,7 +28,7 @@ reading_of layout o from to k =
       hold = opened o.lease;
       block = record { file = o.file; index = k };
       stripe = layout.s;
-      kept = λ w pieces. cut_to_range from to (window_offset layout w) (rows_of_file layout.s w.rows (data_of pieces));
+      kept = λ w pieces. cut_to_range from to (window_offset layout w) (rows_of_file layout.s w.rows (data_of (w.rows * layout.s) pieces));
       too_few = λ causes. end_with (opened o.lease) (Report.ReadTooFew o.place k causes);
     }
 

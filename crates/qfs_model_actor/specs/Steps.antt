@@ -9,7 +9,7 @@ use Rattle.qfs_base.specs.declared.command.FileCommand.{FileCommand}
 use Rattle.qfs_base.specs.declared.command.FileCommand.TheVariants as File
 use Rattle.qfs_base.specs.declared.reply.NodeReply.{NodeReply}
 use Rattle.qfs_base.specs.declared.request.NodeRequest.{NodeRequest}
-use Rattle.qfs_model_slot.specs.CodeWord.{SLOTS}
+use Rattle.qfs_model_slot.specs.Slots.{SLOTS}
 use Rattle.qfs_model_actor.specs.Work.{Work, ends, asks}
 use Rattle.qfs_model_actor.specs.Put.{MOST_GRANTS}
 use Rattle.qfs_model_actor.specs.Get.{MOST_BYTES}

@@ -7,13 +7,15 @@ ghost use Rattle.qfs_base.specs.declared.command.Command.{Command};
 ghost use Rattle.qfs_base.specs.declared.reply.NodeReply.{NodeReply};
 ghost use Rattle.qfs_model_actor.specs.Actor.{Actor, starting, request_of, has_finished, after_reply};
 ghost use Rattle.qfs_model_actor.specs.Command.{work_of};
-ghost use Rattle.qfs_model_actor.specs.Examples.{FileIsPutAndRead, TooFewAnswer, ActorEnds};
+ghost use Rattle.qfs_model_actor.specs.Examples.{FileIsPutAndRead, DegradedGet, TooFewAnswer, ActorEnds};
 ghost use Rattle.qfs_model_actor.specs.MoreExamples.{ServersFailAndChunksMove};
 ghost use Rattle.qfs_model_actor.specs.Steps.{AsksAtMost, IsInRange, most_steps, left};
 
-/// Five bytes are put by 20 requests and read by 8, and a get that finds four servers down says so.
+/// Five bytes are put by 20 requests and read by 8. A get that finds two servers down reads two
+/// parity slots in their place, and one that finds four down says so.
 pub fn five_bytes_are_put_and_read()
     ensures put_and_read { FileIsPutAndRead }
+    ensures degraded { DegradedGet }
     ensures too_few { TooFewAnswer }
     ensures actor { ActorEnds }
 {

@@ -1,3 +1,4 @@
-pub mod CodeWord
+pub mod Slots
 pub mod Slot
 pub mod Examples
+pub mod Standin
