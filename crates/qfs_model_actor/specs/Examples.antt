@@ -122,15 +122,15 @@ get_exchanges =
 abbrev pub degraded_exchanges : List Exchange
 degraded_exchanges =
     opens
-        ∷ fetches 0 Did.Down zeros
-        ∷ fetches 1 Did.Down zeros
-        ∷ fetches 2 Did.Fetched zeros
-        ∷ fetches 3 Did.Fetched zeros
-        ∷ fetches 4 Did.Fetched zeros
-        ∷ fetches 5 Did.Fetched zeros
-        ∷ fetches 6 Did.Fetched with_five
-        ∷ fetches 7 Did.Fetched with_five
-        ∷ releases ∷ []
+    ∷ fetches 0 Did.Down zeros
+    ∷ fetches 1 Did.Down zeros
+    ∷ fetches 2 Did.Fetched zeros
+    ∷ fetches 3 Did.Fetched zeros
+    ∷ fetches 4 Did.Fetched zeros
+    ∷ fetches 5 Did.Fetched zeros
+    ∷ fetches 6 Did.Fetched with_five
+    ∷ fetches 7 Did.Fetched with_five
+    ∷ releases ∷ []
 
 -- servers 1, 4, 8 and 9 are down, and so too few slots answer
 abbrev pub too_few_exchanges : List Exchange

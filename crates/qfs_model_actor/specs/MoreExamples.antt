@@ -80,17 +80,17 @@ all_but_first = None ∷ map (λ server. Some (record { server = server; life = 
 abbrev pub ChunkIsRecovered : Type 0
 ChunkIsRecovered =
     Goes (work_of small 1 (Does.Recover path_a 0 0))
-        (meta (Ask.RecoverAt path_a 0 0) (Said.Granted (first_slot_on 10 2 7 all_but_first))
-            ∷ fetches 1 Did.Fetched zeros
-            ∷ fetches 2 Did.Fetched zeros
-            ∷ fetches 3 Did.Fetched zeros
-            ∷ fetches 4 Did.Fetched zeros
-            ∷ fetches 5 Did.Fetched zeros
-            ∷ fetches 6 Did.Fetched with_five
-            ∷ serve 10 (Serve.Put (record { block = block; slot = 0; version = 2 }) 1 with_five) Did.Stored []
-            ∷ meta (Ask.Confirm block 0 2 7) Said.Confirmed
-            ∷ [])
-        (Report.Recovered block 0 10 2)
+    (meta (Ask.RecoverAt path_a 0 0) (Said.Granted (first_slot_on 10 2 7 all_but_first))
+    ∷ fetches 1 Did.Fetched zeros
+    ∷ fetches 2 Did.Fetched zeros
+    ∷ fetches 3 Did.Fetched zeros
+    ∷ fetches 4 Did.Fetched zeros
+    ∷ fetches 5 Did.Fetched zeros
+    ∷ fetches 6 Did.Fetched with_five
+    ∷ serve 10 (Serve.Put (record { block = block; slot = 0; version = 2 }) 1 with_five) Did.Stored []
+    ∷ meta (Ask.Confirm block 0 2 7) Said.Confirmed
+    ∷ [])
+    (Report.Recovered block 0 10 2)
 
 -- of two condemned copies one is on a server that is down
 abbrev pub condemned : ℕ → ℕ → Condemned

@@ -38,13 +38,13 @@ unfoldable pub recover_slot : Shape → Work → (Report → Work) → Granted �
 recover_slot layout done failed g = with_proper (λ g. restore_chunk layout done failed g) g
 
 -- the report of a slot that was recovered
-abbrev pub recovered : Granted → Report
-recovered g = Report.Recovered g.block g.slot g.server g.version
+abbrev pub recovery_report : Granted → Report
+recovery_report g = Report.Recovered g.block g.slot g.server g.version
 
 -- the recovery of a slot was granted or refused
 unfoldable pub after_recover_at : Shape → ℕ → ℕ → MetaReply → Work
 after_recover_at layout index slot (Said.Granted g) =
-    with_grant_of index slot (λ g. recover_slot layout (ends (recovered g)) ends g) g
+    with_grant_of index slot (λ g. recover_slot layout (ends (recovery_report g)) ends g) g
 after_recover_at layout index slot (Said.BadPath refusal) = ends (Report.BadPath refusal)
 after_recover_at layout index slot Said.NoBlock = ends Report.NoBlock
 after_recover_at layout index slot (Said.Taken version) = ends (Report.Taken version)

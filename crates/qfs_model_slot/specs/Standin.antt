@@ -1,5 +1,5 @@
 -- stand-in for the definitions of the mask and the code, to be dropped when those crates are there
-use Rattle.std.specs.Prelude.{◌≡◌, ℕ, ◌+◌, ◌-◌, ◌*◌, ◌<◌, Bool, cond, not, ◌&&◌, ◌||◌, ltb, ◌==◌, List, [], ◌∷◌, ◌++◌, map, find, Option, unwrap_or, bit_xor, slice_index, slice_index_or}
+use Rattle.std.specs.Prelude.{ℕ, ◌+◌, ◌-◌, ◌*◌, Bool, cond, not, ◌&&◌, ◌||◌, ltb, ◌==◌, List, [], ◌∷◌, map, find, Option, unwrap_or, bit_xor, slice_index, slice_index_or}
 use Rattle.std.specs.List.{range_with_len, list_any}
 use Rattle.qfs_galois.specs.Field.{product, power, inverse}
 
