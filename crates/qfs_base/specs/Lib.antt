@@ -1,8 +1,11 @@
-pub mod KeyMap
 pub mod Key
+pub mod KeyMap
 pub mod Layout
+pub mod NameTree
+pub mod NumberSet
+pub mod NumberSetLaws
+pub mod Outcome
 pub mod Path
 pub mod Recipe
 pub mod Shape
-pub mod NumberSet
-pub mod NumberSetLaws
+pub mod Table
