@@ -4,4 +4,3 @@ pub mod StepsOfPut
 pub mod StepsOfReads
 pub mod StepsOfCommands
 pub mod Left
-pub mod Works

@@ -1,10 +1,13 @@
 -- Each command asks a bounded number of requests.
-use Rattle.std.proofs.Common.{ℕ, zero, suc, ◌+◌, ◌*◌, ◌≤◌, Bool, true, false, List, [], ◌∷◌, length, arith}
+use Rattle.std.proofs.Common.{◌≡◌, ℕ, zero, suc, ◌+◌, ◌-◌, ◌*◌, ◌<◌, ◌≤◌, Bool, true, false, List, [], ◌∷◌, ◌++◌, length, Option, Some, None, Ok, Err, arith, subst}
+use Rattle.qfs_base.specs.Shape.{Shape}
 use Rattle.qfs_base.specs.declared.chunk.BlockId.{BlockId}
 use Rattle.qfs_base.specs.declared.chunk.Copy.{Copy}
+use Rattle.qfs_base.specs.declared.layout.Window.{Window}
 use Rattle.qfs_base.specs.declared.lists.Cause.{Cause}
 use Rattle.qfs_base.specs.declared.reply.ChunkAnswer.{ChunkAnswer}
 use Rattle.qfs_base.specs.declared.reply.ChunkAnswer.TheVariants as Did
+use Rattle.qfs_base.specs.declared.reply.Granted.{Granted}
 use Rattle.qfs_base.specs.declared.reply.MetaReply.{MetaReply}
 use Rattle.qfs_base.specs.declared.reply.MetaReply.TheVariants as Said
 use Rattle.qfs_base.specs.declared.reply.NodeReply.{NodeReply}
@@ -12,8 +15,8 @@ use Rattle.qfs_base.specs.declared.reply.NodeReply.TheVariants as From
 use Rattle.qfs_base.specs.declared.request.ChunkRequest.{ChunkRequest}
 use Rattle.qfs_base.specs.declared.request.MetaRequest.{MetaRequest}
 use Rattle.qfs_model_actor.specs.Work.{Report, Work, ends, asks, for_each}
-use Rattle.qfs_model_actor.specs.Hold.{Hold, nothing, unclosed, opened, granted, on_answer, on_meta, ask_or, after_give_back, after_release, give_back, end_with}
-use Rattle.qfs_model_actor.specs.Ask.{ask, on_served, on_chunk, ask_server, after_store, if_filled, after_fetch, fetch}
+use Rattle.qfs_model_actor.specs.Hold.{Hold, nothing, unclosed, opened, granted, on_answer, on_meta, ask_or, was_given_back, was_released, give_back, end_with}
+use Rattle.qfs_model_actor.specs.Ask.{ask, on_served, on_chunk, ask_server, after_store, filled, after_fetch, fetch}
 use Rattle.qfs_model_actor.specs.Steps.{AsksAtMost}
 
 -- who asks at most n requests asks at most m
@@ -40,24 +43,24 @@ unfolding ask_or on_meta
 ask_or-steps n give_up request next g h =
     elim [ From.Meta answer ↦ on_answer-steps n give_up next g h answer | From.Chunk answer ↦ tt ]
 
-pub after_give_back-steps : (n : ℕ) (next : Work) → AsksAtMost n next → (a : MetaReply) → AsksAtMost n (after_give_back next a)
-unfolding after_give_back
-after_give_back-steps n next h (Said.Done place) = h
-after_give_back-steps n next h answer = tt
+pub was_given_back-steps : (n : ℕ) (next : Work) → AsksAtMost n next → (a : MetaReply) → AsksAtMost n (was_given_back next a)
+unfolding was_given_back
+was_given_back-steps n next h (Said.Done place) = h
+was_given_back-steps n next h answer = tt
 
-after_release-steps : (n : ℕ) (next : Work) → AsksAtMost n next → (a : MetaReply) → AsksAtMost n (after_release next a)
-unfolding after_release
-after_release-steps n next h (Said.Done place) = h
-after_release-steps n next h Said.Gone = h
-after_release-steps n next h answer = tt
+was_released-steps : (n : ℕ) (next : Work) → AsksAtMost n next → (a : MetaReply) → AsksAtMost n (was_released next a)
+unfolding was_released
+was_released-steps n next h (Said.Done place) = h
+was_released-steps n next h Said.Gone = h
+was_released-steps n next h answer = tt
 
 -- one request gives back what is held
 pub give_back-steps : (n : ℕ) (next : Work) (hold : Hold) → AsksAtMost n next → AsksAtMost (suc n) (give_back next hold)
 unfolding give_back
 give_back-steps n next nothing h = more_steps next n (suc n) (omega arith) h
-give_back-steps n next (unclosed file) h = ask_or-steps n ends _ _ (λ r. tt) (after_give_back-steps n next h)
-give_back-steps n next (opened lease) h = ask_or-steps n ends _ _ (λ r. tt) (after_release-steps n next h)
-give_back-steps n next (granted g) h = ask_or-steps n ends _ _ (λ r. tt) (after_give_back-steps n next h)
+give_back-steps n next (unclosed file) h = ask_or-steps n ends _ _ (λ r. tt) (was_given_back-steps n next h)
+give_back-steps n next (opened lease) h = ask_or-steps n ends _ _ (λ r. tt) (was_released-steps n next h)
+give_back-steps n next (granted g) h = ask_or-steps n ends _ _ (λ r. tt) (was_given_back-steps n next h)
 
 pub end_with-steps : (n : ℕ) (hold : Hold) (r : Report) → AsksAtMost (suc n) (end_with hold r)
 unfolding end_with
@@ -113,17 +116,17 @@ after_store-steps n stored failed s f (Did.Lost asked now) = f _
 after_store-steps n stored failed s f Did.Fault = f _
 after_store-steps n stored failed s f answer = tt
 
-if_filled-steps : (n : ℕ) (fetched : List ℕ → Work) (room : List ℕ) → AsksAtMost n (fetched room)
-    → (b : Bool) → AsksAtMost n (if_filled fetched room b)
-unfolding if_filled
-if_filled-steps n fetched room h true = h
-if_filled-steps n fetched room h false = tt
+filled-steps : (n : ℕ) (fetched : List ℕ → Work) (room : List ℕ) → AsksAtMost n (fetched room)
+    → (b : Bool) → AsksAtMost n (filled fetched room b)
+unfolding filled
+filled-steps n fetched room h true = h
+filled-steps n fetched room h false = tt
 
 after_fetch-steps : (n len : ℕ) (fetched : List ℕ → Work) (failed : Cause → Work)
     → ((room : List ℕ) → AsksAtMost n (fetched room)) → ((c : Cause) → AsksAtMost n (failed c))
     → (room : List ℕ) (a : ChunkAnswer) → AsksAtMost n (after_fetch len fetched failed room a)
 unfolding after_fetch
-after_fetch-steps n len fetched failed s f room Did.Fetched = if_filled-steps n fetched room (s room) _
+after_fetch-steps n len fetched failed s f room Did.Fetched = filled-steps n fetched room (s room) _
 after_fetch-steps n len fetched failed s f room Did.Down = f _
 after_fetch-steps n len fetched failed s f room (Did.Lost asked now) = f _
 after_fetch-steps n len fetched failed s f room Did.Absent = f _
@@ -136,7 +139,7 @@ pub fetch-steps : (n : ℕ) (hold : Hold) (block : BlockId) (slot from len : ℕ
 unfolding fetch
 fetch-steps n hold block slot from len fetched failed s f copy =
     on_chunk-steps (suc n) hold (after_fetch len fetched failed) (end_with-steps n hold)
-    (after_fetch-steps (suc n) len fetched failed s f)
+        (after_fetch-steps (suc n) len fetched failed s f)
 
 -- pieces of work that ask at most k requests each ask at most k times as many
 pub for_each-steps : {X : Type 0} (k : ℕ) (step : X → Work → Work)
@@ -148,4 +151,4 @@ for_each-steps k step h (x ∷ xs) rest n a =
     let m = length xs * k in
     let behind = more_steps (for_each step xs rest) (m + suc n) (suc (m + n)) (omega arith) (for_each-steps k step h xs rest n a) in
     more_steps (step x (for_each step xs rest)) (k + suc (m + n)) (length (x ∷ xs) * k + suc n) (grind arith)
-    (h x (for_each step xs rest) (m + n) behind)
+        (h x (for_each step xs rest) (m + n) behind)

@@ -49,13 +49,13 @@ after_store stored failed Did.Fault = failed Because.Fault
 after_store stored failed answer = unnamed
 
 -- a room of the asked length was filled, and no other counts
-unfoldable pub if_filled : (List ℕ → Work) → List ℕ → Bool → Work
-if_filled fetched room true = fetched room
-if_filled fetched room false = unnamed
+unfoldable pub filled : (List ℕ → Work) → List ℕ → Bool → Work
+filled fetched room true = fetched room
+filled fetched room false = unnamed
 
 -- bytes of a copy were fetched, or it failed for a cause
 unfoldable pub after_fetch : ℕ → (List ℕ → Work) → (Cause → Work) → List ℕ → ChunkAnswer → Work
-after_fetch len fetched failed room Did.Fetched = if_filled fetched room (length room == len)
+after_fetch len fetched failed room Did.Fetched = filled fetched room (length room == len)
 after_fetch len fetched failed room Did.Down = failed Because.Down
 after_fetch len fetched failed room (Did.Lost asked now) = failed (Because.Lost asked now)
 after_fetch len fetched failed room Did.Absent = failed Because.Absent

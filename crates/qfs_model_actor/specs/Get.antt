@@ -1,5 +1,5 @@
 -- A get: OpenFile; the Fetches of its range; Release. The lease is released where the command ends early.
-use Rattle.std.specs.Prelude.{ℕ, ◌+◌, ◌*◌, ◌==◌, ◌&&◌, Bool, true, false, List, [], ◌∷◌, min, length, Option, Some, None, slice_get, unwrap_or, nat_le, nat_lt}
+use Rattle.std.specs.Prelude.{ℕ, ◌+◌, ◌==◌, ◌&&◌, Bool, true, false, List, [], ◌∷◌, min, length, Option, Some, None, slice_get, unwrap_or, nat_le, nat_lt}
 use Rattle.qfs_base.specs.Layout.{blocks_of}
 use Rattle.qfs_base.specs.Shape.{Shape}
 use Rattle.qfs_base.specs.declared.chunk.Copy.{Copy}
@@ -12,7 +12,7 @@ use Rattle.qfs_base.specs.declared.request.MetaRequest.TheVariants as Ask
 use Rattle.qfs_model_actor.specs.Work.{Work}
 use Rattle.qfs_model_actor.specs.Hold.{nothing, opened, unnamed, end_with}
 use Rattle.qfs_model_actor.specs.Ask.{ask}
-use Rattle.qfs_model_actor.specs.Tree.{after_refusal}
+use Rattle.qfs_model_actor.specs.Tree.{refused}
 use Rattle.qfs_model_actor.specs.Pieces.{data_of, rows_of_file}
 use Rattle.qfs_model_actor.specs.Windows.{blocks_touched, windows_touched, window_offset, cut_to_range}
 use Rattle.qfs_model_actor.specs.Read.{Reading, read_block}
@@ -28,7 +28,7 @@ reading_of layout o from to k =
       hold = opened o.lease;
       block = record { file = o.file; index = k };
       stripe = layout.s;
-      kept = λ w pieces. cut_to_range from to (window_offset layout w) (rows_of_file layout.s w.rows (data_of (w.rows * layout.s) pieces));
+      kept = λ w pieces. cut_to_range from to (window_offset layout w) (rows_of_file layout.s w.rows (data_of pieces));
       too_few = λ causes. end_with (opened o.lease) (Report.ReadTooFew o.place k causes);
     }
 
@@ -62,9 +62,9 @@ read_if_whole layout range o true = read_range layout o range
 read_if_whole layout range o false = unnamed
 
 -- the file is open
-unfoldable pub after_open : Shape → Range → MetaReply → Work
-after_open layout range (Said.Opened o) = read_if_whole layout range o (is_whole layout o)
-after_open layout range answer = after_refusal answer
+unfoldable pub was_opened : Shape → Range → MetaReply → Work
+was_opened layout range (Said.Opened o) = read_if_whole layout range o (is_whole layout o)
+was_opened layout range answer = refused answer
 
 -- without a range the whole file is wanted
 unfoldable pub range_of : Option Range → Range
@@ -72,4 +72,4 @@ range_of (Some range) = range
 range_of None = record { from = 0; count = MOST_BYTES }
 
 unfoldable pub get_work : Shape → List (List ℕ) → Option Range → Work
-get_work layout path range = ask nothing (Ask.OpenFile path) (after_open layout (range_of range))
+get_work layout path range = ask nothing (Ask.OpenFile path) (was_opened layout (range_of range))

@@ -41,21 +41,21 @@ unfoldable pub ask_or : (Report → Work) → MetaRequest → (MetaReply → Wor
 ask_or give_up request next = asks (To.Meta request) (on_meta give_up next)
 
 -- what was held is given back by this answer; the lease of a get may be gone
-unfoldable pub after_give_back : Work → MetaReply → Work
-after_give_back next (Said.Done place) = next
-after_give_back next answer = unnamed
+unfoldable pub was_given_back : Work → MetaReply → Work
+was_given_back next (Said.Done place) = next
+was_given_back next answer = unnamed
 
-unfoldable pub after_release : Work → MetaReply → Work
-after_release next (Said.Done place) = next
-after_release next Said.Gone = next
-after_release next answer = unnamed
+unfoldable pub was_released : Work → MetaReply → Work
+was_released next (Said.Done place) = next
+was_released next Said.Gone = next
+was_released next answer = unnamed
 
 -- gives back what is held, and goes on
 unfoldable pub give_back : Work → Hold → Work
 give_back next nothing = next
-give_back next (unclosed file) = ask_or ends (Ask.Abort file) (after_give_back next)
-give_back next (opened lease) = ask_or ends (Ask.Release lease) (after_release next)
-give_back next (granted g) = ask_or ends (Ask.Abandon g.block g.slot g.version g.lease) (after_give_back next)
+give_back next (unclosed file) = ask_or ends (Ask.Abort file) (was_given_back next)
+give_back next (opened lease) = ask_or ends (Ask.Release lease) (was_released next)
+give_back next (granted g) = ask_or ends (Ask.Abandon g.block g.slot g.version g.lease) (was_given_back next)
 
 -- gives back what is held, and ends
 unfoldable pub end_with : Hold → Report → Work

@@ -20,3 +20,4 @@ pub mod Shown
 pub mod Steps
 pub mod Examples
 pub mod MoreExamples
+pub mod Standin

@@ -37,13 +37,13 @@ move_slot layout done failed g =
     with_proper (λ g. with_source (λ source. copy_chunk layout (done source) failed g source) (source_of g)) g
 
 -- the report of a slot that was moved
-abbrev pub move_report : Granted → Copy → Report
-move_report g source = Report.Moved g.block g.slot source.server g.server g.version
+abbrev pub moved : Granted → Copy → Report
+moved g source = Report.Moved g.block g.slot source.server g.server g.version
 
 -- the move of a slot was granted or refused
 unfoldable pub after_move_at : Shape → ℕ → ℕ → MetaReply → Work
 after_move_at layout index slot (Said.Granted g) =
-    with_grant_of index slot (λ g. move_slot layout (λ source. ends (move_report g source)) ends g) g
+    with_grant_of index slot (λ g. move_slot layout (λ source. ends (moved g source)) ends g) g
 after_move_at layout index slot (Said.BadPath refusal) = ends (Report.BadPath refusal)
 after_move_at layout index slot Said.NoBlock = ends Report.NoBlock
 after_move_at layout index slot (Said.Taken version) = ends (Report.Taken version)
@@ -84,13 +84,13 @@ abbrev pub one_not_moved : Leaving → Granted → Leaving
 one_not_moved so_far g = record so_far { after = Some (slot_of_grant g); failed = so_far.failed + 1 }
 
 -- the server has so many copies left
-unfoldable pub after_left_on : Leaving → MetaReply → Work
-after_left_on so_far (Said.Left count) = ends (Report.Evacuated so_far.moved so_far.failed count)
-after_left_on so_far answer = unnamed
+unfoldable pub evacuated : Leaving → MetaReply → Work
+evacuated so_far (Said.Left count) = ends (Report.Evacuated so_far.moved so_far.failed count)
+evacuated so_far answer = unnamed
 
 -- asks how many copies the server has left
 unfoldable pub count_left : ℕ → Leaving → Work
-count_left server so_far = ask nothing (Ask.LeftOn server) (after_left_on so_far)
+count_left server so_far = ask nothing (Ask.LeftOn server) (evacuated so_far)
 
 -- the next slot on the server was granted, or there is none, or no server for it
 unfoldable pub after_evac_next : Shape → ℕ → Leaving → (Leaving → Work) → MetaReply → Work

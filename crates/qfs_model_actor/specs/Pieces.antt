@@ -1,8 +1,8 @@
 -- What six of the nine slots of a block give in a window of rows.
 use Rattle.std.specs.Prelude.{ℕ, ◌*◌, ◌==◌, List, [], Option, Some, None, map, find, flat_map, take, drop}
 use Rattle.std.specs.List.{range_with_len}
-use Rattle.qfs_model_slot.specs.Slots.{data_slots, all_slots}
-use Rattle.qfs_model_slot.specs.Standin.{restored}
+use Rattle.qfs_model_slot.specs.CodeWord.{data_slots, all_slots}
+use Rattle.qfs_model_actor.specs.Standin.{restored}
 
 -- a slot with the bytes that it gave in a window
 pub record Piece : Type 0 where
@@ -17,21 +17,19 @@ abbrev pub bytes_in : Option Piece → List ℕ
 bytes_in None = []
 bytes_in (Some piece) = piece.bytes
 
--- the slots that gave their bytes
-abbrev pub slots_of : List Piece → List ℕ
-slots_of pieces = map (λ (piece : Piece). piece.slot) pieces
+-- the bytes of a slot, made anew from those of six
+unfoldable pub restored_slot : List Piece → ℕ → List ℕ
+restored_slot pieces slot =
+    restored (map (λ (piece : Piece). piece.slot) pieces) (map (λ j. bytes_in (piece_of pieces j)) all_slots) slot
 
--- the bytes of all nine slots, where they gave them
-abbrev pub nine_of : List Piece → List (List ℕ)
-nine_of pieces = map (λ slot. bytes_in (piece_of pieces slot)) all_slots
-
--- the len bytes of a slot: those that it gave, or else made anew from six others
-unfoldable pub bytes_of_slot : ℕ → List Piece → ℕ → List ℕ
-bytes_of_slot len pieces slot = restored (slots_of pieces) len (nine_of pieces) slot
+-- the bytes of a slot: those that it gave, or else made anew
+unfoldable pub given_or_restored : List Piece → ℕ → Option Piece → List ℕ
+given_or_restored pieces slot (Some piece) = piece.bytes
+given_or_restored pieces slot None = restored_slot pieces slot
 
 -- the bytes of each data slot
-unfoldable pub data_of : ℕ → List Piece → List (List ℕ)
-data_of len pieces = map (bytes_of_slot len pieces) data_slots
+unfoldable pub data_of : List Piece → List (List ℕ)
+data_of pieces = map (λ slot. given_or_restored pieces slot (piece_of pieces slot)) data_slots
 
 -- a row of the file: a stripe of s bytes from each data slot
 unfoldable pub row_of : ℕ → List (List ℕ) → ℕ → List ℕ

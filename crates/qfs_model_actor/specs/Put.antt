@@ -10,12 +10,12 @@ use Rattle.qfs_base.specs.declared.reply.MetaReply.{MetaReply}
 use Rattle.qfs_base.specs.declared.reply.MetaReply.TheVariants as Said
 use Rattle.qfs_base.specs.declared.request.ChunkRequest.TheVariants as Serve
 use Rattle.qfs_base.specs.declared.request.MetaRequest.TheVariants as Ask
-use Rattle.qfs_model_slot.specs.Slots.{SLOTS, all_slots}
+use Rattle.qfs_model_slot.specs.CodeWord.{SLOTS, all_slots}
 use Rattle.qfs_model_slot.specs.Slot.{slot_of}
 use Rattle.qfs_model_actor.specs.Work.{Work, ends, for_each}
 use Rattle.qfs_model_actor.specs.Hold.{nothing, unclosed, unnamed}
 use Rattle.qfs_model_actor.specs.Ask.{ask, ask_server, key_of, after_store}
-use Rattle.qfs_model_actor.specs.Tree.{after_refusal}
+use Rattle.qfs_model_actor.specs.Tree.{refused}
 use Rattle.qfs_model_actor.specs.Grants.{with_grant_of}
 
 -- how many grants of one slot a put takes
@@ -23,24 +23,24 @@ abbrev pub MOST_GRANTS : ℕ
 MOST_GRANTS = 64
 
 -- the file was given up for want of a server
-unfoldable pub after_abort : ℕ → ℕ → MetaReply → Work
-after_abort index slot (Said.Done place) = ends (Report.PutNoServer place index slot)
-after_abort index slot answer = unnamed
+unfoldable pub aborted : ℕ → ℕ → MetaReply → Work
+aborted index slot (Said.Done place) = ends (Report.PutNoServer place index slot)
+aborted index slot answer = unnamed
 
 -- a slot has a server, or none is left for it
-unfoldable pub after_grant : ℕ → ℕ → ℕ → (Granted → Work) → MetaReply → Work
-after_grant file index slot next (Said.Granted g) = with_grant_of index slot next g
-after_grant file index slot next (Said.NoServer block at) = ask nothing (Ask.Abort file) (after_abort index slot)
-after_grant file index slot next answer = unnamed
+unfoldable pub chosen : ℕ → ℕ → ℕ → (Granted → Work) → MetaReply → Work
+chosen file index slot next (Said.Granted g) = with_grant_of index slot next g
+chosen file index slot next (Said.NoServer block at) = ask nothing (Ask.Abort file) (aborted index slot)
+chosen file index slot next answer = unnamed
 
 -- asks for a server for a slot, `again` after one failed
 unfoldable pub ask_grant : ℕ → ℕ → ℕ → Bool → (Granted → Work) → Work
 ask_grant file index slot again next =
-    ask (unclosed file) (Ask.Grant file index slot again) (after_grant file index slot next)
+    ask (unclosed file) (Ask.Grant file index slot again) (chosen file index slot next)
 
 -- stores a slot on the server of its grant
-unfoldable pub store_as_granted : Shape → List ℕ → ℕ → ℕ → ℕ → Work → Work → Granted → Work
-store_as_granted layout bytes file index slot stored failed g =
+unfoldable pub store : Shape → List ℕ → ℕ → ℕ → ℕ → Work → Work → Granted → Work
+store layout bytes file index slot stored failed g =
     ask_server (unclosed file) g.server
     (Serve.Put (key_of (record { file = file; index = index }) slot g.version) g.life (slot_of layout bytes index slot))
     (after_store stored (λ cause. failed))
@@ -50,7 +50,7 @@ unfoldable pub store_slot : ℕ → Bool → Shape → List ℕ → ℕ → ℕ 
 store_slot zero again layout bytes file index slot rest = ask_grant file index slot again (λ g. unnamed)
 store_slot (suc grants) again layout bytes file index slot rest =
     ask_grant file index slot again
-    (λ g. store_as_granted layout bytes file index slot rest (store_slot grants true layout bytes file index slot rest) g)
+    (λ g. store layout bytes file index slot rest (store_slot grants true layout bytes file index slot rest) g)
 
 -- the slots of a block from this one on, and the blocks of a file of len bytes
 abbrev pub slots_from : ℕ → List ℕ
@@ -69,12 +69,12 @@ store_blocks layout bytes file blocks rest =
     for_each (λ index more. store_slots layout bytes file index all_slots more) blocks rest
 
 -- the file was closed
-unfoldable pub after_close : ℕ → MetaReply → Work
-after_close len (Said.Done place) = ends (Report.Stored place len)
-after_close len answer = unnamed
+unfoldable pub closed : ℕ → MetaReply → Work
+closed len (Said.Done place) = ends (Report.Stored place len)
+closed len answer = unnamed
 
 unfoldable pub close_file : ℕ → ℕ → Work
-close_file len file = ask (unclosed file) (Ask.Close file) (after_close len)
+close_file len file = ask (unclosed file) (Ask.Close file) (closed len)
 
 -- what is left of a put from block `index` on
 unfoldable pub put_blocks_from : Shape → List ℕ → ℕ → ℕ → Work
@@ -87,10 +87,10 @@ put_slots_from layout bytes file index slot =
     store_slots layout bytes file index (slots_from slot) (put_blocks_from layout bytes file (index + 1))
 
 -- the file is there
-unfoldable pub after_create : Shape → List ℕ → MetaReply → Work
-after_create layout bytes (Said.Created file place) = put_blocks_from layout bytes file 0
-after_create layout bytes answer = after_refusal answer
+unfoldable pub created : Shape → List ℕ → MetaReply → Work
+created layout bytes (Said.Created file place) = put_blocks_from layout bytes file 0
+created layout bytes answer = refused answer
 
 -- the put that is the actor's command of this number
 unfoldable pub put_work : Shape → ℕ → List (List ℕ) → List ℕ → Work
-put_work layout number path bytes = ask nothing (Ask.Create path number (length bytes)) (after_create layout bytes)
+put_work layout number path bytes = ask nothing (Ask.Create path number (length bytes)) (created layout bytes)

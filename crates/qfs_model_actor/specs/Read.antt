@@ -3,15 +3,15 @@ use Rattle.std.specs.Prelude.{ℕ, zero, suc, ◌*◌, Bool, true, false, List, 
 use Rattle.std.specs.List.{enumerate_from}
 use Rattle.qfs_base.specs.declared.chunk.BlockId.{BlockId}
 use Rattle.qfs_base.specs.declared.chunk.Copy.{Copy}
-use Rattle.qfs_base.specs.declared.layout.Window.{Window}
 use Rattle.qfs_base.specs.declared.lists.Cause.{Cause}
 use Rattle.qfs_base.specs.declared.lists.Cause.TheVariants as Because
 use Rattle.qfs_base.specs.declared.lists.SlotCause.{SlotCause}
-use Rattle.qfs_model_slot.specs.Slots.{DATA_SLOTS, all_slots}
+use Rattle.qfs_model_slot.specs.CodeWord.{DATA_SLOTS, all_slots}
 use Rattle.qfs_model_actor.specs.Work.{Work}
 use Rattle.qfs_model_actor.specs.Hold.{Hold}
 use Rattle.qfs_model_actor.specs.Ask.{fetch}
 use Rattle.qfs_model_actor.specs.Pieces.{Piece}
+use Rattle.qfs_base.specs.declared.layout.Window.{Window}
 
 -- where a slot can be read, or why it can't
 abbrev pub Source : Type 0
@@ -57,31 +57,25 @@ go_on_or_stop reading next sources false = next sources
 unfoldable pub with_enough : Reading → (List Source → Work) → List Source → Work
 with_enough reading next sources = go_on_or_stop reading next sources (are_too_few sources)
 
--- a slot fails for a cause, and the block goes on unless that leaves too few
-unfoldable pub after_failure : Reading → ℕ → (List Source → Work) → List Source → Cause → Work
-after_failure reading slot passed sources cause = with_enough reading passed (slice_set sources slot (Err cause))
+-- reads a slot where it can be read, and passes over it else
+unfoldable pub at_source : (Cause → Work) → (Copy → Work) → Option Source → Work
+at_source passed read (Some (Ok copy)) = read copy
+at_source passed read (Some (Err cause)) = passed cause
+at_source passed read None = passed Because.Unlisted
 
--- asks a slot for the rows of a window: it answers or fails, and it is passed over where it can't be read
-unfoldable pub ask_slot : Reading → Window → ℕ → (List Source → Work) → (List ℕ → Work) → List Source → Option Source → Work
-ask_slot reading w slot passed answered sources (Some (Ok copy)) =
-    fetch reading.hold reading.block slot (w.first_row * reading.stripe) (w.rows * reading.stripe)
-    answered (after_failure reading slot passed sources) copy
-ask_slot reading w slot passed answered sources (Some (Err cause)) = passed sources
-ask_slot reading w slot passed answered sources None = passed sources
-
--- a slot's bytes behind the pieces that there are
-abbrev pub with_piece : List Piece → ℕ → List ℕ → List Piece
-with_piece pieces slot bytes = pieces ++ record { slot = slot; bytes = bytes } ∷ []
-
--- asks one slot after another for the rows of a window, until so many more have answered
+-- asks for the rows of a window from one slot after another, until so many more have answered
 unfoldable pub read_slots : Reading → Window → ℕ → List ℕ → List Source → List Piece → (List Source → List Piece → Work) → Work
 read_slots reading w zero slots sources pieces next = next sources pieces
 read_slots reading w (suc wanted) [] sources pieces next = next sources pieces
 read_slots reading w (suc wanted) (slot ∷ slots) sources pieces next =
-    ask_slot reading w slot
+    at_source
+    (λ cause. read_slots reading w (suc wanted) slots sources pieces next)
+    (fetch reading.hold reading.block slot (w.first_row * reading.stripe) (w.rows * reading.stripe)
+    (λ room. read_slots reading w wanted slots sources (pieces ++ record { slot = slot; bytes = room } ∷ []) next)
+    (λ cause. with_enough reading
     (λ left. read_slots reading w (suc wanted) slots left pieces next)
-    (λ bytes. read_slots reading w wanted slots sources (with_piece pieces slot bytes) next)
-    sources (slice_get sources slot)
+    (slice_set sources slot (Err cause))))
+    (slice_get sources slot)
 
 -- reads these windows one after another, and keeps of each what is wanted
 unfoldable pub read_windows : Reading → List Window → List Source → List ℕ → (List ℕ → Work) → Work

@@ -1,5 +1,5 @@
 -- Recoveries: a missing chunk is made anew from six others of its block and stored on another server.
-use Rattle.std.specs.Prelude.{ℕ, zero, suc, ◌+◌, ◌*◌, List, [], Option, Some, None}
+use Rattle.std.specs.Prelude.{ℕ, zero, suc, ◌+◌, List, [], Option, Some, None}
 use Rattle.qfs_base.specs.Shape.{Shape}
 use Rattle.qfs_base.specs.declared.command.Reply.TheVariants as Report
 use Rattle.qfs_base.specs.declared.reply.Granted.{Granted}
@@ -13,7 +13,7 @@ use Rattle.qfs_model_actor.specs.Ask.{ask}
 use Rattle.qfs_model_actor.specs.Grants.{with_grant_of, with_proper, slot_of_grant}
 use Rattle.qfs_model_actor.specs.Windows.{windows_of_rows}
 use Rattle.qfs_model_actor.specs.Read.{Reading, read_block}
-use Rattle.qfs_model_actor.specs.Pieces.{bytes_of_slot}
+use Rattle.qfs_model_actor.specs.Pieces.{restored_slot}
 use Rattle.qfs_model_actor.specs.Repair.{store_granted, give_up}
 
 -- what a recovery reads: all rows of the block, of which it keeps the bytes of its own slot, made anew
@@ -23,7 +23,7 @@ reading_for layout failed g =
       hold = granted g;
       block = g.block;
       stripe = layout.s;
-      kept = λ w pieces. bytes_of_slot (w.rows * layout.s) pieces g.slot;
+      kept = λ w pieces. restored_slot pieces g.slot;
       too_few = λ causes. give_up failed g (Report.TooFew g.block.index causes);
     }
 
@@ -38,13 +38,13 @@ unfoldable pub recover_slot : Shape → Work → (Report → Work) → Granted �
 recover_slot layout done failed g = with_proper (λ g. restore_chunk layout done failed g) g
 
 -- the report of a slot that was recovered
-abbrev pub recovery_report : Granted → Report
-recovery_report g = Report.Recovered g.block g.slot g.server g.version
+abbrev pub recovered : Granted → Report
+recovered g = Report.Recovered g.block g.slot g.server g.version
 
 -- the recovery of a slot was granted or refused
 unfoldable pub after_recover_at : Shape → ℕ → ℕ → MetaReply → Work
 after_recover_at layout index slot (Said.Granted g) =
-    with_grant_of index slot (λ g. recover_slot layout (ends (recovery_report g)) ends g) g
+    with_grant_of index slot (λ g. recover_slot layout (ends (recovered g)) ends g) g
 after_recover_at layout index slot (Said.BadPath refusal) = ends (Report.BadPath refusal)
 after_recover_at layout index slot Said.NoBlock = ends Report.NoBlock
 after_recover_at layout index slot (Said.Taken version) = ends (Report.Taken version)

@@ -1,5 +1,5 @@
 -- How many requests a command asks at most, whatever the nodes answer.
-use Rattle.std.specs.Prelude.{ℕ, zero, suc, ◌+◌, ◌-◌, ◌*◌, ◌≤◌, length, drop, sum_by, Option, Some, None, ⊤}
+use Rattle.std.specs.Prelude.{ℕ, zero, suc, ◌+◌, ◌-◌, ◌*◌, ◌≤◌, List, length, drop, sum_by, Option, Some, None, ⊤}
 use Rattle.qfs_base.specs.Layout.{blocks_of}
 use Rattle.qfs_base.specs.Recipe.{IsRecipe, bytes_of}
 use Rattle.qfs_base.specs.Shape.{Shape}
@@ -9,7 +9,7 @@ use Rattle.qfs_base.specs.declared.command.FileCommand.{FileCommand}
 use Rattle.qfs_base.specs.declared.command.FileCommand.TheVariants as File
 use Rattle.qfs_base.specs.declared.reply.NodeReply.{NodeReply}
 use Rattle.qfs_base.specs.declared.request.NodeRequest.{NodeRequest}
-use Rattle.qfs_model_slot.specs.Slots.{SLOTS}
+use Rattle.qfs_model_slot.specs.CodeWord.{SLOTS}
 use Rattle.qfs_model_actor.specs.Work.{Work, ends, asks}
 use Rattle.qfs_model_actor.specs.Put.{MOST_GRANTS}
 use Rattle.qfs_model_actor.specs.Get.{MOST_BYTES}

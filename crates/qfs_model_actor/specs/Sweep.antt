@@ -9,12 +9,12 @@ use Rattle.qfs_base.specs.declared.reply.MetaReply.TheVariants as Said
 use Rattle.qfs_base.specs.declared.request.ChunkRequest.TheVariants as Serve
 use Rattle.qfs_base.specs.declared.request.MetaRequest.TheVariants as Ask
 use Rattle.qfs_model_actor.specs.Work.{Work, ends}
-use Rattle.qfs_model_actor.specs.Hold.{nothing, unnamed, after_give_back}
+use Rattle.qfs_model_actor.specs.Hold.{nothing, unnamed, was_given_back}
 use Rattle.qfs_model_actor.specs.Ask.{ask, ask_server, key_of}
 
 -- says that a copy is gone, and goes on
 unfoldable pub say_swept : ℕ → Work → Work
-say_swept number next = ask nothing (Ask.Swept number) (after_give_back next)
+say_swept number next = ask nothing (Ask.Swept number) (was_given_back next)
 
 -- a copy was deleted, or wasn't there, or it stays
 unfoldable pub after_erase : ℕ → ℕ → (ℕ → Work) → ChunkAnswer → Work

@@ -8,30 +8,30 @@ use Rattle.qfs_model_actor.specs.Work.{Work, ends}
 use Rattle.qfs_model_actor.specs.Hold.{nothing, unnamed}
 use Rattle.qfs_model_actor.specs.Ask.{ask}
 
-unfoldable pub after_tick : MetaReply → Work
-after_tick (Said.Clock now) = ends (Report.Clock now)
-after_tick answer = unnamed
+unfoldable pub ticked : MetaReply → Work
+ticked (Said.Clock now) = ends (Report.Clock now)
+ticked answer = unnamed
 
-unfoldable pub after_drop : MetaReply → Work
-after_drop (Said.Done place) = ends Report.DropDone
-after_drop answer = unnamed
+unfoldable pub dropped : MetaReply → Work
+dropped (Said.Done place) = ends Report.DropDone
+dropped answer = unnamed
 
-unfoldable pub after_checkpoint : MetaReply → Work
-after_checkpoint (Said.Saved turn) = ends (Report.Saved turn)
-after_checkpoint answer = unnamed
+unfoldable pub saved : MetaReply → Work
+saved (Said.Saved turn) = ends (Report.Saved turn)
+saved answer = unnamed
 
-unfoldable pub after_restart : MetaReply → Work
-after_restart (Said.Restarted turn) = ends (Report.Restarted turn)
-after_restart answer = unnamed
+unfoldable pub restarted : MetaReply → Work
+restarted (Said.Restarted turn) = ends (Report.Restarted turn)
+restarted answer = unnamed
 
 unfoldable pub tick_work : Work
-tick_work = ask nothing Ask.Tick after_tick
+tick_work = ask nothing Ask.Tick ticked
 
 unfoldable pub drop_work : ℕ → Work
-drop_work actor = ask nothing (Ask.Drop actor) after_drop
+drop_work actor = ask nothing (Ask.Drop actor) dropped
 
 unfoldable pub checkpoint_work : Work
-checkpoint_work = ask nothing Ask.Checkpoint after_checkpoint
+checkpoint_work = ask nothing Ask.Checkpoint saved
 
 unfoldable pub restart_work : Work
-restart_work = ask nothing Ask.Restart after_restart
+restart_work = ask nothing Ask.Restart restarted

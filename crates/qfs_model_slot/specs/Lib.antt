@@ -1,4 +1,3 @@
-pub mod Slots
+pub mod CodeWord
 pub mod Slot
 pub mod Examples
-pub mod Standin

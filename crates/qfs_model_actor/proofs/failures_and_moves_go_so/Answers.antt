@@ -8,7 +8,6 @@ returns c =
     record {
       no_server = record { requests = refl; end = refl };
       gives_up = record { requests = refl; end = refl };
-      recovered = record { requests = refl; end = refl };
       moves = record { requests = refl; end = refl };
       emptied = record { requests = refl; end = refl };
       swept = record { requests = refl; end = refl };
