@@ -1,5 +1,5 @@
 -- What an actor has left falls at each step.
-use Rattle.std.proofs.Common.{◌≡◌, ℕ, zero, suc, ◌+◌, ◌-◌, ◌<◌, ◌≤◌, Bool, true, false, List, [], ◌∷◌, ◌++◌, length, drop, Option, Some, None, arith, subst, sym, refl, ap, ◌∙◌, length-append}
+use Rattle.std.proofs.Common.{◌≡◌, ℕ, zero, suc, ◌+◌, ◌-◌, ◌<◌, ◌≤◌, List, [], ◌∷◌, ◌++◌, length, drop, Option, Some, None, arith, subst, sym, refl, ap, ◌∙◌, length-append}
 use Rattle.std.specs.Prelude.{All, ◌^◌, IsSome, IsTrue, slice_get, option_map, option_and_then, sum_by, ◌↔◌, is_none}
 use Rattle.std.proofs.lemmas.List.Sums.{sum_by-cons, sum_by-le}
 use Rattle.std.proofs.lemmas.List.FromFn.{length-map-range_with_len}
@@ -17,7 +17,7 @@ use Rattle.qfs_base.specs.declared.reply.MetaReply.TheVariants as Said
 use Rattle.qfs_base.specs.declared.reply.NodeReply.{NodeReply}
 use Rattle.qfs_base.specs.declared.reply.NodeReply.TheVariants as From
 use Rattle.qfs_base.specs.declared.request.NodeRequest.{NodeRequest}
-use Rattle.qfs_model_actor.specs.Work.{Report, Work, ends, asks, goes_on, follow, request_in}
+use Rattle.qfs_model_actor.specs.Work.{Work, ends, asks, goes_on, follow, request_in}
 use Rattle.qfs_model_actor.specs.Command.{work_of}
 use Rattle.qfs_model_actor.specs.Actor.{Actor, starting, present_command, work_left, request_of, has_finished, moved_on, after_reply}
 use Rattle.qfs_model_actor.specs.Get.{MOST_BYTES}
@@ -43,7 +43,7 @@ unfolding follow
 follow-steps [] n work h = more_steps work n (n - 0) (omega arith) h
 follow-steps (reply ∷ replies) n work h =
     more_steps (follow (goes_on work reply) replies) (n - 1 - length replies) (n - length (reply ∷ replies)) (omega arith)
-        (follow-steps replies (n - 1) (goes_on work reply) (goes_on-steps n work reply h))
+    (follow-steps replies (n - 1) (goes_on work reply) (goes_on-steps n work reply h))
 
 -- the sum from an item on is that item's and the sum behind it
 sum_from : (f : Command → ℕ) (xs : List Command) (i : ℕ) (x : Command) → slice_get xs i ≡ Some x
@@ -76,7 +76,7 @@ module _ (actor : Actor) (reply : NodeReply) where
       let next : Actor = record actor { ended = actor.ended ++ report ∷ []; heard = [] } in
       let len : length (actor.ended ++ report ∷ []) ≡ suc i = omega (arith, length-append actor.ended (report ∷ [])) in
       let same : sum_by f (drop (length (actor.ended ++ report ∷ [])) actor.commands) ≡ sum_by f (drop (suc i) actor.commands) =
-          ap (λ n. sum_by f (drop n actor.commands)) len in
+      ap (λ n. sum_by f (drop n actor.commands)) len in
       omega (arith, h, left-le next, same, sum_from f actor.commands i command e)
   moved_on-left command e h (asks request more) =
       let f = most_steps actor.layout in
@@ -96,9 +96,9 @@ module _ (actor : Actor) (reply : NodeReply) where
       let asked : request_of actor ≡ Some request = ap (option_and_then request_in) w in
       let ahead : left actor ≡ steps_ahead actor = ap (if_asking (steps_ahead actor)) asked in
       let enough : length actor.heard < most_steps actor.layout command =
-          omega (arith, asks_some (most_steps actor.layout command - length actor.heard) request next bound) in
+      omega (arith, asks_some (most_steps actor.layout command - length actor.heard) request next bound) in
       let after : after_reply actor reply ≡ moved_on actor reply (Some (next reply)) =
-          ap (λ work. moved_on actor reply (option_map (λ work. goes_on work reply) work)) w in
+      ap (λ work. moved_on actor reply (option_map (λ work. goes_on work reply) work)) w in
       let less = moved_on-left command e enough (next reply) in
       (omega (arith, ahead, less, ap left after), omega (arith, ahead, less))
 
@@ -111,11 +111,11 @@ module _ (actor : Actor) (reply : NodeReply) where
   at_command (Some command) e some =
       let rest = follow (work_of actor.layout (length actor.ended + 1) command) actor.heard in
       let w : work_left actor ≡ Some rest =
-          ap (option_map (λ command. follow (work_of actor.layout (length actor.ended + 1) command) actor.heard)) e in
+      ap (option_map (λ command. follow (work_of actor.layout (length actor.ended + 1) command) actor.heard)) e in
       at_work command e rest w
-          (follow-steps actor.heard (most_steps actor.layout command) (work_of actor.layout (length actor.ended + 1) command)
-              (work_of-steps actor.layout (length actor.ended + 1) command))
-          some
+      (follow-steps actor.heard (most_steps actor.layout command) (work_of actor.layout (length actor.ended + 1) command)
+      (work_of-steps actor.layout (length actor.ended + 1) command))
+      some
 
 -- a step lowers what is left
 pub left-falls : (actor : Actor) (reply : NodeReply) → IsSome (request_of actor) → left (after_reply actor reply) < left actor

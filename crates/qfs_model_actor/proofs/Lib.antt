@@ -4,3 +4,4 @@ pub mod StepsOfPut
 pub mod StepsOfReads
 pub mod StepsOfCommands
 pub mod Left
+pub mod Works

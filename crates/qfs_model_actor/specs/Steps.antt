@@ -1,5 +1,5 @@
 -- How many requests a command asks at most, whatever the nodes answer.
-use Rattle.std.specs.Prelude.{ℕ, zero, suc, ◌+◌, ◌-◌, ◌*◌, ◌≤◌, List, length, drop, sum_by, Option, Some, None, ⊤}
+use Rattle.std.specs.Prelude.{ℕ, zero, suc, ◌+◌, ◌-◌, ◌*◌, ◌≤◌, length, drop, sum_by, Option, Some, None, ⊤}
 use Rattle.qfs_base.specs.Layout.{blocks_of}
 use Rattle.qfs_base.specs.Recipe.{IsRecipe, bytes_of}
 use Rattle.qfs_base.specs.Shape.{Shape}
