@@ -1,5 +1,8 @@
+pub mod Files
 pub mod Key
+pub mod KeyLaws
 pub mod KeyMap
+pub mod KeyMapLaws
 pub mod Layout
 pub mod NameTree
 pub mod NumberSet

@@ -10,8 +10,6 @@ pub mod key_map;
 pub mod layout;
 pub mod listing;
 mod listing_compared;
-#[cfg(test)]
-mod listing_tests;
 pub mod lists;
 pub mod numbers;
 pub mod path;
@@ -20,3 +18,5 @@ pub mod reply;
 pub mod request;
 pub mod script;
 pub mod server_set;
+#[cfg(test)]
+mod tests;

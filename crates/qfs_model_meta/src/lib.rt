@@ -2,6 +2,10 @@
 //! here do nothing: their contracts say what the step computes in small runs.
 #![tactic(auto)]
 
+ghost use Rattle.std.specs.Prelude.{◌≤◌};
+ghost use Rattle.qfs_model_meta.specs.Past.{no_past};
+ghost use Rattle.qfs_model_meta.specs.Sound.{IsSound};
+ghost use Rattle.qfs_model_meta.specs.Step.{opening};
 ghost use Rattle.qfs_model_meta.specs.WorkedFiles.{PutAndGet, TreeRefusals, Renamed, Replaced};
 ghost use Rattle.qfs_model_meta.specs.WorkedRepairs.{Moved, Recovered, Evacuated, Hibernated, Regranted, Dropped, Balanced};
 
@@ -59,4 +63,11 @@ pub fn drops_an_actor()
 /// A server with two copies more than another gives it one.
 pub fn evens_the_loads()
     ensures { Balanced }
+{}
+
+/// A metaserver that starts with nothing keeps to what it told its actors: nothing yet.
+pub fn starts_sound(servers: u16)
+    requires some { 1 ≤ servers }
+    requires few { servers ≤ 64 }
+    ensures { IsSound no_past (opening servers) }
 {}
