@@ -1,13 +1,79 @@
-// A library with one function.
+//! The code of a block: six data slots, and three parity slots from which any three slots that are lost can be restored.
+//!
+//! A slot is a list of bytes. At each offset the nine bytes of the slots are a code word: with d0 to d5 the data bytes, the
+//! byte of parity slot 6 + e is the sum over i of 2^(e * i) times d_i, in the field of 256 elements. Neither call takes
+//! memory.
 #![tactic(auto)]
 
-ghost use Rattle.std.specs.Prelude.{◌≡◌};
-ghost use Rattle.qfs_code.specs.Echo.{echo_of};
+ghost use Rattle.std.specs.Prelude.{◌≡◌, ℕ, ◌+◌, ◌*◌, ◌<◌, ◌≤◌, List, ◌++◌, length, true};
+ghost use Rattle.qfs_base.specs.Mask.{has_slot};
+ghost use Rattle.qfs_code.specs.Code.{AreCodeWords, parity_slot, slot_at, slots_of};
+ghost use Rattle.qfs_code.specs.Restored.{restored};
 
-// The `ensures` clause is the contract: what `echo` returns is `echo_of` of its argument, a definition
-// in `specs/Echo.antt`, which a caller's clause can cite too.
-pub fn echo(x: usize) -> usize
-    ensures { result ≡ echo_of x }
+use crate::combine::combine;
+use crate::equation::{parity_row, weights};
+use qfs_base::Slot;
+use qfs_base::mask::Mask;
+
+mod combine;
+mod equation;
+
+/// Writes the three parity slots of six data slots.
+///
+/// `six` holds the data slots one after another, `size` bytes each, and `parity` takes the parity slots likewise.
+pub fn encode(six: &[u8], size: usize, parity: &mut [u8])
+    requires six { length six.now ≡ 6 * size }
+    requires parity { length parity.old ≡ 3 * size }
+    ensures parity {
+        (e : ℕ) → e < 3 → slot_at (slots_of 3 size parity.new) e ≡ parity_slot e size (slots_of 6 size six.now)
+    }
+    ensures words { AreCodeWords size (slots_of 6 size six.now ++ slots_of 3 size parity.new) }
 {
-    x
+    let (first, rest) = parity.split_at_mut(size);
+    let (second, third) = rest.split_at_mut(size);
+    combine(six, size, &parity_row(0), first);
+    combine(six, size, &parity_row(1), second);
+    combine(six, size, &parity_row(2), third);
+}
+
+/// Writes slot `want` of a block of which at least six slots are at hand.
+///
+/// `nine` holds the slots one after another, `size` bytes each; what stands in the place of a slot outside `have` has no
+/// influence. A slot at hand is copied.
+pub fn restore(have: Mask, nine: &[u8], size: usize, want: Slot, out: &mut [u8])
+    requires nine { length nine.now ≡ 9 * size }
+    requires out { length out.old ≡ size }
+    requires enough { 6 ≤ length have }
+    requires want { want < 9 }
+    ensures restored { out.new ≡ restored have size (slots_of 9 size nine.now) want }
+    ensures completes {
+        (slots : List (List ℕ)) → AreCodeWords size slots
+        → ((j : ℕ) → has_slot have j ≡ true → slot_at (slots_of 9 size nine.now) j ≡ slot_at slots j)
+        → out.new ≡ slot_at slots want
+    }
+{
+    if have.contains(want) {
+        let start = want as usize * size;
+        out.copy_from_slice(&nine[start..start + size]);
+    } else {
+        combine(nine, size, &weights(have, want), out);
+    }
+}
+
+#[cfg(test)]
+mod tests {
+    use super::*;
+
+    #[test]
+    fn one_data_byte(rt: HostRuntime) {
+        let mut six = [0; 96];
+        six[80] = 0x80;
+        let mut parity = [1; 48];
+        encode(&six, 16, &mut parity);
+        let mut expected = [0; 48];
+        expected[0] = 0x80;
+        expected[16] = 0xcd;
+        expected[32] = 0x98;
+        assert_eq!(rt; parity, expected);
+    }
 }

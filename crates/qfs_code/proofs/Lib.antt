@@ -1,0 +1,2 @@
+mod Dot
+mod Columns
