@@ -1,2 +1,4 @@
 mod Dot
 mod Columns
+mod Spares
+mod Counts

@@ -6,7 +6,7 @@
 ghost use Rattle.std.specs.Prelude.{◌≡◌, ◌<◌, ◌≤◌, length, false};
 ghost use Rattle.qfs_base.specs.Mask.{has_slot};
 ghost use Rattle.qfs_code.specs.Code.{parity_row};
-ghost use Rattle.qfs_code.specs.Restored.{combination, counts_of, equation, last_besides, left_out, weights, without_slots};
+ghost use Rattle.qfs_code.specs.Restored.{combination, counts_of, equation, is_spare, last_besides, left_out, weight, weights, without_slots};
 
 use crate::combine::dot;
 use qfs_base::mask::Mask;
@@ -35,15 +35,22 @@ pub fn weights(have: Mask, want: Slot) -> [u8; 9]
     let equation = equation(have, want);
     let mut weights = [0; 9];
     for slot in 0..SLOTS {
-        if have.contains(slot) {
-            weights[slot as usize] = dot(&equation, &counts_of(slot));
-        }
+        weights[slot as usize] = weight(have, &equation, slot);
     }
     weights
 }
 
+/// What a slot counts in the wanted one by its equation: nothing where it isn't at hand.
+#[tactic(auto, unfolding(crate::specs::Restored::weight))]
+fn weight(have: Mask, equation: &[u8; 3], slot: Slot) -> u8
+    requires { slot < 9 }
+    ensures { result ≡ weight have equation.now slot }
+{
+    if have.contains(slot) { dot(equation, &counts_of(slot)) } else { 0 }
+}
+
 /// The combination of the three equations in which slot `want` counts 1 and each other slot that isn't at hand counts 0.
-#[tactic(auto, unfolding(crate::specs::Restored::combination, crate::specs::Restored::equation, crate::specs::Restored::scaled_to, crate::specs::Restored::without_slots))]
+#[tactic(auto, unfolding(crate::specs::Restored::combination, crate::specs::Restored::equation, crate::specs::Restored::scaled_to, crate::specs::Restored::cross, crate::specs::Restored::without_slots))]
 fn equation(have: Mask, want: Slot) -> [u8; 3]
     requires enough { 6 ≤ length have }
     requires want { want < 9 }
@@ -57,7 +64,7 @@ fn equation(have: Mask, want: Slot) -> [u8; 3]
 }
 
 /// A combination of the three equations from which slots `b` and `c` drop out.
-#[tactic(auto, unfolding(crate::specs::Restored::counts_of, crate::specs::Restored::minor, crate::specs::Restored::without_slots))]
+#[tactic(auto, unfolding(crate::specs::Restored::minor, crate::specs::Restored::cross, crate::specs::Restored::without_slots))]
 fn without_slots(b: Slot, c: Slot) -> [u8; 3]
     requires b { b < 9 }
     requires c { c < 9 }
@@ -79,7 +86,7 @@ fn counts_of(slot: Slot) -> [u8; 3]
     ensures { result ≡ counts_of slot }
 {
     if slot < DATA_SLOTS {
-        [1, pow2(u32::from(slot)), pow2(u32::from(slot) * 2)]
+        [1, pow2(u32::from(slot)), pow2(2 * u32::from(slot))]
     } else {
         [u8::from(slot == 6), u8::from(slot == 7), u8::from(slot == 8)]
     }
@@ -92,17 +99,26 @@ fn left_out(have: Mask, want: Slot, other: Slot) -> Slot
     ensures slot { result < 9 }
 {
     for slot in 0..SLOTS {
-        if slot != want && slot != other && !have.contains(slot) {
+        if is_spare(have, want, other, slot) {
             return slot;
         }
     }
     last_besides(want, other)
 }
 
+/// Whether a slot is neither `want` nor `other`, and isn't at hand.
+#[tactic(auto, unfolding(crate::specs::Restored::is_spare))]
+fn is_spare(have: Mask, want: Slot, other: Slot, slot: Slot) -> bool
+    ensures { result ≡ is_spare have want other slot }
+{
+    slot != want && slot != other && !have.contains(slot)
+}
+
 /// The last slot that is neither `want` nor `other`.
 #[tactic(auto, unfolding(crate::specs::Restored::last_besides))]
 fn last_besides(want: Slot, other: Slot) -> Slot
-    ensures { result ≡ last_besides want other }
+    ensures value { result ≡ last_besides want other }
+    ensures slot { result < 9 }
 {
     if want != 8 && other != 8 {
         8
