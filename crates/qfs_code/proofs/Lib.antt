@@ -2,3 +2,7 @@ mod Dot
 mod Columns
 mod Spares
 mod Counts
+mod LeftOut
+mod Words
+mod WantedSlot
+mod Restoring

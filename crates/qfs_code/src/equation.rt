@@ -4,7 +4,7 @@
 //! is told by a combination in which it counts 1 and the others that aren't at hand count 0.
 
 ghost use Rattle.std.specs.Prelude.{◌≡◌, ◌<◌, ◌≤◌, length, false};
-ghost use Rattle.qfs_base.specs.Mask.{has_slot};
+ghost use Rattle.qfs_base.specs.Mask.{IsMask, has_slot};
 ghost use Rattle.qfs_code.specs.Code.{parity_row};
 ghost use Rattle.qfs_code.specs.Restored.{combination, counts_of, equation, is_spare, last_besides, left_out, weight, weights, without_slots};
 
@@ -27,6 +27,7 @@ pub fn parity_row(e: u32) -> [u8; 6]
 
 /// What each slot counts in slot `want`, which isn't at hand: nothing where it isn't at hand itself.
 pub fn weights(have: Mask, want: Slot) -> [u8; 9]
+    requires mask { IsMask have }
     requires enough { 6 ≤ length have }
     requires want { want < 9 }
     requires missing { has_slot have want ≡ false }
@@ -52,6 +53,7 @@ fn weight(have: Mask, equation: &[u8; 3], slot: Slot) -> u8
 /// The combination of the three equations in which slot `want` counts 1 and each other slot that isn't at hand counts 0.
 #[tactic(auto, unfolding(crate::specs::Restored::combination, crate::specs::Restored::equation, crate::specs::Restored::scaled_to, crate::specs::Restored::cross, crate::specs::Restored::without_slots))]
 fn equation(have: Mask, want: Slot) -> [u8; 3]
+    requires mask { IsMask have }
     requires enough { 6 ≤ length have }
     requires want { want < 9 }
     requires missing { has_slot have want ≡ false }
