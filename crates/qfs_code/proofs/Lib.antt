@@ -6,3 +6,4 @@ mod LeftOut
 mod Words
 mod WantedSlot
 mod Restoring
+mod Encoding

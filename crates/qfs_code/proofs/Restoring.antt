@@ -90,13 +90,26 @@ module _ (have : List ℕ) (want : ℕ) (mask : IsMask have) (enough : 6 ≤ len
         sym (weighed_by_bytes (slot_at slots want) (weights have want) size nine (code.sizes want [] (omega (arith, code.nine)))
           (λ t l. sym (same_bytes t ∙ restored_byte (column slots t) (code.words t l) ∙ get_or-column slots t want)))
 
+-- ---- the two ways
+
+module _ (have : List ℕ) (size : ℕ) (nine : List (List ℕ)) (want : ℕ) where
+  choose : Bool → List ℕ
+  choose here = cond here (slot_at nine want) (weighed (weights have want) size nine)
+
+  pub restored_at_hand : has_slot have want ≡ true → restored have size nine want ≡ slot_at nine want
+  unfolding restored choose
+  restored_at_hand here = ap choose here
+
+  pub restored_from_others : has_slot have want ≡ false → restored have size nine want ≡ weighed (weights have want) size nine
+  unfolding restored choose
+  restored_from_others away = ap choose away
+
 pub restored_is_slot : (have : List ℕ) (want size : ℕ) (nine slots : List (List ℕ)) → IsMask have → 6 ≤ length have → want < 9 → length nine ≡ 9
     → AreCodeWords size slots → ((j : ℕ) → has_slot have j ≡ true → slot_at nine j ≡ slot_at slots j)
     → restored have size nine want ≡ slot_at slots want
-unfolding restored
 restored_is_slot have want size nine slots mask enough lw long code agree =
-    let choose = λ (b : Bool). cond b (slot_at nine want) (weighed (weights have want) size nine) in
     ⊎_elim
-    (λ (here : has_slot have want ≡ true). ap choose here ∙ agree want here)
-    (λ (away : has_slot have want ≡ false). ap choose away ∙ weighed_is_slot have want mask enough lw away size nine slots long code agree)
+    (λ (here : has_slot have want ≡ true). restored_at_hand have size nine want here ∙ agree want here)
+    (λ (away : has_slot have want ≡ false).
+      restored_from_others have size nine want away ∙ weighed_is_slot have want mask enough lw away size nine slots long code agree)
     (cases_Bool (has_slot have want))

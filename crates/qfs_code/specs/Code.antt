@@ -46,6 +46,10 @@ weighed weights size slots = map (λ t. dot weights (column slots t)) (range_wit
 unfoldable pub parity_slot : ℕ → ℕ → List (List ℕ) → List ℕ
 parity_slot e size six = weighed (parity_row e) size six
 
+-- the three parity slots beside six data slots of `size` bytes
+unfoldable pub parity_slots : ℕ → List (List ℕ) → List (List ℕ)
+parity_slots size six = map (λ e. parity_slot e size six) (range_with_len 0 3)
+
 -- nine slots of `size` bytes that are a code word at each offset
 pub record AreCodeWords (size : ℕ) (slots : List (List ℕ)) : Type 0 where
   pub nine : length slots ≡ 9

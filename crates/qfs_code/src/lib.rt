@@ -7,7 +7,7 @@
 
 ghost use Rattle.std.specs.Prelude.{◌≡◌, ℕ, ◌+◌, ◌*◌, ◌<◌, ◌≤◌, List, ◌++◌, length, true};
 ghost use Rattle.qfs_base.specs.Mask.{has_slot};
-ghost use Rattle.qfs_code.specs.Code.{AreCodeWords, parity_slot, slot_at, slots_of};
+ghost use Rattle.qfs_code.specs.Code.{AreCodeWords, parity_slots, slot_at, slots_of};
 ghost use Rattle.qfs_code.specs.Restored.{restored};
 
 use crate::combine::combine;
@@ -24,9 +24,7 @@ mod equation;
 pub fn encode(six: &[u8], size: usize, parity: &mut [u8])
     requires six { length six.now ≡ 6 * size }
     requires parity { length parity.old ≡ 3 * size }
-    ensures parity {
-        (e : ℕ) → e < 3 → slot_at (slots_of 3 size parity.new) e ≡ parity_slot e size (slots_of 6 size six.now)
-    }
+    ensures parity { slots_of 3 size parity.new ≡ parity_slots size (slots_of 6 size six.now) }
     ensures words { AreCodeWords size (slots_of 6 size six.now ++ slots_of 3 size parity.new) }
 {
     let (first, rest) = parity.split_at_mut(size);
