@@ -60,7 +60,7 @@ module _ (b c j : ℕ) (lb : b < 9) (lc : c < 9) (lj : j < 9) (other : b ≢ c) 
   outcome =
       ⊎_elim (λ e. absurd (other (eqb-true b c e))) (λ h. h)
       (or_cases (b == c) (cond (j == b || j == c) (total b c j == 0) (not (total b c j == 0)))
-        (at_each_below 9 (drops b c) (at_each_below 9 (λ c. holds_below 9 (drops b c)) (at_each_below 9 (λ b. holds_below 9 (λ c. holds_below 9 (drops b c))) all_drop b lb) c lc) j lj))
+      (at_each_below 9 (drops b c) (at_each_below 9 (λ c. holds_below 9 (drops b c)) (at_each_below 9 (λ b. holds_below 9 (λ c. holds_below 9 (drops b c))) all_drop b lb) c lc) j lj))
 
   pub drops_out : (j == b || j == c) ≡ true → dot (without_slots b c) (counts_of j) ≡ 0
   drops_out h =
@@ -90,3 +90,8 @@ unfolding without_slots
 without_slots_are_bytes b c lb lc =
     ap (list_all (λ x. ltb x 256)) (ap₂ cross (counts_of-row b lb) (counts_of-row c lc))
     ∙ at_each_below 9 _ (at_each_below 9 (λ b. holds_below 9 (λ c. list_all (λ x. ltb x 256) (cross (row b) (row c)))) crosses_fit b lb) c lc
+
+-- what three slots count is independent
+pub independent : (a b c : ℕ) → a < 9 → b < 9 → c < 9 → a ≢ b → c ≢ a → c ≢ b → dot (cross (counts_of a) (counts_of b)) (counts_of c) ≢ 0
+unfolding without_slots
+independent a b c la lb lc other na nb = stays_in a b c la lb lc other (ap₂ (λ x y. x || y) (ne_eqb c a na) (ne_eqb c b nb))

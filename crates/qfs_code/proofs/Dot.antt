@@ -80,13 +80,13 @@ dot_same f a (suc n) [] (z ∷ zs) h _ = absurd (omega arith)
 dot_same f a (suc n) (y ∷ ys) [] h _ = absurd (omega arith)
 dot_same f a (suc n) (y ∷ ys) (z ∷ zs) h same =
     let later = λ (i : ℕ) (l : i < n). let P : ℕ → Type 0 = λ k. (f k ≡ 0) ⊎ (get_or ys i 0 ≡ get_or zs i 0) in
-        let shift : a + suc i ≡ a + 1 + i = omega arith in subst P shift (same (suc i) (omega arith)) in
+    let shift : a + suc i ≡ a + 1 + i = omega arith in subst P shift (same (suc i) (omega arith)) in
     let here : product (f a) y ≡ product (f a) z =
-        ⊎_elim
-        (λ (none : f (a + 0) ≡ 0). let off = ap f (sym (add-zero a)) ∙ none in
-          ap (λ w. product w y) off ∙ zero-product y ∙ sym (zero-product z) ∙ ap (λ w. product w z) (sym off))
-        (λ (e : y ≡ z). ap (product (f a)) e)
-        (same 0 (omega arith)) in
+    ⊎_elim
+    (λ (none : f (a + 0) ≡ 0). let off = ap f (sym (add-zero a)) ∙ none in
+    ap (λ w. product w y) off ∙ zero-product y ∙ sym (zero-product z) ∙ ap (λ w. product w z) (sym off))
+    (λ (e : y ≡ z). ap (product (f a)) e)
+    (same 0 (omega arith)) in
     ap₂ bit_xor here (dot_same f (a + 1) n ys zs (omega arith) later)
 
 -- the weight 1 at one slot, and 0 at the others
@@ -114,7 +114,7 @@ dot-only a (suc n) (suc k) (y ∷ ys) l h =
     let off : only (a + suc k) a ≡ 0 = ap (λ b. cond b 1 0) (ne_eqb a (a + suc k) (λ e. omega arith)) in
     let shift : a + suc k ≡ a + 1 + k = omega arith in
     ap₂ bit_xor (ap (λ w. product w y) off ∙ zero-product y)
-      (ap (λ w. dot (map (only w) (range_with_len (a + 1) n)) ys) shift ∙ dot-only (a + 1) n k ys (omega arith) parts.1)
+    (ap (λ w. dot (map (only w) (range_with_len (a + 1) n)) ys) shift ∙ dot-only (a + 1) n k ys (omega arith) parts.1)
 
 pub dot-zeros : (js ys : List ℕ) → dot (map (λ j. 0) js) ys ≡ 0
 unfolding dot

@@ -32,7 +32,7 @@ unfolding column
 column_bytes [] t _ = refl
 column_bytes (s ∷ ss) t bytes =
     ap₂ (λ b c. b && c) (lt-ltb (get_or s t 0) 256 (byte_at s t (bytes 0 [] (omega arith))))
-      (column_bytes ss t (λ k d l. bytes (suc k) d (omega arith)))
+    (column_bytes ss t (λ k d l. bytes (suc k) d (omega arith)))
 
 row_bytes : (e : ℕ) → e < 3 → list_all (λ x. ltb x 256) (parity_row e) ≡ true
 unfolding parity_row power product remainder polynomial_product
@@ -76,7 +76,7 @@ module _ (size : ℕ) (six : List (List ℕ)) (long : length six ≡ 6) where
         let fits = λ (e : ℕ) (l : e < 3). dot-lt (parity_row e) (column six t) (row_bytes e l) (column_bytes six t bytes) in
         all_bytes (column (parity_slots size six) t)
         (λ k d l. let near : k < 3 = omega (arith, length-column (parity_slots size six) t, length-parity_slots) in
-          omega (arith, get_or_default (column (parity_slots size six) t) k d 0 l, parity_byte k t near lt, fits k near))
+        omega (arith, get_or_default (column (parity_slots size six) t) k d 0 l, parity_byte k t near lt, fits k near))
 
     word : (t : ℕ) → t < size → IsCodeWord (column six t ++ column (parity_slots size six) t)
     word t lt =
@@ -88,8 +88,8 @@ module _ (size : ℕ) (six : List (List ℕ)) (long : length six ≡ 6) where
           nine = omega (arith, length-append cs ps);
           bytes = by_places (cs ++ ps) (bytes-append cs ps (column_bytes six t bytes) (parity_bytes t lt));
           parities = λ e l.
-            ap (λ n. get_or (cs ++ ps) (n + e) 0) (sym six_long) ∙ get_or-append-add cs ps e 0 ∙ parity_byte e t l lt
-            ∙ ap (parity e) (sym (take_at cs ps 6 six_long));
+              ap (λ n. get_or (cs ++ ps) (n + e) 0) (sym six_long) ∙ get_or-append-add cs ps e 0 ∙ parity_byte e t l lt
+              ∙ ap (parity e) (sym (take_at cs ps 6 six_long));
         }
 
     pub encoded : AreCodeWords size (six ++ parity_slots size six)
@@ -121,21 +121,21 @@ module _ (count size : ℕ) (bytes : List ℕ) (long : length bytes ≡ count * 
       let wide : length part ≤ size = omega (arith, length-take size (drop (k * size) bytes)) in
       let inside : t < length part = omega (arith, ap length (part_at k d l)) in
       let read : get_or (get_or (slots_of count size bytes) k d) t e ≡ get_or bytes (k * size + t) 0 =
-          ap (λ s. get_or s t e) (part_at k d l) ∙ get_or_default part t e 0 inside
-          ∙ get_or-take size (drop (k * size) bytes) t 0 (omega arith) ∙ get_or-drop (k * size) bytes t 0 in
+      ap (λ s. get_or s t e) (part_at k d l) ∙ get_or_default part t e 0 inside
+      ∙ get_or-take size (drop (k * size) bytes) t 0 (omega arith) ∙ get_or-drop (k * size) bytes t 0 in
       omega (arith, read, fits (k * size + t))
 
 pub three_slots : (size : ℕ) (a b c : List ℕ) → length a ≡ size → length b ≡ size → length c ≡ size → slots_of 3 size (a ++ (b ++ c)) ≡ a ∷ b ∷ c ∷ []
 unfolding slots_of
 three_slots size a b c la lb lc =
     let first : take size (drop (0 * size) (a ++ (b ++ c))) ≡ a =
-        ap (λ n. take size (drop n (a ++ (b ++ c)))) (zero-mul size) ∙ take_at a (b ++ c) size la in
+    ap (λ n. take size (drop n (a ++ (b ++ c)))) (zero-mul size) ∙ take_at a (b ++ c) size la in
     let second : take size (drop (1 * size) (a ++ (b ++ c))) ≡ b =
-        ap (take size) (drop_at a (b ++ c) (1 * size) (omega arith)) ∙ take_at b c size lb in
+    ap (take size) (drop_at a (b ++ c) (1 * size) (omega arith)) ∙ take_at b c size lb in
     let third : take size (drop (2 * size) (a ++ (b ++ c))) ≡ c =
-        ap (λ xs. take size (drop (2 * size) xs)) (sym (append_assoc a b c))
-        ∙ ap (take size) (drop_at (a ++ b) c (2 * size) (omega (arith, length-append a b)))
-        ∙ ap (take size) (sym (append-nil c)) ∙ take_at c [] size lc in
+    ap (λ xs. take size (drop (2 * size) xs)) (sym (append_assoc a b c))
+    ∙ ap (take size) (drop_at (a ++ b) c (2 * size) (omega (arith, length-append a b)))
+    ∙ ap (take size) (sym (append-nil c)) ∙ take_at c [] size lc in
     λ i. first i ∷ second i ∷ third i ∷ []
 
 -- a sum by what the data slots count in a parity slot is that parity slot

@@ -87,8 +87,8 @@ module _ (have : List ℕ) (want : ℕ) (mask : IsMask have) (enough : 6 ≤ len
         second_slot = ltb-true (second_out have want) 9 b.0;
         others =
             ap₂ (λ x y. x || y)
-              (ne_eqb want (first_out have want) (λ e. unequal (first_out have want) want c.0 (sym e)))
-              (ne_eqb want (second_out have want) (λ e. unequal (second_out have want) want d.0 (sym e)));
+            (ne_eqb want (first_out have want) (λ e. unequal (first_out have want) want c.0 (sym e)))
+            (ne_eqb want (second_out have want) (λ e. unequal (second_out have want) want d.0 (sym e)));
         two = unequal (first_out have want) (second_out have want) d.1;
       }
 

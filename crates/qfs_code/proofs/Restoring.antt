@@ -10,7 +10,7 @@ use Rattle.qfs_galois.proofs.Additive.{xor_twice}
 use Rattle.qfs_code.specs.Code.{dot, column, slot_at, weighed, IsCodeWord, AreCodeWords}
 use Rattle.qfs_code.specs.Restored.{counts_of, cross, without_slots, combination, scaled_to, equation, weight, weights_by, weights, restored}
 use Rattle.qfs_code.proofs.Dot.{dot-xor, dot-only, dot_same, only, all_bytes}
-use Rattle.qfs_code.proofs.Columns.{length-column, get_or-column, weighed_by_bytes}
+use Rattle.qfs_code.proofs.Columns.{length-column, get_or-column, length-weighed, get_or-weighed, weighed_by_bytes}
 use Rattle.qfs_code.proofs.Words.{combination_meets}
 use Rattle.qfs_code.proofs.WantedSlot.{equation_are_bytes, counts_one, counts_none}
 
@@ -39,6 +39,28 @@ length-equation : (have : List ℕ) (want : ℕ) → length (equation have want)
 unfolding equation scaled_to combination without_slots cross
 length-equation have want = refl
 
+-- ---- slots that aren't at hand have no influence
+
+module _ (have : List ℕ) (want : ℕ) (nine others : List (List ℕ)) (long : length nine ≡ length others)
+    (agree : (j : ℕ) → has_slot have j ≡ true → slot_at nine j ≡ slot_at others j) where
+  pub same_bytes : (t : ℕ) → dot (weights have want) (column nine t) ≡ dot (weights have want) (column others t)
+  unfolding weights weights_by weight
+  same_bytes t =
+      let K = weight have (equation have want) in
+      let lengths = length-column nine t ∙ long ∙ sym (length-column others t) in
+      dot_same K 0 9 (column nine t) (column others t) lengths
+      (λ i l. ⊎_elim
+      (λ (here : has_slot have i ≡ true). inr (get_or-column nine t i ∙ ap (λ s. get_or s t 0) (agree i here) ∙ sym (get_or-column others t i)))
+      (λ (away : has_slot have i ≡ false). inl (ap K (zero-add i) ∙ ap (λ b. cond b (dot (equation have want) (counts_of i)) 0) away))
+      (cases_Bool (has_slot have i)))
+
+  same_weighed : (size : ℕ) → weighed (weights have want) size nine ≡ weighed (weights have want) size others
+  same_weighed size =
+      weighed_by_bytes (weighed (weights have want) size nine) (weights have want) size others (length-weighed (weights have want) size nine)
+      (λ t l. get_or-weighed (weights have want) size nine t l ∙ same_bytes t)
+
+-- ---- the wanted byte of a code word
+
 module _ (have : List ℕ) (want : ℕ) (mask : IsMask have) (enough : 6 ≤ length have) (lw : want < 9) (missing : has_slot have want ≡ false) where
   -- the equation, as what the slots at hand count and the wanted slot
   parted : (j : ℕ) → j < 9 → dot (equation have want) (counts_of j) ≡ bit_xor (weight have (equation have want) j) (only want j)
@@ -49,13 +71,13 @@ module _ (have : List ℕ) (want : ℕ) (mask : IsMask have) (enough : 6 ≤ len
       let at = has_slot have j in
       let is = j == want in
       let wanted_missing : at ≡ true → is ≡ true → ⊥ =
-          λ (here : at ≡ true) (e : is ≡ true). true≢false (sym here ∙ ap (has_slot have) (eqb-true j want e) ∙ missing) in
+      λ (here : at ≡ true) (e : is ≡ true). true≢false (sym here ∙ ap (has_slot have) (eqb-true j want e) ∙ missing) in
       ⊎_elim
       (λ (here : at ≡ true). ⊎_elim (λ (e : is ≡ true). absurd (wanted_missing here e))
-        (λ (other : is ≡ false). sym (ap₂ P here other ∙ xor_zero_r count)) (cases_Bool is))
+      (λ (other : is ≡ false). sym (ap₂ P here other ∙ xor_zero_r count)) (cases_Bool is))
       (λ (away : at ≡ false). ⊎_elim
-        (λ (e : is ≡ true). ap (λ i. dot (equation have want) (counts_of i)) (eqb-true j want e) ∙ counts_one have want mask enough lw missing ∙ sym (ap₂ P away e))
-        (λ (other : is ≡ false). counts_none have want mask enough lw missing j lj away other ∙ sym (ap₂ P away other)) (cases_Bool is))
+      (λ (e : is ≡ true). ap (λ i. dot (equation have want) (counts_of i)) (eqb-true j want e) ∙ counts_one have want mask enough lw missing ∙ sym (ap₂ P away e))
+      (λ (other : is ≡ false). counts_none have want mask enough lw missing j lj away other ∙ sym (ap₂ P away other)) (cases_Bool is))
       (cases_Bool at)
 
   -- what the slots at hand sum up to is the wanted byte
@@ -66,29 +88,16 @@ module _ (have : List ℕ) (want : ℕ) (mask : IsMask have) (enough : 6 ≤ len
       let K = weight have e in
       let whole = three_meet e word (length-equation have want) (equation_are_bytes have want mask enough lw missing) code in
       let split = ap (λ ws. dot ws word) (same_range (λ j. dot e (counts_of j)) (λ j. bit_xor (K j) (only want j)) 9 parted)
-          ∙ dot-xor K (only want) all_slots word in
+      ∙ dot-xor K (only want) all_slots word in
       let wanted = ap (λ w. dot (map (only w) all_slots) word) (sym (zero-add want)) ∙ dot-only 0 9 want word lw (all_bytes word code.bytes) in
       equal_from_sum (dot (map K all_slots) word) (get_or word want 0)
       (ap (bit_xor (dot (map K all_slots) word)) (sym wanted) ∙ sym split ∙ whole)
 
-  module _ (size : ℕ) (nine slots : List (List ℕ)) (long : length nine ≡ 9) (code : AreCodeWords size slots)
-    (agree : (j : ℕ) → has_slot have j ≡ true → slot_at nine j ≡ slot_at slots j) where
-    -- slots that aren't at hand have no influence
-    same_bytes : (t : ℕ) → dot (weights have want) (column nine t) ≡ dot (weights have want) (column slots t)
-    unfolding weights weights_by weight
-    same_bytes t =
-        let K = weight have (equation have want) in
-        let nines = length-column nine t ∙ long ∙ sym (length-column slots t ∙ code.nine) in
-        dot_same K 0 9 (column nine t) (column slots t) nines
-        (λ i l. ⊎_elim
-          (λ (here : has_slot have i ≡ true). inr (get_or-column nine t i ∙ ap (λ s. get_or s t 0) (agree i here) ∙ sym (get_or-column slots t i)))
-          (λ (away : has_slot have i ≡ false). inl (ap K (zero-add i) ∙ ap (λ b. cond b (dot (equation have want) (counts_of i)) 0) away))
-          (cases_Bool (has_slot have i)))
-
-    pub weighed_is_slot : weighed (weights have want) size nine ≡ slot_at slots want
-    weighed_is_slot =
-        sym (weighed_by_bytes (slot_at slots want) (weights have want) size nine (code.sizes want [] (omega (arith, code.nine)))
-          (λ t l. sym (same_bytes t ∙ restored_byte (column slots t) (code.words t l) ∙ get_or-column slots t want)))
+  pub weighed_is_slot : (size : ℕ) (nine slots : List (List ℕ)) → length nine ≡ 9 → AreCodeWords size slots
+      → ((j : ℕ) → has_slot have j ≡ true → slot_at nine j ≡ slot_at slots j) → weighed (weights have want) size nine ≡ slot_at slots want
+  weighed_is_slot size nine slots long code agree =
+      sym (weighed_by_bytes (slot_at slots want) (weights have want) size nine (code.sizes want [] (omega (arith, code.nine)))
+      (λ t l. sym (same_bytes have want nine slots (long ∙ sym code.nine) agree t ∙ restored_byte (column slots t) (code.words t l) ∙ get_or-column slots t want)))
 
 -- ---- the two ways
 
@@ -111,5 +120,14 @@ restored_is_slot have want size nine slots mask enough lw long code agree =
     ⊎_elim
     (λ (here : has_slot have want ≡ true). restored_at_hand have size nine want here ∙ agree want here)
     (λ (away : has_slot have want ≡ false).
-      restored_from_others have size nine want away ∙ weighed_is_slot have want mask enough lw away size nine slots long code agree)
+    restored_from_others have size nine want away ∙ weighed_is_slot have want mask enough lw away size nine slots long code agree)
+    (cases_Bool (has_slot have want))
+
+pub no_influence : (have : List ℕ) (size : ℕ) (nine others : List (List ℕ)) (want : ℕ) → length nine ≡ length others
+    → ((j : ℕ) → has_slot have j ≡ true → slot_at nine j ≡ slot_at others j) → restored have size nine want ≡ restored have size others want
+no_influence have size nine others want long agree =
+    ⊎_elim
+    (λ (here : has_slot have want ≡ true). restored_at_hand have size nine want here ∙ agree want here ∙ sym (restored_at_hand have size others want here))
+    (λ (away : has_slot have want ≡ false).
+    restored_from_others have size nine want away ∙ same_weighed have want nine others long agree size ∙ sym (restored_from_others have size others want away))
     (cases_Bool (has_slot have want))

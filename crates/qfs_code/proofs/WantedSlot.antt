@@ -50,5 +50,5 @@ module _ (have : List ℕ) (want : ℕ) (mask : IsMask have) (enough : 6 ≤ len
   unfolding combination
   counts_none j lj away other =
       let gone = drops_out (first_out have want) (second_out have want) j out.first_slot out.second_slot lj out.two
-          (covered have want mask enough lw missing j lj away other) in
+      (covered have want mask enough lw missing j lj away other) in
       counted j lj ∙ ap (product (inverse count)) gone ∙ product-zero (inverse count)

@@ -24,9 +24,9 @@ last_three : (word : List ℕ) → length word ≡ 9 → drop 6 word ≡ get_or 
 last_three word nine =
     drop-cons word 6 0 (omega arith)
     ∙ ap (λ rest. get_or word 6 0 ∷ rest)
-      (drop-cons word 7 0 (omega arith)
-        ∙ ap (λ rest. get_or word 7 0 ∷ rest)
-          (drop-cons word 8 0 (omega arith) ∙ ap (λ rest. get_or word 8 0 ∷ rest) (drop_of_length-le word {i = 9} (omega arith))))
+    (drop-cons word 7 0 (omega arith)
+    ∙ ap (λ rest. get_or word 7 0 ∷ rest)
+    (drop-cons word 8 0 (omega arith) ∙ ap (λ rest. get_or word 8 0 ∷ rest) (drop_of_length-le word {i = 9} (omega arith))))
 
 -- of the three bytes of parity, an equation has its own
 own_parity : (x y z : ℕ) → x < 256 → y < 256 → z < 256 → (e : ℕ) → e < 3 → dot (parity_counts e) (x ∷ y ∷ z ∷ []) ≡ get_or (x ∷ y ∷ z ∷ []) e 0
@@ -86,5 +86,5 @@ combination_meets a b c word la lb lc code =
     let h = λ (j : ℕ). product c (counts 2 j) in
     dot-xor f (λ j. bit_xor (g j) (bit_xor (h j) 0)) all_slots word
     ∙ ap₂ bit_xor first
-      (dot-xor g (λ j. bit_xor (h j) 0) all_slots word
-        ∙ ap₂ bit_xor second (dot-xor h (λ j. 0) all_slots word ∙ ap₂ bit_xor third (dot-zeros all_slots word)))
+    (dot-xor g (λ j. bit_xor (h j) 0) all_slots word
+    ∙ ap₂ bit_xor second (dot-xor h (λ j. 0) all_slots word ∙ ap₂ bit_xor third (dot-zeros all_slots word)))

@@ -22,7 +22,14 @@ pub fn parity_row(e: u32) -> [u8; 6]
     requires { e < 3 }
     ensures { result ≡ parity_row e }
 {
-    [pow2(0), pow2(e), pow2(e * 2), pow2(e * 3), pow2(e * 4), pow2(e * 5)]
+    [
+        pow2(0),
+        pow2(e),
+        pow2(e * 2),
+        pow2(e * 3),
+        pow2(e * 4),
+        pow2(e * 5),
+    ]
 }
 
 /// What each slot counts in slot `want`, which isn't at hand: nothing where it isn't at hand itself.
@@ -47,7 +54,11 @@ fn weight(have: Mask, equation: &[u8; 3], slot: Slot) -> u8
     requires { slot < 9 }
     ensures { result ≡ weight have equation.now slot }
 {
-    if have.contains(slot) { dot(equation, &counts_of(slot)) } else { 0 }
+    if have.contains(slot) {
+        dot(equation, &counts_of(slot))
+    } else {
+        0
+    }
 }
 
 /// The combination of the three equations in which slot `want` counts 1 and each other slot that isn't at hand counts 0.
@@ -62,7 +73,11 @@ fn equation(have: Mask, want: Slot) -> [u8; 3]
     let first = left_out(have, want, want);
     let combination = without_slots(first, left_out(have, want, first));
     let scale = inv(dot(&combination, &counts_of(want)));
-    [mul(scale, combination[0]), mul(scale, combination[1]), mul(scale, combination[2])]
+    [
+        mul(scale, combination[0]),
+        mul(scale, combination[1]),
+        mul(scale, combination[2]),
+    ]
 }
 
 /// A combination of the three equations from which slots `b` and `c` drop out.
@@ -90,7 +105,11 @@ fn counts_of(slot: Slot) -> [u8; 3]
     if slot < DATA_SLOTS {
         [1, pow2(u32::from(slot)), pow2(2 * u32::from(slot))]
     } else {
-        [u8::from(slot == 6), u8::from(slot == 7), u8::from(slot == 8)]
+        [
+            u8::from(slot == 6),
+            u8::from(slot == 7),
+            u8::from(slot == 8),
+        ]
     }
 }
 

@@ -20,4 +20,4 @@ returns-clause-words c =
     let six = slots_of 6 size bytes in
     let P : List (List ℕ) → Type 0 = λ parity. AreCodeWords size (six ++ parity) in
     subst P (sym (returns-clause-parity c))
-    (encoded size six (length-slots_of 6 size bytes) (slots_of_sizes 6 size bytes c.requires.six) (slots_of_bytes 6 size bytes c.requires.six c.type_inv.six))
+    (encoded size six (length-slots_of 6 size bytes) (slots_of_sizes 6 size bytes c.requires.six) (slots_of_bytes 6 size bytes c.requires.six (λ i. (c.type_inv.six i).fits)))

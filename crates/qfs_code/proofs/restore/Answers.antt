@@ -20,7 +20,7 @@ returns-then-contains-clause-completes c slots code agree =
     let nine = slots_of 9 c.args.size c.args.nine.now in
     returns-then-contains-clause-restored c
     ∙ restored_is_slot c.args.have c.args.want c.args.size nine slots c.contains.ensures.mask c.requires.enough c.requires.want
-      (length-slots_of 9 c.args.size c.args.nine.now) code agree
+    (length-slots_of 9 c.args.size c.args.nine.now) code agree
 
 pub returns-else-contains-clause-restored : goal.returns-else-contains-clause-restored
 unfolding weights weights_by
@@ -34,4 +34,4 @@ returns-else-contains-clause-completes c slots code agree =
     let nine = slots_of 9 c.args.size c.args.nine.now in
     returns-else-contains-clause-restored c
     ∙ restored_is_slot c.args.have c.args.want c.args.size nine slots c.contains.ensures.mask c.requires.enough c.requires.want
-      (length-slots_of 9 c.args.size c.args.nine.now) code agree
+    (length-slots_of 9 c.args.size c.args.nine.now) code agree

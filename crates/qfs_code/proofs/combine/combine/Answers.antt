@@ -24,8 +24,8 @@ loop-j-preserved c t l =
     let slots = slots_of (length weights) size c.args.slots.now in
     let wide : c.loop-j.j * size + size - c.loop-j.j * size ≡ size = omega arith in
     let is = get_or-column slots t c.loop-j.j
-        ∙ ap (λ s. get_or s t 0) (slot_at-slots_of (length weights) size c.args.slots.now c.loop-j.j c.loop-j-test.true)
-        ∙ ap (λ n. get_or (take n (drop (c.loop-j.j * size) c.args.slots.now)) t 0) (sym wide) in
+    ∙ ap (λ s. get_or s t 0) (slot_at-slots_of (length weights) size c.args.slots.now c.loop-j.j c.loop-j-test.true)
+    ∙ ap (λ n. get_or (take n (drop (c.loop-j.j * size) c.args.slots.now)) t 0) (sym wide) in
     let long = length-column slots t ∙ length-slots_of (length weights) size c.args.slots.now in
     slot_added weights (column slots t) c.loop-j.j (get_or c.loop-j.out t 0) (get_or c.add_scaled.new.dst t 0) _ _
     c.loop-j-test.true (omega (arith, long)) is (c.add_scaled.ensures t (omega arith)) (c.loop-j.invariant t l)
@@ -36,5 +36,5 @@ returns c =
     let slots = slots_of (length weights) c.args.size c.args.slots.now in
     weighed_by_bytes c.loop-j.out weights c.args.size slots (omega arith)
     (λ t l.
-      let none = dot-past weights (drop c.loop-j.j (column slots t)) c.loop-j.j (omega arith) in
-      sym (xor_zero_r (get_or c.loop-j.out t 0)) ∙ ap (bit_xor (get_or c.loop-j.out t 0)) (sym none) ∙ c.loop-j.invariant t l)
+    let none = dot-past weights (drop c.loop-j.j (column slots t)) c.loop-j.j (omega arith) in
+    sym (xor_zero_r (get_or c.loop-j.out t 0)) ∙ ap (bit_xor (get_or c.loop-j.out t 0)) (sym none) ∙ c.loop-j.invariant t l)

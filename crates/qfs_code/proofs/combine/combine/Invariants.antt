@@ -7,4 +7,4 @@ abbrev pub invariant-loop-j : goal.invariant-loop-j
 invariant-loop-j l =
     (t : ℕ) → t < l.size
     → let bytes = column (slots_of (length l.weights) l.size l.slots) t in
-      bit_xor (get_or l.out t 0) (dot (drop l.j l.weights) (drop l.j bytes)) ≡ dot l.weights bytes
+    bit_xor (get_or l.out t 0) (dot (drop l.j l.weights) (drop l.j bytes)) ≡ dot l.weights bytes

@@ -12,5 +12,5 @@ inv-scale-requires c none =
     let first = c.left_out-first.ensures.value in
     let second = c.left_out.ensures.value ∙ ap (left_out have want) first in
     let is : c.dot.result ≡ dot (combination have want) (counts_of want) =
-        c.dot.ensures ∙ ap₂ dot (c.without_slots-combination.ensures ∙ ap₂ without_slots first second) c.counts_of.ensures in
+    c.dot.ensures ∙ ap₂ dot (c.without_slots-combination.ensures ∙ ap₂ without_slots first second) c.counts_of.ensures in
     counts_some have want c.requires.mask c.requires.enough c.requires.want c.requires.missing (sym is ∙ none)

@@ -12,7 +12,7 @@ pub returns-then-is_spare-clause-value : goal.returns-then-is_spare-clause-value
 unfolding left_out
 returns-then-is_spare-clause-value c =
     let found = c.loop-slot.invariant
-        ∙ first_spare_here c.args.have c.args.want c.args.other c.loop-slot.slot c.loop-slot-test.true (sym c.is_spare.ensures ∙ c.if-is_spare.true) in
+    ∙ first_spare_here c.args.have c.args.want c.args.other c.loop-slot.slot c.loop-slot-test.true (sym c.is_spare.ensures ∙ c.if-is_spare.true) in
     sym (ap (λ o. unwrap_or o (last_besides c.args.want c.args.other)) found)
 
 pub returns-clause-value : goal.returns-clause-value

@@ -18,9 +18,10 @@ pub loop-slot-preserved : goal.loop-slot-preserved
 loop-slot-preserved c =
     let have = c.args.have in
     let f = weight have (equation have c.args.want) in
-    let this = c.weight.ensures ∙ ap (λ e. weight have e c.loop-slot.slot) c.equation-equation.ensures in
-    ( omega (arith, length-set c.loop-slot.weights c.loop-slot.slot c.weight.result, c.loop-slot.invariant.0)
-    , next_weight c.loop-slot.weights f c.loop-slot.slot c.weight.result (omega (arith, c.loop-slot.invariant.0)) this c.loop-slot.invariant.1 )
+    let this = c.weight.ensures ∙ ap (λ e. weight have e c.loop-slot.slot) c.equation-equation.ensures in (
+      omega (arith, length-set c.loop-slot.weights c.loop-slot.slot c.weight.result, c.loop-slot.invariant.0),
+      next_weight c.loop-slot.weights f c.loop-slot.slot c.weight.result (omega (arith, c.loop-slot.invariant.0)) this c.loop-slot.invariant.1,
+    )
 
 pub returns : goal.returns
 unfolding weights weights_by
