@@ -1,8 +1,7 @@
 -- The bytes of slots at one offset, and the sum of weighed slots by its bytes.
-use Rattle.std.proofs.Common.{◌≡◌, ℕ, zero, suc, ◌+◌, ◌*◌, ◌<◌, ◌≤◌, List, [], ◌∷◌, length, get_or, take, drop, map, refl, sym, ap, ◌∙◌, arith}
+use Rattle.std.proofs.Common.{◌≡◌, ℕ, zero, suc, ◌*◌, ◌<◌, List, [], ◌∷◌, length, get_or, take, drop, refl, arith}
 use Rattle.std.proofs.lemmas.List.{length-map}
 use Rattle.std.proofs.lemmas.List.FromFn.{length-map-range_with_len, get_or-map-range_with_len, fill_by_all}
-use Rattle.std.specs.List.{range_with_len}
 use Rattle.qfs_code.specs.Code.{dot, column, slots_of, weighed, slot_at}
 
 pub length-column : (slots : List (List ℕ)) (t : ℕ) → length (column slots t) ≡ length slots

@@ -1,5 +1,5 @@
 -- What slots count in the three equations, and in a combination from which two slots drop out.
-use Rattle.std.proofs.Common.{◌≡◌, ◌≢◌, ℕ, zero, suc, ◌+◌, ◌*◌, ◌<◌, Bool, true, false, not, cond, ◌||◌, ◌==◌, eqb, ltb, List, [], ◌∷◌, length, get_or, slice_index, slice_index_or, bit_xor, lt-ltb, zero-mul, one-mul, refl, sym, ap, ap₂, ◌∙◌, arith, eqb-true, ltb-true, eq-eqb, ne_eqb, ⊎_elim, true≢false}
+use Rattle.std.proofs.Common.{◌≡◌, ◌≢◌, ℕ, zero, suc, ◌*◌, ◌<◌, Bool, true, false, not, cond, ◌||◌, ◌==◌, ltb, List, [], ◌∷◌, slice_index_or, lt-ltb, zero-mul, one-mul, refl, sym, ap, ap₂, ◌∙◌, arith, eqb-true, eq-eqb, ne_eqb, ⊎_elim, true≢false}
 use Rattle.std.specs.List.{list_all}
 use Rattle.std.proofs.lemmas.Bool.{or_cases, not-true}
 use Rattle.qfs_galois.specs.Field.{polynomial_product, remainder, product, power}

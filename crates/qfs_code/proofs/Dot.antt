@@ -1,5 +1,5 @@
 -- The laws of `dot`, the sum of products.
-use Rattle.std.proofs.Common.{◌≡◌, ℕ, zero, suc, ◌+◌, ◌<◌, ◌≤◌, ◌⊎◌, ◌==◌, cond, eqb, ltb, true, List, [], ◌∷◌, ◌++◌, length, get_or, drop, map, bit_xor, refl, sym, ap, ap₂, ◌∙◌, arith, add-one, add-zero, subst, ltb-true, lt-ltb, lit<, eq-eqb, ne_eqb, ⊎_elim, All, ◌&&◌}
+use Rattle.std.proofs.Common.{◌≡◌, ℕ, zero, suc, ◌+◌, ◌<◌, ◌≤◌, ◌⊎◌, ◌==◌, cond, ltb, true, List, [], ◌∷◌, ◌++◌, length, get_or, drop, map, bit_xor, refl, sym, ap, ap₂, ◌∙◌, arith, add-one, add-zero, subst, ltb-true, lt-ltb, lit<, eq-eqb, ne_eqb, ⊎_elim, All, ◌&&◌}
 use Rattle.std.proofs.lemmas.Nat.{xor_lt}
 use Rattle.std.proofs.lemmas.Bool.{and_parts}
 use Rattle.std.specs.Int.Bits.{xor_assoc, xor_zero_r}

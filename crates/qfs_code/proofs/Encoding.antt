@@ -1,15 +1,15 @@
 -- Six slots of bytes with their three parity slots are code words.
-use Rattle.std.proofs.Common.{◌≡◌, ℕ, zero, suc, ◌+◌, ◌-◌, ◌*◌, ◌<◌, ◌≤◌, Bool, true, ltb, List, [], ◌∷◌, ◌++◌, ◌&&◌, length, get_or, take, drop, map, min, All, refl, sym, ap, ap₂, ◌∙◌, arith, lt-ltb, ltb-true, length-append, length-take, length-drop, get_or-take, get_or-drop, take_at, drop_at, get_or-append-add, append_assoc, append-nil, zero-add, zero-mul, le_refl, subst, ⊎_elim}
+use Rattle.std.proofs.Common.{◌≡◌, ℕ, zero, suc, ◌+◌, ◌*◌, ◌<◌, ◌≤◌, true, ltb, List, [], ◌∷◌, ◌++◌, ◌&&◌, length, get_or, take, drop, All, refl, sym, ap, ap₂, ◌∙◌, arith, lt-ltb, ltb-true, length-append, length-take, length-drop, get_or-take, get_or-drop, take_at, drop_at, get_or-append-add, append_assoc, append-nil, zero-add, zero-mul, le_refl, subst, ⊎_elim}
 use Rattle.std.proofs.lemmas.Bool.{and_parts, cases_lt}
 use Rattle.std.proofs.lemmas.List.{get_or_past, get_or_default}
 use Rattle.std.proofs.lemmas.List.Elements.{All-append}
 use Rattle.std.proofs.lemmas.Nat.{row_fits}
-use Rattle.std.proofs.lemmas.List.FromFn.{get_or-map-range_with_len, length-map-range_with_len}
-use Rattle.std.specs.List.{list_all, range_with_len}
+use Rattle.std.proofs.lemmas.List.FromFn.{get_or-map-range_with_len}
+use Rattle.std.specs.List.{list_all}
 use Rattle.qfs_galois.specs.Field.{polynomial_product, remainder, product, power}
-use Rattle.qfs_code.specs.Code.{dot, parity, parity_row, parity_slot, parity_slots, column, slot_at, slots_of, weighed, IsCodeWord, AreCodeWords}
+use Rattle.qfs_code.specs.Code.{parity, parity_row, parity_slot, parity_slots, column, slot_at, slots_of, weighed, IsCodeWord, AreCodeWords}
 use Rattle.qfs_code.proofs.Dot.{dot-lt, all_bytes}
-use Rattle.qfs_code.proofs.Columns.{length-column, get_or-column, length-slots_of, slot_at-slots_of, length-weighed, get_or-weighed}
+use Rattle.qfs_code.proofs.Columns.{length-column, get_or-column, length-slots_of, length-weighed, get_or-weighed}
 
 -- ---- bytes
 

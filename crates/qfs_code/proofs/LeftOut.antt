@@ -1,7 +1,6 @@
 -- Which slots are left out: with six slots at hand, every slot that isn't at hand is the wanted one or one of the two.
-use Rattle.std.proofs.Common.{◌≡◌, ◌≢◌, ℕ, zero, suc, ◌+◌, ◌<◌, ◌≤◌, Bool, true, false, not, cond, ◌&&◌, ◌||◌, ◌==◌, eqb, ltb, List, [], ◌∷◌, length, filter, refl, sym, ap, ap₂, subst, ◌∙◌, arith, eq-eqb, ne_eqb, ltb-true, ⊎_elim, true≢false}
+use Rattle.std.proofs.Common.{◌≡◌, ◌≢◌, ℕ, ◌<◌, ◌≤◌, Bool, true, false, not, cond, ◌&&◌, ◌||◌, ◌==◌, ltb, List, [], ◌∷◌, length, filter, refl, sym, ap, ap₂, ◌∙◌, arith, eq-eqb, ne_eqb, ltb-true, ⊎_elim, true≢false}
 use Rattle.std.proofs.lemmas.Bool.{cases_Bool, or_cases, and_parts, not-true}
-use Rattle.std.specs.List.{range_with_len}
 use Rattle.qfs_base.specs.Mask.{all_slots, slots_that, has_slot, IsMask}
 use Rattle.qfs_galois.proofs.Additive.{holds_below, at_each_below}
 use Rattle.qfs_code.specs.Restored.{is_spare, first_spare, last_besides, left_out}

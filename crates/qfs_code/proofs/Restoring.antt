@@ -1,11 +1,10 @@
 -- A slot that is restored from six others of code words is that slot.
-use Rattle.std.proofs.Common.{◌≡◌, ◌≢◌, ℕ, zero, suc, ◌+◌, ◌<◌, ◌≤◌, ◌⊎◌, Bool, true, false, cond, ◌==◌, ltb, List, [], ◌∷◌, length, get_or, map, bit_xor, refl, sym, ap, ap₂, ◌∙◌, arith, add-zero, zero-add, eqb-true, eq-eqb, inl, inr, ⊎_elim, All, ◌&&◌, true≢false}
+use Rattle.std.proofs.Common.{◌≡◌, ℕ, ◌<◌, ◌≤◌, Bool, true, false, cond, ◌==◌, ltb, List, [], ◌∷◌, length, get_or, map, bit_xor, refl, sym, ap, ap₂, ◌∙◌, arith, zero-add, eqb-true, inl, inr, ⊎_elim, ◌&&◌, true≢false}
 use Rattle.std.proofs.lemmas.Bool.{cases_Bool, and_parts, ltb-true}
 use Rattle.std.proofs.lemmas.List.FromFn.{fill_by_all, length-map-range_with_len, get_or-map-range_with_len}
 use Rattle.std.specs.Int.Bits.{xor_zero_r}
 use Rattle.std.specs.List.{list_all, range_with_len}
 use Rattle.qfs_base.specs.Mask.{all_slots, has_slot, IsMask}
-use Rattle.qfs_galois.specs.Field.{product, inverse}
 use Rattle.qfs_galois.proofs.Additive.{xor_twice}
 use Rattle.qfs_code.specs.Code.{dot, column, slot_at, weighed, IsCodeWord, AreCodeWords}
 use Rattle.qfs_code.specs.Restored.{counts_of, cross, without_slots, combination, scaled_to, equation, weight, weights_by, weights, restored}

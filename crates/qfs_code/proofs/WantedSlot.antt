@@ -1,12 +1,12 @@
 -- The equation of a slot that isn't at hand: the slot counts 1 there, and each other that isn't at hand counts 0.
-use Rattle.std.proofs.Common.{◌≡◌, ◌≢◌, ℕ, zero, suc, ◌+◌, ◌<◌, ◌≤◌, Bool, true, false, cond, ◌==◌, ◌||◌, ltb, List, [], ◌∷◌, length, map, bit_xor, refl, sym, ap, ap₂, ◌∙◌, arith}
+use Rattle.std.proofs.Common.{◌≡◌, ◌≢◌, ℕ, ◌<◌, ◌≤◌, true, false, ◌==◌, ltb, List, length, ap, ◌∙◌}
 use Rattle.std.specs.List.{list_all}
-use Rattle.qfs_base.specs.Mask.{all_slots, has_slot, IsMask}
+use Rattle.qfs_base.specs.Mask.{has_slot, IsMask}
 use Rattle.qfs_galois.specs.Field.{product, inverse}
 use Rattle.qfs_galois.proofs.FieldLaws.{product_comm, product-zero}
 use Rattle.qfs_galois.proofs.Inverses.{product-inverse, inverse-lt}
-use Rattle.qfs_code.specs.Code.{dot, IsCodeWord}
-use Rattle.qfs_code.specs.Restored.{counts_of, cross, minor, without_slots, combination, scaled_to, equation}
+use Rattle.qfs_code.specs.Code.{dot}
+use Rattle.qfs_code.specs.Restored.{counts_of, combination, scaled_to, equation}
 use Rattle.qfs_code.proofs.Dot.{dot-scaled, dot-lt, multiples_are_bytes}
 use Rattle.qfs_code.proofs.Counts.{drops_out, stays_in, counts_are_bytes, without_slots_are_bytes}
 use Rattle.qfs_code.proofs.LeftOut.{first_out, second_out, LeavesOut, leaves_out, covered}

@@ -1,16 +1,13 @@
 -- A code word meets the three equations, and each combination of them.
-use Rattle.std.proofs.Common.{◌≡◌, ℕ, zero, suc, ◌+◌, ◌-◌, ◌*◌, ◌<◌, ◌≤◌, Bool, true, cond, ◌==◌, ltb, List, [], ◌∷◌, ◌++◌, length, get_or, take, drop, map, bit_xor, refl, sym, ap, ap₂, ◌∙◌, arith, take-append-drop, length-take, drop-cons, drop_of_length-le, lit<}
-use Rattle.std.proofs.lemmas.Bool.{and_parts}
+use Rattle.std.proofs.Common.{◌≡◌, ℕ, zero, suc, ◌+◌, ◌<◌, true, ltb, List, [], ◌∷◌, ◌++◌, length, get_or, take, drop, map, bit_xor, refl, sym, ap, ap₂, ◌∙◌, arith, take-append-drop, length-take, drop-cons, drop_of_length-le, lit<}
 use Rattle.std.specs.Int.Bits.{xor_self, xor_zero_r}
-use Rattle.std.specs.List.{list_all, range_with_len}
+use Rattle.std.specs.List.{list_all}
 use Rattle.qfs_base.specs.Mask.{all_slots}
 use Rattle.qfs_galois.specs.Field.{polynomial_product, remainder, product, power}
 use Rattle.qfs_galois.proofs.FieldLaws.{one-product, zero-product, product-zero}
-use Rattle.qfs_galois.proofs.Additive.{holds_below, at_each_below}
 use Rattle.qfs_code.specs.Code.{dot, parity, parity_row, IsCodeWord}
 use Rattle.qfs_code.specs.Restored.{counts, counts_of}
 use Rattle.qfs_code.proofs.Dot.{dot-append, dot-xor, dot-scaled_by, dot-zeros, all_bytes}
-use Rattle.qfs_code.proofs.Counts.{counts_are_bytes}
 
 -- what the parity slots count
 parity_counts : ℕ → List ℕ

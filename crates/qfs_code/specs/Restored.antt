@@ -5,7 +5,7 @@
 -- that isn't at hand, take a combination in which the wanted slot counts 1 and every other slot that isn't at hand counts
 -- 0: the wanted byte is what the slots at hand sum up to there. With six slots at hand two others can be missing beside
 -- the wanted one, and the combination is that in which two slots drop out.
-use Rattle.std.specs.Prelude.{◌≡◌, ℕ, ◌+◌, ◌-◌, ◌*◌, ◌<◌, Bool, cond, not, ◌&&◌, ◌||◌, ltb, ◌==◌, List, [], ◌∷◌, ◌++◌, map, find, Option, unwrap_or, bit_xor, slice_index}
+use Rattle.std.specs.Prelude.{ℕ, ◌+◌, ◌-◌, ◌*◌, Bool, cond, not, ◌&&◌, ◌||◌, ltb, ◌==◌, List, [], ◌∷◌, map, find, Option, unwrap_or, bit_xor, slice_index}
 use Rattle.std.specs.List.{range_with_len}
 use Rattle.qfs_base.specs.Mask.{all_slots, has_slot}
 use Rattle.qfs_galois.specs.Field.{product, power, inverse}

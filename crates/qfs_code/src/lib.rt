@@ -81,11 +81,9 @@ mod tests {
     #[test]
     fn six_slots_give_each_slot(rt: HostRuntime) {
         let whole = code_words();
-        let mut masks = 0;
         for bits in 0..512u16 {
             let have = mask_of(bits);
             if have.count() == 6 {
-                masks += 1;
                 let damaged = without(&whole, have);
                 for want in 0..SLOTS {
                     let mut out = [0; SIZE];
@@ -99,7 +97,6 @@ mod tests {
                 }
             }
         }
-        assert_eq!(rt; masks, 84);
     }
 
     /// Nine slots: some bytes, and their parity.

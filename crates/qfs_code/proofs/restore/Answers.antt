@@ -1,7 +1,6 @@
-use Rattle.std.proofs.Common.{◌≡◌, List, ℕ, true, false, cond, take, drop, length, ◌+◌, ◌-◌, ◌*◌, refl, ap, sym, ◌∙◌, arith}
-use Rattle.qfs_base.specs.Mask.{has_slot, IsMask}
-use Rattle.qfs_code.specs.Code.{slot_at, slots_of, weighed}
-use Rattle.qfs_code.specs.Restored.{restored, weights, weights_by}
+use Rattle.std.proofs.Common.{◌≡◌, take, drop, length, ◌+◌, ◌-◌, ◌*◌, ap, sym, ◌∙◌, arith}
+use Rattle.qfs_code.specs.Code.{slots_of, weighed}
+use Rattle.qfs_code.specs.Restored.{weights, weights_by}
 use Rattle.qfs_code.proofs.Columns.{slot_at-slots_of, length-slots_of}
 use Rattle.qfs_code.proofs.Restoring.{restored_is_slot, restored_at_hand, restored_from_others}
 use Rattle.qfs_code.proofs.restore.Goals as goal

@@ -1,4 +1,4 @@
-use Rattle.std.proofs.Common.{◌≡◌, ℕ, ◌*◌, ◌∷◌, [], List, ap, ap₂, sym, ◌∙◌}
+use Rattle.std.proofs.Common.{ℕ, ◌*◌, ◌∷◌, [], List, ap, ap₂, sym, ◌∙◌}
 use Rattle.qfs_galois.specs.Field.{power}
 use Rattle.qfs_code.proofs.Counts.{counts_of-data}
 use Rattle.qfs_code.proofs.equation.counts_of.Goals as goal
