@@ -4,6 +4,7 @@ pub mod KeyLaws
 pub mod KeyMap
 pub mod KeyMapLaws
 pub mod Layout
+pub mod Mask
 pub mod NameTree
 pub mod NumberSet
 pub mod NumberSetLaws
