@@ -1,6 +1,5 @@
 -- Each command asks a bounded number of requests.
-use Rattle.std.proofs.Common.{◌≡◌, ℕ, zero, suc, ◌+◌, ◌-◌, ◌*◌, ◌/◌, ◌<◌, ◌≤◌, min, max, Bool, true, false, ◌&&◌, List, [], ◌∷◌, ◌++◌, length, Option, Some, None, arith, sym, refl, suc-mul, mul-le-mul_right, nat_lt, nat_le}
-use Rattle.std.specs.Int.{div_ceil}
+use Rattle.std.proofs.Common.{◌≡◌, ℕ, zero, suc, ◌+◌, ◌*◌, ◌≤◌, min, Bool, true, false, ◌&&◌, List, [], ◌∷◌, ◌++◌, length, Option, Some, None, arith, refl, suc-mul, mul-le-mul_right, nat_lt, nat_le}
 use Rattle.std.proofs.lemmas.Bool.{leb-true}
 use Rattle.qfs_base.specs.Shape.{Shape}
 use Rattle.qfs_base.specs.declared.chunk.Copy.{Copy}
@@ -12,7 +11,6 @@ use Rattle.qfs_base.specs.declared.command.Range.{Range}
 use Rattle.qfs_base.specs.declared.layout.Window.{Window}
 use Rattle.qfs_base.specs.declared.reply.ChunkAnswer.{ChunkAnswer}
 use Rattle.qfs_base.specs.declared.reply.ChunkAnswer.TheVariants as Did
-use Rattle.qfs_base.specs.declared.reply.Condemned.{Condemned}
 use Rattle.qfs_base.specs.declared.reply.Granted.{Granted}
 use Rattle.qfs_base.specs.declared.reply.MetaReply.{MetaReply}
 use Rattle.qfs_base.specs.declared.reply.MetaReply.TheVariants as Said
@@ -20,13 +18,13 @@ use Rattle.qfs_base.specs.declared.reply.Opened.{Opened}
 use Rattle.qfs_base.specs.Recipe.{bytes_of}
 use Rattle.qfs_model_slot.specs.CodeWord.{SLOTS}
 use Rattle.qfs_model_actor.specs.Work.{Report, Work, ends}
-use Rattle.qfs_model_actor.specs.Hold.{Hold, nothing, opened, granted}
+use Rattle.qfs_model_actor.specs.Hold.{opened, granted}
 use Rattle.qfs_model_actor.specs.Grants.{MOST_ROWS, if_meant, is_in_range, with_proper, with_source, source_of}
 use Rattle.qfs_model_actor.specs.Windows.{blocks_touched, windows_touched, windows_of_rows, WINDOW_ROWS}
 use Rattle.qfs_model_actor.specs.Get.{MOST_BYTES, reading_of, listed_in, read_blocks, read_if_any, read_range, is_whole, read_if_whole, was_opened, range_of, get_work}
 use Rattle.qfs_model_actor.specs.Repair.{after_confirm, confirm, give_up, store_granted}
-use Rattle.qfs_model_actor.specs.Recover.{reading_for, restore_chunk, recover_slot, recovered, after_recover_at, recover_work, Healing, one_healed, one_not_healed, after_heal_next, heal_on, heal_work}
-use Rattle.qfs_model_actor.specs.Move.{copy_windows, copy_chunk, move_slot, moved, after_move_at, move_work, after_balance_next, rebalance_on, rebalance_work, Leaving, one_moved, one_not_moved, evacuated, count_left, after_evac_next, evacuate_on, after_leave, evacuate_work}
+use Rattle.qfs_model_actor.specs.Recover.{reading_for, restore_chunk, recover_slot, recovered, after_recover_at, recover_work, Healing, after_heal_next, heal_on, heal_work}
+use Rattle.qfs_model_actor.specs.Move.{copy_windows, copy_chunk, move_slot, moved, after_move_at, move_work, after_balance_next, rebalance_on, rebalance_work, Leaving, evacuated, count_left, after_evac_next, evacuate_on, after_leave, evacuate_work}
 use Rattle.qfs_model_actor.specs.Sweep.{say_swept, after_erase, erase, after_order, sweep_on, sweep_work}
 use Rattle.qfs_model_actor.specs.Servers.{after_bye, after_stop, stop_work, after_hello, after_inventory, tell_copies, after_start, start_work, after_wipe, wipe_work, after_rest, after_hibernate, hibernate_work}
 use Rattle.qfs_model_actor.specs.System.{ticked, dropped, saved, restarted, tick_work, drop_work, checkpoint_work, restart_work}
@@ -52,11 +50,11 @@ read_blocks-steps layout o from to (k ∷ ks) got =
     let m = length ks * (layout.r * SLOTS) in
     let windows = windows_touched layout from to k in
     more_steps (read_blocks layout o from to (k ∷ ks) got) (length windows * SLOTS + suc m)
-        (length (k ∷ ks) * (layout.r * SLOTS) + 1)
-        (omega (arith, suc-mul (length ks) (layout.r * SLOTS), length-windows_touched layout from to k))
-        (read_block-steps (reading_of layout o from to k) m windows (listed_in o k) got _
-            (too_few-steps layout o from to k m)
-            (λ more. more_steps (read_blocks layout o from to ks more) (m + 1) (suc m) (omega arith) (read_blocks-steps layout o from to ks more)))
+    (length (k ∷ ks) * (layout.r * SLOTS) + 1)
+    (omega (arith, suc-mul (length ks) (layout.r * SLOTS), length-windows_touched layout from to k))
+    (read_block-steps (reading_of layout o from to k) m windows (listed_in o k) got _
+    (too_few-steps layout o from to k m)
+    (λ more. more_steps (read_blocks layout o from to ks more) (m + 1) (suc m) (omega arith) (read_blocks-steps layout o from to ks more)))
 
 read_if_any-steps : (layout : Shape) (o : Opened) (from to : ℕ) → to ≤ MOST_BYTES → (b : Bool)
     → AsksAtMost (MOST_BYTES * (layout.r * SLOTS) + 1) (read_if_any layout o from to b)
@@ -65,10 +63,10 @@ read_if_any-steps layout o from to h true =
     let ks = blocks_touched layout from to in
     let few : length ks ≤ MOST_BYTES = omega (arith, h, length-blocks_touched layout from to) in
     more_steps (read_blocks layout o from to ks []) (length ks * (layout.r * SLOTS) + 1) (MOST_BYTES * (layout.r * SLOTS) + 1)
-        (omega (arith, mul-le-mul_right (layout.r * SLOTS) few)) (read_blocks-steps layout o from to ks [])
+    (omega (arith, mul-le-mul_right (layout.r * SLOTS) few)) (read_blocks-steps layout o from to ks [])
 read_if_any-steps layout o from to h false =
     more_steps (read_if_any layout o from to false) 1 (MOST_BYTES * (layout.r * SLOTS) + 1) (omega arith)
-        (end_with-steps 0 (opened o.lease) _)
+    (end_with-steps 0 (opened o.lease) _)
 
 first_of_two : (a b : Bool) → a && b ≡ true → a ≡ true
 first_of_two true b h = refl
@@ -97,7 +95,7 @@ unfolding get_work
 get_work-steps layout path range =
     let n = MOST_BYTES * (layout.r * SLOTS) + 1 in
     more_steps (get_work layout path range) (suc n) (steps_of_get layout) (omega arith)
-        (ask-nothing-steps n _ (was_opened layout (range_of range)) (was_opened-steps layout (range_of range)))
+    (ask-nothing-steps n _ (was_opened layout (range_of range)) (was_opened-steps layout (range_of range)))
 
 -- ---- what recoveries and moves share
 
@@ -126,9 +124,9 @@ unfolding store_granted
 store_granted-steps n done failed d f g chunk =
     let more = λ (w : Work) (h : AsksAtMost n w). more_steps w n (suc n) (omega arith) h in
     ask_server-steps (suc n) (granted g) g.server _ _
-        (after_store-steps (suc (suc n)) (confirm done failed g) _
-            (confirm-steps n done failed (more done d) (λ r. more (failed r) (f r)) g)
-            (λ cause. give_up-steps (suc n) failed (λ r. more (failed r) (f r)) g _))
+    (after_store-steps (suc (suc n)) (confirm done failed g) _
+    (confirm-steps n done failed (more done d) (λ r. more (failed r) (f r)) g)
+    (λ cause. give_up-steps (suc n) failed (λ r. more (failed r) (f r)) g _))
 
 unmeant : (n : ℕ) (next : Granted → Work) (g : Granted) → AsksAtMost n (if_meant next g false)
 unfolding if_meant
@@ -167,10 +165,10 @@ unfolding restore_chunk
 restore_chunk-steps n layout done failed d f g h =
     let windows = windows_of_rows g.block.index 0 g.rows in
     more_steps (restore_chunk layout done failed g) (length windows * SLOTS + suc (suc (suc n))) (MOST_WINDOWS * SLOTS + 3 + n)
-        (omega (arith, windows_of_chunk g.block.index g.rows h))
-        (read_block-steps (reading_for layout failed g) (suc (suc n)) windows g.sources [] _
-            (too_few_for-steps (suc (suc n)) layout failed (λ r. more_steps (failed r) n (suc (suc n)) (omega arith) (f r)) g)
-            (store_granted-steps n done failed d f g))
+    (omega (arith, windows_of_chunk g.block.index g.rows h))
+    (read_block-steps (reading_for layout failed g) (suc (suc n)) windows g.sources [] _
+    (too_few_for-steps (suc (suc n)) layout failed (λ r. more_steps (failed r) n (suc (suc n)) (omega arith) (f r)) g)
+    (store_granted-steps n done failed d f g))
 
 recover_slot-steps : (n : ℕ) (layout : Shape) (done : Work) (failed : Report → Work) → AsksAtMost n done
     → ((r : Report) → AsksAtMost n (failed r)) → (g : Granted)
@@ -184,7 +182,7 @@ after_recover_at-steps : (layout : Shape) (index slot : ℕ) (a : MetaReply)
 unfolding after_recover_at
 after_recover_at-steps layout index slot (Said.Granted g) =
     with_grant_of-steps (MOST_WINDOWS * SLOTS + 3) index slot _ g
-        (recover_slot-steps 0 layout (ends (recovered g)) ends tt (λ r. tt) g)
+    (recover_slot-steps 0 layout (ends (recovered g)) ends tt (λ r. tt) g)
 after_recover_at-steps layout index slot (Said.BadPath refusal) = tt
 after_recover_at-steps layout index slot Said.NoBlock = tt
 after_recover_at-steps layout index slot (Said.Taken version) = tt
@@ -212,8 +210,8 @@ heal_on-steps layout zero so_far = tt
 heal_on-steps layout (suc budget) so_far =
     let n = budget * steps_of_recovery in
     more_steps (heal_on layout (suc budget) so_far) (suc (MOST_WINDOWS * SLOTS + 3 + n)) (suc budget * steps_of_recovery) (omega arith)
-        (ask-nothing-steps (MOST_WINDOWS * SLOTS + 3 + n) _ _
-            (after_heal_next-steps n layout so_far _ (λ further. heal_on-steps layout budget further)))
+    (ask-nothing-steps (MOST_WINDOWS * SLOTS + 3 + n) _ _
+    (after_heal_next-steps n layout so_far _ (λ further. heal_on-steps layout budget further)))
 
 heal_work-steps : (layout : Shape) (budget : ℕ) → AsksAtMost (budget * steps_of_recovery) (heal_work layout budget)
 unfolding heal_work
@@ -231,12 +229,12 @@ copy_windows-steps n stripe failed g source next f h [] got =
 copy_windows-steps n stripe failed g source next f h (w ∷ windows) got =
     let m = length windows + n in
     more_steps (copy_windows stripe failed g source next (w ∷ windows) got) (suc (suc m)) (length (w ∷ windows) + suc n) (omega arith)
-        (fetch-steps m (granted g) g.block g.slot _ _ _ _
-            (λ room.
-                more_steps (copy_windows stripe failed g source next windows (got ++ room)) (length windows + suc n) (suc m) (omega arith)
-                    (copy_windows-steps n stripe failed g source next f h windows (got ++ room)))
-            (λ cause. give_up-steps m failed (λ r. more_steps (failed r) n m (omega arith) (f r)) g _)
-            source)
+    (fetch-steps m (granted g) g.block g.slot _ _ _ _
+    (λ room.
+    more_steps (copy_windows stripe failed g source next windows (got ++ room)) (length windows + suc n) (suc m) (omega arith)
+    (copy_windows-steps n stripe failed g source next f h windows (got ++ room)))
+    (λ cause. give_up-steps m failed (λ r. more_steps (failed r) n m (omega arith) (f r)) g _)
+    source)
 
 copy_chunk-steps : (n : ℕ) (layout : Shape) (done : Work) (failed : Report → Work) → AsksAtMost n done
     → ((r : Report) → AsksAtMost n (failed r)) → (g : Granted) → g.rows ≤ MOST_ROWS → (source : Copy)
@@ -245,10 +243,10 @@ unfolding copy_chunk
 copy_chunk-steps n layout done failed d f g h source =
     let windows = windows_of_rows g.block.index 0 g.rows in
     more_steps (copy_chunk layout done failed g source) (length windows + suc (suc (suc n))) (MOST_WINDOWS + 3 + n)
-        (omega (arith, windows_of_chunk g.block.index g.rows h))
-        (copy_windows-steps (suc (suc n)) layout.s failed g source _
-            (λ r. more_steps (failed r) n (suc (suc n)) (omega arith) (f r))
-            (store_granted-steps n done failed d f g) windows [])
+    (omega (arith, windows_of_chunk g.block.index g.rows h))
+    (copy_windows-steps (suc (suc n)) layout.s failed g source _
+    (λ r. more_steps (failed r) n (suc (suc n)) (omega arith) (f r))
+    (store_granted-steps n done failed d f g) windows [])
 
 with_source-steps : (n : ℕ) (next : Copy → Work) → ((source : Copy) → AsksAtMost n (next source))
     → (found : Option Copy) → AsksAtMost n (with_source next found)
@@ -262,13 +260,13 @@ move_slot-steps : (n : ℕ) (layout : Shape) (done : Copy → Work) (failed : Re
 unfolding move_slot
 move_slot-steps n layout done failed d f g =
     with_proper-steps (MOST_WINDOWS + 3 + n) _ g
-        (λ h. with_source-steps (MOST_WINDOWS + 3 + n) _ (λ source. copy_chunk-steps n layout (done source) failed (d source) f g h source) (source_of g))
+    (λ h. with_source-steps (MOST_WINDOWS + 3 + n) _ (λ source. copy_chunk-steps n layout (done source) failed (d source) f g h source) (source_of g))
 
 after_move_at-steps : (layout : Shape) (index slot : ℕ) (a : MetaReply) → AsksAtMost (MOST_WINDOWS + 3) (after_move_at layout index slot a)
 unfolding after_move_at
 after_move_at-steps layout index slot (Said.Granted g) =
     with_grant_of-steps (MOST_WINDOWS + 3) index slot _ g
-        (move_slot-steps 0 layout (λ source. ends (moved g source)) ends (λ source. tt) (λ r. tt) g)
+    (move_slot-steps 0 layout (λ source. ends (moved g source)) ends (λ source. tt) (λ r. tt) g)
 after_move_at-steps layout index slot (Said.BadPath refusal) = tt
 after_move_at-steps layout index slot Said.NoBlock = tt
 after_move_at-steps layout index slot (Said.Taken version) = tt
@@ -294,8 +292,8 @@ rebalance_on-steps layout zero so_far = tt
 rebalance_on-steps layout (suc budget) so_far =
     let n = budget * steps_of_move in
     more_steps (rebalance_on layout (suc budget) so_far) (suc (MOST_WINDOWS + 3 + n)) (suc budget * steps_of_move) (omega arith)
-        (ask-nothing-steps (MOST_WINDOWS + 3 + n) _ _
-            (after_balance_next-steps n layout so_far _ (λ more. rebalance_on-steps layout budget more)))
+    (ask-nothing-steps (MOST_WINDOWS + 3 + n) _ _
+    (after_balance_next-steps n layout so_far _ (λ more. rebalance_on-steps layout budget more)))
 
 rebalance_work-steps : (layout : Shape) (budget : ℕ) → AsksAtMost (budget * steps_of_move) (rebalance_work layout budget)
 unfolding rebalance_work
@@ -328,8 +326,8 @@ evacuate_on-steps layout server zero so_far =
 evacuate_on-steps layout server (suc budget) so_far =
     let n = budget * steps_of_move + 1 in
     more_steps (evacuate_on layout server (suc budget) so_far) (suc (MOST_WINDOWS + 3 + n)) (suc budget * steps_of_move + 1) (omega arith)
-        (ask-nothing-steps (MOST_WINDOWS + 3 + n) _ _
-            (after_evac_next-steps n layout server so_far _ (λ further. evacuate_on-steps layout server budget further)))
+    (ask-nothing-steps (MOST_WINDOWS + 3 + n) _ _
+    (after_evac_next-steps n layout server so_far _ (λ further. evacuate_on-steps layout server budget further)))
 
 after_leave-steps : (layout : Shape) (server budget : ℕ) (a : MetaReply)
     → AsksAtMost (budget * steps_of_move + 1) (after_leave layout server budget a)
@@ -342,7 +340,7 @@ unfolding evacuate_work
 evacuate_work-steps layout server budget =
     let n = budget * steps_of_move + 1 in
     more_steps (evacuate_work layout server budget) (suc n) (budget * steps_of_move + 2) (omega arith)
-        (ask-nothing-steps n _ (after_leave layout server budget) (after_leave-steps layout server budget))
+    (ask-nothing-steps n _ (after_leave layout server budget) (after_leave-steps layout server budget))
 
 -- ---- sweeps
 
@@ -370,7 +368,7 @@ sweep_on-steps zero after erased = tt
 sweep_on-steps (suc budget) after erased =
     let n = budget * 3 in
     more_steps (sweep_on (suc budget) after erased) (suc (suc (suc n))) (suc budget * 3) (omega arith)
-        (ask-nothing-steps (suc (suc n)) _ _ (after_order-steps n erased _ (λ last total. sweep_on-steps budget last total)))
+    (ask-nothing-steps (suc (suc n)) _ _ (after_order-steps n erased _ (λ last total. sweep_on-steps budget last total)))
 
 sweep_work-steps : (budget : ℕ) → AsksAtMost (budget * 3) (sweep_work budget)
 unfolding sweep_work

@@ -1,6 +1,5 @@
 -- A put asks a bounded number of requests.
-use Rattle.std.proofs.Common.{◌≡◌, ℕ, zero, suc, ◌+◌, ◌-◌, ◌*◌, ◌<◌, ◌≤◌, Bool, true, false, List, [], ◌∷◌, length, arith, subst, sym}
-use Rattle.std.specs.List.{range_with_len}
+use Rattle.std.proofs.Common.{ℕ, zero, suc, ◌+◌, ◌-◌, ◌*◌, Bool, true, false, List, length, arith}
 use Rattle.std.proofs.lemmas.List.FromFn.{length-range_with_len}
 use Rattle.qfs_base.specs.Layout.{blocks_of}
 use Rattle.qfs_base.specs.Shape.{Shape}
@@ -8,8 +7,8 @@ use Rattle.qfs_base.specs.declared.reply.Granted.{Granted}
 use Rattle.qfs_base.specs.declared.reply.MetaReply.{MetaReply}
 use Rattle.qfs_base.specs.declared.reply.MetaReply.TheVariants as Said
 use Rattle.qfs_model_slot.specs.CodeWord.{SLOTS, all_slots}
-use Rattle.qfs_model_actor.specs.Work.{Report, Work, ends, asks, for_each}
-use Rattle.qfs_model_actor.specs.Hold.{Hold, nothing, unclosed}
+use Rattle.qfs_model_actor.specs.Work.{Work}
+use Rattle.qfs_model_actor.specs.Hold.{unclosed}
 use Rattle.qfs_model_actor.specs.Tree.{refused, changed, listed, change_work, list_work}
 use Rattle.qfs_model_actor.specs.Grants.{if_meant, with_grant_of}
 use Rattle.qfs_model_actor.specs.Put.{MOST_GRANTS, aborted, chosen, ask_grant, store, store_slot, blocks_from, store_slots, store_blocks, closed, close_file, put_blocks_from, created, put_work}
@@ -81,17 +80,17 @@ store_slot-steps : (grants : ℕ) (again : Bool) (layout : Shape) (bytes : List 
 unfolding store_slot
 store_slot-steps zero again layout bytes file index slot rest n h =
     more_steps (ask_grant file index slot again _) 2 (2 * 0 + 2 + suc n) (omega arith)
-        (ask_grant-steps 0 file index slot again _ (λ g. tt))
+    (ask_grant-steps 0 file index slot again _ (λ g. tt))
 store_slot-steps (suc grants) again layout bytes file index slot rest n h =
     let m = 2 * grants + 2 + n in
     let next = store_slot grants true layout bytes file index slot rest in
     let again_steps =
-        more_steps next (2 * grants + 2 + suc n) (suc m) (omega arith)
-            (store_slot-steps grants true layout bytes file index slot rest n h) in
+    more_steps next (2 * grants + 2 + suc n) (suc m) (omega arith)
+    (store_slot-steps grants true layout bytes file index slot rest n h) in
     let rest_steps = more_steps rest (suc n) (suc m) (omega arith) h in
     more_steps (ask_grant file index slot again _) (suc (suc (suc m))) (2 * suc grants + 2 + suc n) (omega arith)
-        (ask_grant-steps (suc m) file index slot again _
-            (store-steps m layout bytes file index slot rest next rest_steps again_steps))
+    (ask_grant-steps (suc m) file index slot again _
+    (store-steps m layout bytes file index slot rest next rest_steps again_steps))
 
 store_slots-steps : (layout : Shape) (bytes : List ℕ) (file index : ℕ) (slots : List ℕ) (rest : Work) (n : ℕ)
     → AsksAtMost (suc n) rest
@@ -99,7 +98,7 @@ store_slots-steps : (layout : Shape) (bytes : List ℕ) (file index : ℕ) (slot
 unfolding store_slots
 store_slots-steps layout bytes file index slots rest n h =
     for_each-steps steps_of_slot (store_slot MOST_GRANTS false layout bytes file index)
-        (λ slot more m k. store_slot-steps MOST_GRANTS false layout bytes file index slot more m k) slots rest n h
+    (λ slot more m k. store_slot-steps MOST_GRANTS false layout bytes file index slot more m k) slots rest n h
 
 store_blocks-steps : (layout : Shape) (bytes : List ℕ) (file : ℕ) (blocks : List ℕ) (rest : Work) (n : ℕ)
     → AsksAtMost (suc n) rest
@@ -107,7 +106,7 @@ store_blocks-steps : (layout : Shape) (bytes : List ℕ) (file : ℕ) (blocks : 
 unfolding store_blocks
 store_blocks-steps layout bytes file blocks rest n h =
     for_each-steps (SLOTS * steps_of_slot) (λ index more. store_slots layout bytes file index all_slots more)
-        (λ index more m k. store_slots-steps layout bytes file index all_slots more m k) blocks rest n h
+    (λ index more m k. store_slots-steps layout bytes file index all_slots more m k) blocks rest n h
 
 closed-steps : (n len : ℕ) (a : MetaReply) → AsksAtMost n (closed len a)
 unfolding closed
@@ -125,10 +124,10 @@ put_blocks-steps layout bytes file =
     let blocks = blocks_of layout.s layout.r (length bytes) in
     let n = length (blocks_from layout (length bytes) 0) in
     more_steps (store_blocks layout bytes file (blocks_from layout (length bytes) 0) (close_file (length bytes) file))
-        (n * (SLOTS * steps_of_slot) + 2) (blocks * (SLOTS * steps_of_slot) + 2)
-        (omega (arith, length-range_with_len 0 (blocks - 0)))
-        (store_blocks-steps layout bytes file (blocks_from layout (length bytes) 0) (close_file (length bytes) file) 1
-            (close_file-steps (length bytes) file))
+    (n * (SLOTS * steps_of_slot) + 2) (blocks * (SLOTS * steps_of_slot) + 2)
+    (omega (arith, length-range_with_len 0 (blocks - 0)))
+    (store_blocks-steps layout bytes file (blocks_from layout (length bytes) 0) (close_file (length bytes) file) 1
+    (close_file-steps (length bytes) file))
 
 created-steps : (layout : Shape) (bytes : List ℕ) (a : MetaReply)
     → AsksAtMost (blocks_of layout.s layout.r (length bytes) * (SLOTS * steps_of_slot) + 2) (created layout bytes a)
@@ -142,4 +141,4 @@ unfolding put_work
 put_work-steps layout number path bytes =
     let n = blocks_of layout.s layout.r (length bytes) * (SLOTS * steps_of_slot) + 2 in
     more_steps (put_work layout number path bytes) (suc n) (steps_of_put layout (length bytes)) (omega arith)
-        (ask-nothing-steps n _ (created layout bytes) (created-steps layout bytes))
+    (ask-nothing-steps n _ (created layout bytes) (created-steps layout bytes))
