@@ -1,3 +1,4 @@
+pub mod FileReplies
 pub mod Files
 pub mod Key
 pub mod KeyLaws

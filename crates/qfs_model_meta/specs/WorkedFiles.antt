@@ -8,6 +8,8 @@ use Rattle.qfs_base.specs.declared.reply.MetaReply.{MetaReply}
 use Rattle.qfs_base.specs.declared.reply.MetaReply.TheVariants as Told
 use Rattle.qfs_base.specs.declared.reply.TreeRefusal.TheVariants as Not
 use Rattle.qfs_base.specs.declared.request.MetaRequest.TheVariants as Ask
+use Rattle.qfs_base.specs.Files.{Puts, FileEntry, IsDirectory, IsClosed, files_of}
+use Rattle.qfs_model_meta.specs.Sound.{file_entry}
 use Rattle.qfs_model_meta.specs.Worked.{Asked, run, begins, path_a, path_d, path_q, path_df, path_de, path_xy, put_asked, grants_asked, first_nine, grant_on, refused}
 
 -- a put of five bytes and a get: `put /a`, `get /a`
@@ -95,6 +97,10 @@ rename_replies =
     ∷ Told.Names 4 (record { part = codes "q"; kind = Is.Directory } ∷ [])
     ∷ []
 
+abbrev pub rename_history : List Entry
+rename_history =
+    Wrote.Mkdir path_d ∷ Wrote.Created 1 path_df ∷ Wrote.Renamed path_d path_q ∷ Wrote.Closed 1 1 2 ∷ []
+
 -- a path is removed and put anew while a get of it runs, and read again
 abbrev pub replace_asked : List Asked
 replace_asked =
@@ -121,8 +127,26 @@ pub record TreeRefusals : Type 0 where
   pub replies : (run (begins 9) tree_asked).replies ≡ tree_replies
   pub history : (run (begins 9) tree_asked).meta.history ≡ tree_history
 
+-- the files that are left, whatever the puts' bytes are: a directory with a file that was renamed with
+-- it, and a file that was put anew
+abbrev pub renamed_files : Puts → List FileEntry
+renamed_files puts =
+    record { path = path_q; content = IsDirectory }
+    ∷ record { path = codes "q" ∷ codes "f" ∷ []; content = IsClosed 1 (puts 1 2) }
+    ∷ []
+
+abbrev pub replaced_files : Puts → List FileEntry
+replaced_files puts = record { path = path_a; content = IsClosed 2 (puts 2 2) } ∷ []
+
+-- the history and the tree of a run leave these files
+pub record Leaves (asked : List Asked) (history : List Entry) (files : Puts → List FileEntry) : Type 0 where
+  pub written : (run (begins 9) asked).meta.history ≡ history
+  pub tree : (puts : Puts) → map (file_entry puts) (run (begins 9) asked).meta.tree ≡ files puts
+  pub replayed : (puts : Puts) → files_of puts history ≡ files puts
+
 pub record Renamed : Type 0 where
   pub replies : (run (begins 9) rename_asked).replies ≡ rename_replies
+  pub leaves : Leaves rename_asked rename_history renamed_files
 
-pub record Replaced : Type 0 where
-  pub history : (run (begins 9) replace_asked).meta.history ≡ replace_history
+abbrev pub Replaced : Type 0
+Replaced = Leaves replace_asked replace_history replaced_files
