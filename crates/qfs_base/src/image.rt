@@ -83,7 +83,7 @@ pub struct SlotRecord {
 pub struct SlotRow {
     pub block: BlockId,
     pub slot: Slot,
-    pub record: SlotRecord,
+    pub state: SlotRecord,
 }
 
 /// The slots that have a record, by block and slot.

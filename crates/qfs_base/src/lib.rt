@@ -11,6 +11,7 @@ pub mod layout;
 pub mod listing;
 mod listing_compared;
 pub mod lists;
+pub mod mask;
 pub mod numbers;
 pub mod path;
 pub mod recipe;

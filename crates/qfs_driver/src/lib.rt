@@ -1,0 +1,7 @@
+//! The calls that the program makes: a script is read, its commands are run over devices that are
+//! handed in, and what comes of it is written.
+#![tactic(auto)]
+
+mod status;
+
+pub use status::Status;
