@@ -1,5 +1,5 @@
 -- The keys in a list of sizes are those of the chunks.
-use Rattle.std.proofs.Common.{◌≡◌, List, [], ◌∷◌, refl, ap}
+use Rattle.std.proofs.Common.{◌≡◌, [], ◌∷◌, refl, ap}
 use Rattle.std.specs.Prelude.{map}
 use Rattle.std.specs.Map.{keys_of}
 use Rattle.qfs_device.specs.Held.{Contents, sizes_of}

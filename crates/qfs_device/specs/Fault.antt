@@ -1,5 +1,5 @@
 -- Counts of faults: a device, a source or a sink that answers a failure has one more of them.
-use Rattle.std.specs.Prelude.{ℕ, ◌≡◌, ◌<◌, ◌≤◌, ◌⊎◌, Result, Ok, Err, ⊤}
+use Rattle.std.specs.Prelude.{ℕ, ◌<◌, ◌≤◌, ◌⊎◌, Result, Ok, Err, ⊤}
 use Rattle.qfs_device.specs.declared.errors.DeviceError.{DeviceError}
 use Rattle.qfs_device.specs.declared.errors.DeviceError.TheVariants.{Failed, NoMemory}
 

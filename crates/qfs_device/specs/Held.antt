@@ -1,5 +1,5 @@
 -- What a device holds, and what its calls do to that.
-use Rattle.std.specs.Prelude.{ℕ, ◌≡◌, ◌+◌, ◌<◌, ◌≤◌, min, IsTrue, List, [], ◌∷◌, ◌++◌, length, take, drop, map, Option, Some, None, Result, Ok, Err, unwrap_or, ⊤}
+use Rattle.std.specs.Prelude.{ℕ, ◌≡◌, ◌+◌, ◌<◌, ◌≤◌, min, IsTrue, List, [], length, take, map, Option, Some, None, Result, Ok, Err, unwrap_or, ⊤}
 use Rattle.std.specs.Option.{option_map}
 use Rattle.qfs_base.specs.Key.{key_cmp}
 use Rattle.qfs_base.specs.KeyMap.{value_at, has_key, with_entry, without_key}

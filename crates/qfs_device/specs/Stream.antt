@@ -1,5 +1,5 @@
 -- What is left in a source, and what was written to a sink.
-use Rattle.std.specs.Prelude.{ℕ, ◌≡◌, List, [], ◌++◌, take, Option, IfSome}
+use Rattle.std.specs.Prelude.{ℕ, ◌≡◌, List, [], ◌++◌, Option, IfSome}
 use Rattle.std.specs.Option.{option_map}
 
 -- bytes were taken: what was left is these bytes and what is left now

@@ -80,10 +80,7 @@ fn copy_part(bytes: &[u8], from: usize, out: &mut [u8])
 }
 
 // Each key with the length of its bytes.
-fn key_sizes(
-    alloc: Global,
-    chunks: &KeyMap<ChunkKey, Listing<u8>>,
-) -> Result<KeySizes, AllocError>
+fn key_sizes(alloc: Global, chunks: &KeyMap<ChunkKey, Listing<u8>>) -> Result<KeySizes, AllocError>
     ensures sizes { IfOk result (λ sizes. sizes ≡ sizes_of chunks.now) }
     ensures rising { IfOk result (λ sizes. IsStrictlySortedBy key_cmp (map (λ chunk. chunk.key) sizes)) }
 {

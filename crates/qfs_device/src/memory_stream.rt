@@ -99,7 +99,11 @@ pub type SureSink = RoomSink<NeverFails>;
 impl RoomSink<FailList> {
     /// An empty sink with room for so many bytes. `fails` are the numbers of the writes that
     /// fail, rising, counted from 1.
-    pub fn new(alloc: Global, room: usize, fails: Vec<u64>) -> Result<RoomSink<FailList>, AllocError>
+    pub fn new(
+        alloc: Global,
+        room: usize,
+        fails: Vec<u64>,
+    ) -> Result<RoomSink<FailList>, AllocError>
         ensures written { IfOk result (λ sink. ⟦<RoomSink<FailList> as Sink>⟧.written sink ≡ Some []) }
         ensures faults { IfOk result (λ sink. ⟦<RoomSink<FailList> as Sink>⟧.faults sink ≡ 0) }
     {

@@ -1,5 +1,5 @@
 -- The keys of the sizes are those of the map, which rise.
-use Rattle.std.proofs.Common.{◌≡◌, rules, arith}
+use Rattle.std.proofs.Common.{◌≡◌, arith}
 use Rattle.std.proofs.lemmas.Grind.{common_steps}
 use Rattle.qfs_device.proofs.Sizes.{keys-sizes_of}
 use Rattle.qfs_device.specs.Held.{sizes_of}

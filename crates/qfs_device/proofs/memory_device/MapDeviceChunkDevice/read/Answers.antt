@@ -1,5 +1,5 @@
 -- The device tells what it holds, so the caller knows that the range lies in the key's bytes.
-use Rattle.std.proofs.Common.{◌≡◌, ◌≤◌, ◌+◌, length, refl, arith}
+use Rattle.std.proofs.Common.{refl}
 use Rattle.qfs_device.specs.Held.{LiesIn}
 use Rattle.qfs_device.proofs.memory_device.MapDeviceChunkDevice.read.Goals as goal
 
