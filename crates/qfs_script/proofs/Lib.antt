@@ -1,0 +1,4 @@
+pub mod CommandLines
+pub mod CommandTexts
+pub mod NumberTexts
+pub mod Splits
