@@ -2,6 +2,8 @@
 //! handed in, and what comes of it is written.
 #![tactic(auto)]
 
+mod reading;
 mod status;
+mod words;
 
 pub use status::Status;

@@ -1,18 +1,26 @@
 -- The steps of a script whose one phase has one actor.
 use Rattle.std.proofs.Common.{◌≡◌, ℕ, ◌+◌, Bool, true, false, cond, List, [], ◌∷◌, ◌++◌, length, Option, Some, None, refl, sym, ◌∙◌, ap, ap₂, subst, eq-eqb}
-use Rattle.std.specs.Prelude.{◌&&◌, ◌==◌, is_none, slice_get}
+use Rattle.std.specs.Prelude.{◌&&◌, ◌==◌, is_none, slice_get, slice_set}
 use Rattle.std.specs.List.{list_any}
 use Rattle.qfs_base.specs.Outcome.{outcome_of}
 use Rattle.qfs_base.specs.declared.command.Command.{Command}
 use Rattle.qfs_base.specs.declared.history.Outcome.{Outcome}
 use Rattle.qfs_base.specs.declared.history.Outcome.TheVariants as Ended
 use Rattle.qfs_base.specs.declared.history.Step.{Step}
-use Rattle.qfs_base.specs.declared.reply.NodeReply.{NodeReply}
+use Rattle.qfs_base.specs.declared.image.MetaImage.{MetaImage}
+use Rattle.qfs_base.specs.declared.reply.ChunkReply.{ChunkReply}
+use Rattle.qfs_base.specs.declared.reply.MetaReply.{MetaReply}
+use Rattle.qfs_base.specs.declared.reply.NodeReply.TheVariants as From
+use Rattle.qfs_base.specs.declared.request.ChunkRequest.{ChunkRequest}
+use Rattle.qfs_base.specs.declared.request.MetaRequest.{MetaRequest}
 use Rattle.qfs_base.specs.declared.request.NodeRequest.{NodeRequest}
+use Rattle.qfs_base.specs.declared.request.NodeRequest.TheVariants as To
 use Rattle.qfs_base.specs.declared.script.Script.{Script}
 use Rattle.qfs_model_actor.specs.Actor.{Actor, request_of, has_finished, after_reply}
+use Rattle.qfs_model_meta.specs.Step.{Served, meta_step}
+use Rattle.qfs_model_server.specs.Server.{Server, Answered, server_step}
 use Rattle.qfs_model_text.specs.Order.{same_outcome}
-use Rattle.qfs_model_world.specs.World.{World, Turned, numbered, renumbered, node_turn, handed_over, move_asking, move_actor, move}
+use Rattle.qfs_model_world.specs.World.{World, Turned, numbered, renumbered, meta_turned, chunk_turn, chunk_turned, node_turn, handed_over, move_asking, move_actor, move}
 use Rattle.qfs_model_world.specs.Fits.{unfinished, by_phase, first_filled, turn, may_end, is_possible, is_possible_for, is_possible_of, may_come, is_over}
 
 -- a step of the one actor that came out done
@@ -87,3 +95,45 @@ pub is_over-one : (script : Script) (world : World) (commands : List Command) (a
 unfolding is_over
 is_over-one script world commands actor phases actors finished =
     rw (turn-one script world commands actor phases actors, finished) refl
+
+-- the metaserver served the actor's request, and the actor took its reply
+pub move-meta : (world : World) (actor : Actor) (request : MetaRequest) (meta : MetaImage) (reply : MetaReply)
+    → world.actors ≡ actor ∷ [] → request_of actor ≡ Some (To.Meta request)
+    → meta_step world.layout 1 request Ended.Done world.meta ≡ record { meta = meta; reply = reply }
+    → move world done_step
+        ≡ record world { meta = meta; actors = after_reply actor (From.Meta reply) ∷ [] }
+unfolding node_turn meta_turned handed_over renumbered
+move-meta world actor request meta reply actors asked served =
+    move-one world actor (To.Meta request) actors asked
+    ∙ ap (λ (s : Served). handed_over 1 actor (meta_turned world s)) served
+    ∙ ap (λ actors. record world { meta = meta; actors = slice_set actors 0 (after_reply actor (From.Meta reply)) }) actors
+
+-- what the metaserver answers is the reply of the node's turn
+pub reply-meta : (world : World) (request : MetaRequest) (meta : MetaImage) (reply : MetaReply)
+    → meta_step world.layout 1 request Ended.Done world.meta ≡ record { meta = meta; reply = reply }
+    → (node_turn world 1 Ended.Done (To.Meta request)).reply ≡ From.Meta reply
+unfolding node_turn meta_turned
+reply-meta world request meta reply served = ap (λ (s : Served). From.Meta s.reply) served
+
+-- a chunk server served the actor's request, and the actor took its reply
+pub move-chunk : (world : World) (actor : Actor) (number : ℕ) (request : ChunkRequest) (before after : Server) (reply : ChunkReply)
+    → world.actors ≡ actor ∷ [] → request_of actor ≡ Some (To.Chunk number request)
+    → numbered world.servers number ≡ Some before
+    → server_step request Ended.Done before ≡ record { server = after; reply = reply }
+    → move world done_step
+        ≡ record world { servers = renumbered world.servers number after; actors = after_reply actor (From.Chunk reply) ∷ [] }
+unfolding node_turn chunk_turn chunk_turned handed_over renumbered
+move-chunk world actor number request before after reply actors asked there served =
+    move-one world actor (To.Chunk number request) actors asked
+    ∙ ap (λ found. handed_over 1 actor (chunk_turn world number request Ended.Done found)) there
+    ∙ ap (λ (s : Answered). handed_over 1 actor (chunk_turned world number s)) served
+    ∙ ap (λ actors. record world { servers = renumbered world.servers number after; actors = slice_set actors 0 (after_reply actor (From.Chunk reply)) }) actors
+
+pub reply-chunk : (world : World) (number : ℕ) (request : ChunkRequest) (before after : Server) (reply : ChunkReply)
+    → numbered world.servers number ≡ Some before
+    → server_step request Ended.Done before ≡ record { server = after; reply = reply }
+    → (node_turn world 1 Ended.Done (To.Chunk number request)).reply ≡ From.Chunk reply
+unfolding node_turn chunk_turn chunk_turned
+reply-chunk world number request before after reply there served =
+    ap (λ found. (chunk_turn world number request Ended.Done found).reply) there
+    ∙ ap (λ (s : Answered). From.Chunk s.reply) served
