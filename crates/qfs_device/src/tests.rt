@@ -1,7 +1,8 @@
 //! Calls that fail, through the traits' bounds.
 use crate::{
     ChunkDevice, DeviceError, Failed, LogDisk, MemoryDevice, MemoryDisk, MemorySink, MemorySource,
-    Sink, Source, SureDevice, SureDisk, SureSink, SureSource, read_all, write_all,
+    MetaDisks, NoGate, Sink, Source, StdSink, StdSource, SureDevice, SureDisk, SureSink,
+    SureSource, read_all, write_all,
 };
 use qfs_base::chunk::{BlockId, ChunkKey};
 use std::alloc::Global;
@@ -98,5 +99,22 @@ fn a_disk_begins_empty(rt: HostRuntime) -> Result<(), Fail> {
     let disk = MemoryDisk::new(rt.alloc(), numbers(rt.alloc(), &[9])?);
     assert_eq!(rt; size_of(&disk), 0);
     assert_eq!(rt; size_of(&SureDisk::new(rt.alloc())), 0);
+    Ok(())
+}
+
+// A value that may cross threads.
+fn crosses<T: Send + Sync + Drop>(_value: T) {}
+
+#[test]
+fn all_may_cross_threads(rt: HostRuntime) -> Result<(), Fail> {
+    crosses(MemoryDevice::new(rt.alloc(), Vec::new(rt.alloc())));
+    crosses(SureDevice::new(rt.alloc()));
+    crosses(MetaDisks {
+        left: Some(SureDisk::new(rt.alloc())),
+        right: None,
+    });
+    crosses(StdSource::new(rt.stdin()));
+    crosses(StdSink::new(rt.stdout()));
+    crosses(NoGate);
     Ok(())
 }
