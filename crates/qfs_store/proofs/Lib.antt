@@ -1,0 +1,4 @@
+pub mod StandsLaws
+pub mod StepLaws
+pub mod PutLaws
+pub mod FetchLaws
