@@ -1,0 +1,12 @@
+//! The metaserver in memory, over plain lists: which requests it refuses, and what the others
+//! change.
+#![tactic(auto)]
+
+mod census;
+mod closing;
+mod leases;
+mod listed;
+mod names;
+mod rows;
+mod servers;
+mod slots;
