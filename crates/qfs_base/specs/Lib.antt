@@ -1,3 +1,4 @@
+pub mod Files
 pub mod Key
 pub mod KeyMap
 pub mod Layout

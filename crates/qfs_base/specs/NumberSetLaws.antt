@@ -53,13 +53,13 @@ has-numbers_in test first (suc count) n low high =
     let rest : List ℕ = numbers_in test (first + 1) count in
     has-keep_if (test first) first rest n
     ∙ ⊎_elim
-        (λ here. subst (λ m. ((test first && nat_eq first m) || has rest m) ≡ test m) here
-          (ap (λ t. (test first && t) || has rest first) (same_number first)
-          ∙ only_here (test first) _ (has-numbers_in_above test (first + 1) count first (omega arith))))
-        (λ later. ap (λ t. (test first && t) || has rest n) (below first n later)
-          ∙ neither (test first) _
-          ∙ has-numbers_in test (first + 1) count n (omega arith) (omega arith))
-        (eq-or-lt_of_le low)
+    (λ here. subst (λ m. ((test first && nat_eq first m) || has rest m) ≡ test m) here
+    (ap (λ t. (test first && t) || has rest first) (same_number first)
+    ∙ only_here (test first) _ (has-numbers_in_above test (first + 1) count first (omega arith))))
+    (λ later. ap (λ t. (test first && t) || has rest n) (below first n later)
+    ∙ neither (test first) _
+    ∙ has-numbers_in test (first + 1) count n (omega arith) (omega arith))
+    (eq-or-lt_of_le low)
 
 pub has-numbers_in_below : (test : ℕ → Bool) (first count n : ℕ) → first + count ≤ n → has (numbers_in test first count) n ≡ false
 has-numbers_in_below test first zero n high = refl
@@ -111,16 +111,16 @@ numbers_in-with_member test wider first zero n low high at others = absurd (omeg
 numbers_in-with_member test wider first (suc count) n low high at others =
     let rest : List ℕ = numbers_in test (first + 1) count in
     ⊎_elim
-      (λ here.
-        ap (λ b. keep_if b first (numbers_in wider (first + 1) count)) (ap wider here ∙ at)
-        ∙ ap (λ r. first ∷ r) (same_numbers wider test (first + 1) count (λ m from. others m (omega arith) (omega arith)))
-        ∙ with_member-at (test first) first rest (with_member-before test (first + 1) count first (omega arith))
-        ∙ ap (with_member (keep_if (test first) first rest)) here)
-      (λ later.
-        ap (λ b. keep_if b first (numbers_in wider (first + 1) count)) (others first (omega arith) (omega arith))
-        ∙ ap (keep_if (test first) first) (numbers_in-with_member test wider (first + 1) count n (omega arith) (omega arith) at (λ m from apart. others m (omega arith) apart))
-        ∙ with_member-later (test first) first n rest later)
-      (eq-or-lt_of_le low)
+    (λ here.
+    ap (λ b. keep_if b first (numbers_in wider (first + 1) count)) (ap wider here ∙ at)
+    ∙ ap (λ r. first ∷ r) (same_numbers wider test (first + 1) count (λ m from. others m (omega arith) (omega arith)))
+    ∙ with_member-at (test first) first rest (with_member-before test (first + 1) count first (omega arith))
+    ∙ ap (with_member (keep_if (test first) first rest)) here)
+    (λ later.
+    ap (λ b. keep_if b first (numbers_in wider (first + 1) count)) (others first (omega arith) (omega arith))
+    ∙ ap (keep_if (test first) first) (numbers_in-with_member test wider (first + 1) count n (omega arith) (omega arith) at (λ m from apart. others m (omega arith) apart))
+    ∙ with_member-later (test first) first n rest later)
+    (eq-or-lt_of_le low)
 
 -- ---- the bits of the members
 
@@ -134,11 +134,11 @@ unfolding bits_of_members
 sum-keep_if first k digit rest small =
     let place : first + k - first ≡ k = omega arith in
     ⊎_elim
-      (λ one. subst (λ d. sum_by (λ n. 2 ^ (n - first)) (keep_if (nat_eq d 1) (first + k) rest) ≡ d * 2 ^ k + sum_by (λ n. 2 ^ (n - first)) rest) (sym one)
-        (sum_by-cons _ (first + k) rest ∙ rw place (omega arith)))
-      (λ none. subst (λ d. sum_by (λ n. 2 ^ (n - first)) (keep_if (nat_eq d 1) (first + k) rest) ≡ d * 2 ^ k + sum_by (λ n. 2 ^ (n - first)) rest) (sym none)
-        (omega arith))
-      (one_or_none digit small)
+    (λ one. subst (λ d. sum_by (λ n. 2 ^ (n - first)) (keep_if (nat_eq d 1) (first + k) rest) ≡ d * 2 ^ k + sum_by (λ n. 2 ^ (n - first)) rest) (sym one)
+    (sum_by-cons _ (first + k) rest ∙ rw place (omega arith)))
+    (λ none. subst (λ d. sum_by (λ n. 2 ^ (n - first)) (keep_if (nat_eq d 1) (first + k) rest) ≡ d * 2 ^ k + sum_by (λ n. 2 ^ (n - first)) rest) (sym none)
+    (omega arith))
+    (one_or_none digit small)
 
 joined : (a b c d e : ℕ) → d ≡ a + c → b + d ≡ e → a + b + c ≡ e
 joined a b c d e h i = omega arith
@@ -208,5 +208,5 @@ pub members_of_bits-set : (w : Width) (first count place n : ℕ) → first ≤ 
 unfolding members_of_bits
 members_of_bits-set w first count place n low high within =
     numbers_in-with_member (is_bit_of first place) (is_bit_of first (bit_or place (1 * 2 ^ (n - first) % 2 ^ bits w))) first count n low high
-      (ap (λ d. nat_eq d 1) (bit_at_set_same w place (n - first) within))
-      (λ m from apart. ap (λ d. nat_eq d 1) (bit_at_set_other w place (n - first) within (m - first) (λ e. apart (omega arith))))
+    (ap (λ d. nat_eq d 1) (bit_at_set_same w place (n - first) within))
+    (λ m from apart. ap (λ d. nat_eq d 1) (bit_at_set_other w place (n - first) within (m - first) (λ e. apart (omega arith))))

@@ -1,2 +1,5 @@
 pub mod OnLiterals
 pub mod Steps
+pub mod StepsOfPut
+pub mod StepsOfReads
+pub mod StepsOfCommands

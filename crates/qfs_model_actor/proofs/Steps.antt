@@ -43,7 +43,7 @@ unfolding ask_or on_meta
 ask_or-steps n give_up request next g h =
     elim [ From.Meta answer ↦ on_answer-steps n give_up next g h answer | From.Chunk answer ↦ tt ]
 
-was_given_back-steps : (n : ℕ) (next : Work) → AsksAtMost n next → (a : MetaReply) → AsksAtMost n (was_given_back next a)
+pub was_given_back-steps : (n : ℕ) (next : Work) → AsksAtMost n next → (a : MetaReply) → AsksAtMost n (was_given_back next a)
 unfolding was_given_back
 was_given_back-steps n next h (Said.Done place) = h
 was_given_back-steps n next h answer = tt

@@ -1,4 +1,3 @@
-pub mod Server
 pub mod World
 pub mod Fits
 pub mod Text
