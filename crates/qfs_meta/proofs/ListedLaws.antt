@@ -96,4 +96,6 @@ find_flat-start test f count =
     let all : count - 0 ≡ count = omega arith in
     ap (λ n. find test (flat_map f (range_with_len 0 n))) all
 
-ruleset pub find_steps = find-here, find-next, find-end
+pub ruleset find_steps = (find-here, find-next, find-end)
+
+pub ruleset find_flat_steps = (find_flat-here, find_flat-next, find_flat-end, find_flat-start)

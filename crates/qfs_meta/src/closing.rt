@@ -1,10 +1,8 @@
 //! Which slots of a file lack a grant, and what closing it changes.
 ghost use Rattle.std.specs.Prelude.{◌≡◌, map, filter, find, OnOk, OnErr};
-ghost use Rattle.qfs_base.specs.declared.request.SlotId.{SlotId};
 ghost use Rattle.qfs_model_meta.specs.Apply.{apply};
 ghost use Rattle.qfs_model_meta.specs.Change.{CloseFile};
-ghost use Rattle.qfs_model_meta.specs.Lists.{slot_numbers};
-ghost use Rattle.qfs_model_meta.specs.PutRequests.{lacks_grant, slot_id, slot_ids, first_ungranted};
+ghost use Rattle.qfs_model_meta.specs.PutRequests.{lacks_grant, slot_id, block_slots, file_slots, first_ungranted};
 ghost use Rattle.qfs_model_meta.specs.Slots.{slots_of};
 
 use crate::listed::SLOTS;
@@ -38,9 +36,9 @@ fn slot_id(row: &SlotRow) -> SlotId
 }
 
 /// The first slot of a block without a pending grant.
-#[tactic(auto, using(crate::proofs::ListedLaws::find_steps))]
+#[tactic(auto, using(crate::proofs::ListedLaws::find_steps), unfolding(qfs_model_meta::specs::PutRequests::block_slots))]
 fn ungranted_in_block(slots: &[SlotRow], block: BlockId) -> Option<SlotId>
-    ensures { result ≡ find (lacks_grant slots.now) (map (λ slot. record { block = block; slot = slot }) slot_numbers) }
+    ensures { result ≡ find (lacks_grant slots.now) (block_slots block) }
 {
     for slot in 0..SLOTS {
         let id = SlotId { block, slot };
@@ -52,9 +50,9 @@ fn ungranted_in_block(slots: &[SlotRow], block: BlockId) -> Option<SlotId>
 }
 
 /// The first slot of so many blocks of a file without a pending grant.
-#[tactic(auto, using(crate::proofs::ListedLaws::find_flat_steps), unfolding(qfs_model_meta::specs::PutRequests::slot_ids))]
+#[tactic(auto, using(crate::proofs::ListedLaws::find_flat_steps), unfolding(qfs_model_meta::specs::PutRequests::file_slots))]
 fn ungranted_in_blocks(slots: &[SlotRow], file: FileId, count: u32) -> Option<SlotId>
-    ensures { result ≡ find (lacks_grant slots.now) (slot_ids file count) }
+    ensures { result ≡ find (lacks_grant slots.now) (file_slots file count) }
 {
     for index in 0..count {
         if let Some(id) = ungranted_in_block(slots, BlockId { file, index }) {

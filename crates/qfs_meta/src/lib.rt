@@ -4,9 +4,12 @@
 
 mod census;
 mod closing;
+mod creating;
 mod leases;
 mod listed;
 mod names;
+mod puts;
 mod rows;
 mod servers;
 mod slots;
+mod turn;

@@ -2,7 +2,7 @@
 ghost use Rattle.std.specs.Prelude.{◌≡◌, find};
 ghost use Rattle.std.specs.Option.{option_copied};
 ghost use Rattle.qfs_base.specs.NameTree.{stands_at, kind_at, through_refusal, new_refusal, file_refusal, parents_refusal, add_refusal, look_refusal};
-ghost use Rattle.qfs_model_meta.specs.TreeRows.{kind_of, row_path, standing, is_unclosed_row, unclosed_file, row_at};
+ghost use Rattle.qfs_model_meta.specs.TreeRows.{kind_of, row_path, standing, is_unclosed_row, is_unclosed_of, unclosed_file, row_at};
 
 use qfs_base::image::TreeRow;
 use qfs_base::listing::Listing;
@@ -134,13 +134,21 @@ fn is_unclosed_row(row: &TreeRow) -> bool
     }
 }
 
+/// Whether a row is an actor's unclosed file.
+#[tactic(auto, unfolding(qfs_model_meta::specs::TreeRows::is_unclosed_of))]
+fn is_unclosed_of(row: &TreeRow, actor: ActorId) -> bool
+    ensures { result ≡ is_unclosed_of actor row.now }
+{
+    is_unclosed_row(row) && row.actor == actor
+}
+
 /// A file that an actor made and hasn't closed.
 #[tactic(auto, unfolding(qfs_model_meta::specs::TreeRows::unclosed_file, qfs_model_meta::specs::TreeRows::has_file))]
 pub fn unclosed_file(tree: &[TreeRow], actor: ActorId, file: FileId) -> Option<&TreeRow>
     ensures { option_copied result ≡ unclosed_file actor file tree.now }
 {
     tree.iter()
-        .find(|row| is_unclosed_row(row) && row.file == file && row.actor == actor)
+        .find(|row| is_unclosed_of(row, actor) && row.file == file)
 }
 
 /// The number and the length of the file at a path: both are 0 where nothing stands there.
