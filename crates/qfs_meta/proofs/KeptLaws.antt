@@ -4,6 +4,7 @@ use Rattle.std.proofs.lemmas.List.Elements.{All-nil, All-cons, All-head, All-tai
 use Rattle.std.specs.List.{All}
 use Rattle.std.specs.declared.cmp.Ordering.{Ordering}
 use Rattle.std.specs.declared.cmp.Ordering.TheVariants.{Less, Equal, Greater}
+use Rattle.qfs_base.specs.declared.chunk.BlockId.{BlockId}
 use Rattle.qfs_base.specs.declared.image.MetaImage.{MetaImage}
 use Rattle.qfs_base.specs.declared.image.SlotRow.{SlotRow}
 use Rattle.qfs_base.specs.NameTree.{PathNames}
@@ -12,7 +13,7 @@ use Rattle.qfs_model_meta.specs.Apply.{apply, add_file, write_entry, with_slots,
 use Rattle.qfs_model_meta.specs.Change.{AddFile, CloseFile, GrantSlot, GiveLease, EndLease}
 use Rattle.qfs_model_meta.specs.Condemned.{unblock_all}
 use Rattle.qfs_model_meta.specs.Leases.{give_lease, end_lease}
-use Rattle.qfs_model_meta.specs.Slots.{change_state, sealed_slot, is_of_file, seal_file, with_slot, slot_cmp}
+use Rattle.qfs_model_meta.specs.Slots.{change_state, sealed_slot, is_of_file, seal_file, with_slot, granted_slot, slot_cmp}
 use Rattle.qfs_model_meta.specs.Step.{next_turn}
 use Rattle.qfs_model_meta.specs.TreeRows.{add_row, close_file}
 use Rattle.qfs_meta.specs.Kept.{IsKept, IsGrantedOnServer, AreGrantedOnServers, IsServerNumber}
@@ -86,4 +87,16 @@ kept-release m lease kept = record {
   places = kept.places;
   servers = kept.servers;
   grants = kept.grants;
+}
+
+pub kept-grant : (m : MetaImage) (block : BlockId) (slot server actor : ℕ) → IsKept m → IsServerNumber server →
+    IsKept (next_turn (apply m (GrantSlot block slot server actor 0)))
+unfolding next_turn apply grant_slot with_slots with_slot granted_slot
+kept-grant m block slot server actor kept number = record {
+  files = kept.files;
+  leases = kept.leases;
+  condemned = kept.condemned;
+  places = kept.places;
+  servers = kept.servers;
+  grants = placed_rows IsGrantedOnServer slot_cmp _ m.slots number kept.grants;
 }

@@ -1,4 +1,6 @@
 pub mod CensusLaws
+pub mod GetLaws
+pub mod GrantLaws
 pub mod KeptLaws
 pub mod ListedLaws
 pub mod PutLaws

@@ -1,6 +1,7 @@
 -- How a step ends, by what was decided.
-use Rattle.std.proofs.Common.{◌≡◌, ℕ, ◌<◌, nat_lt, ◌&&◌, Bool, true, false, List, Option, Some, None, length, refl, sym, ap, ◌∙◌, subst, arith}
+use Rattle.std.proofs.Common.{◌≡◌, ℕ, ◌<◌, ◌≤◌, nat_lt, Result, Ok, Err, ◌&&◌, Bool, true, false, List, Option, Some, None, length, refl, sym, ap, ◌∙◌, subst, arith}
 use Rattle.std.proofs.lemmas.Grind.{common_steps}
+use Rattle.std.specs.Result.{IfOk}
 use Rattle.qfs_base.specs.declared.history.Outcome.TheVariants as Ended
 use Rattle.qfs_base.specs.declared.image.MetaImage.{MetaImage}
 use Rattle.qfs_base.specs.declared.reply.MetaReply.{MetaReply}
@@ -25,13 +26,13 @@ pub runs_out : (m : MetaImage) (decision : Decision) → Serves m decision m Tol
 unfolding end_step stays meta_outcome
 runs_out m decision = refl
 
-below : (n last : ℕ) → n < last → nat_lt n last ≡ true
-below n last h = grind (arith, common_steps)
+pub is_below : (n bound : ℕ) → n < bound → nat_lt n bound ≡ true
+is_below n bound h = grind (arith, common_steps)
 
 fits : (m : MetaImage) → IsKept m → counters_fit m ≡ true
 unfolding counters_fit
 fits m kept =
-    λ i. below _ _ kept.files i && below _ _ kept.leases i && below _ _ kept.condemned i && below _ _ kept.places i
+    λ i. is_below _ _ kept.files i && is_below _ _ kept.leases i && is_below _ _ kept.condemned i && is_below _ _ kept.places i
 
 -- changes are made, and the turn rises
 pub makes : (old : MetaImage) (changes : List Change) (reply : MetaReply) (new : MetaImage) → meta_outcome reply ≡ Ended.Done →
@@ -81,3 +82,11 @@ need_some refusal further thing x e = ap (need refusal further) e
 pub need_none : {X : Type 0} (refusal : MetaReply) (further : X → Decision) (thing : Option X) → thing ≡ None → need refusal further thing ≡ Tells refusal
 unfolding need
 need_none refusal further thing e = ap (need refusal further) e
+
+-- a call that went well
+pub IfOk-weaker : {T E : Type 0} (P Q : T → Type 0) → ((x : T) → P x → Q x) → (result : Result T E) → IfOk result P → IfOk result Q
+IfOk-weaker P Q weaker (Ok x) holds = weaker x holds
+IfOk-weaker P Q weaker (Err e) holds = tt
+
+pub not_below : (n bound : ℕ) → bound ≤ n → nat_lt n bound ≡ false
+not_below n bound h = grind (arith, common_steps)

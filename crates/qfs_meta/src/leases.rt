@@ -2,8 +2,8 @@
 ghost use Rattle.std.specs.Prelude.{◌≡◌};
 ghost use Rattle.qfs_model_meta.specs.Leases.{holds_lease, end_lease};
 
-use crate::rows::take_items;
-use qfs_base::image::{Lease, LeaseList};
+use crate::rows::{RowChange, take_items};
+use qfs_base::image::{CondemnedRow, Lease, LeaseList};
 use qfs_base::listing::Listing;
 use qfs_base::numbers::{ActorId, LeaseId};
 use std::alloc::Global;
@@ -23,4 +23,23 @@ pub fn end_lease(alloc: Global, leases: &mut LeaseList, number: LeaseId)
     let mut rows = take_items(alloc, leases);
     rows.retain(|lease| lease.lease != number);
     *leases = Listing::from_vec(rows);
+}
+
+/// A lease that ended blocks a condemned copy no more.
+#[derive(Drop)]
+pub struct Unblock {
+    pub alloc: Global,
+    pub lease: LeaseId,
+}
+
+impl RowChange<CondemnedRow> for Unblock {
+    ghost use Rattle.qfs_model_meta.specs.Condemned.{unblock};
+
+    ghost changed = { λ ended row. unblock ended.lease row };
+
+    fn change(&self, row: &mut CondemnedRow) {
+        let mut blockers = take_items(self.alloc, &mut row.blockers);
+        blockers.retain(|blocker| *blocker != self.lease);
+        row.blockers = Listing::from_vec(blockers);
+    }
 }

@@ -5,6 +5,8 @@
 mod census;
 mod closing;
 mod creating;
+mod gets;
+mod granting;
 mod leases;
 mod listed;
 mod names;
