@@ -9,9 +9,13 @@ mod gets;
 mod granting;
 mod leases;
 mod listed;
+mod meta;
 mod names;
 mod puts;
+mod requests;
 mod rows;
 mod servers;
 mod slots;
 mod turn;
+
+pub use meta::{Meta, NotBuilt};
