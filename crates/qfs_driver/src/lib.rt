@@ -2,7 +2,9 @@
 //! handed in, and what comes of it is written.
 #![tactic(auto)]
 
+mod halt;
 mod reading;
+mod serving;
 mod status;
 mod words;
 
