@@ -1,28 +1,29 @@
 -- What the words of a command tell.
-use Rattle.std.proofs.Common.{◌≡◌, ◌≢◌, ◌∙◌, sym, ap, refl, subst, arith, ℕ, ◌<◌, ◌≤◌, Bool, true, false, ◌&&◌, not, cond, List, [], ◌∷◌, ◌++◌, length, append-nil, Option, Some, None, Result, Ok, Err}
-use Rattle.std.specs.Prelude.{All, nat_le, ◌==◌, codes, ◌⊎◌}
+use Rattle.std.proofs.Common.{◌≡◌, ◌∙◌, sym, ap, refl, subst, arith, ℕ, ◌*◌, ◌≤◌, Bool, true, false, ◌&&◌, not, cond, List, [], ◌∷◌, ◌++◌, length, append-nil, Option, Some, None, Result, Ok, Err}
+use Rattle.std.specs.Prelude.{All, ◌==◌, ◌⊎◌}
 use Rattle.std.proofs.Common.{inl, inr}
 use Rattle.std.specs.Bool.{Decides}
 use Rattle.std.specs.List.{list_all}
 use Rattle.std.specs.Option.{option_and_then}
 use Rattle.std.specs.Result.{result_ok}
 use Rattle.std.specs.Str.{bytes_eq}
-use Rattle.std.proofs.lemmas.Bool.{leb-true, le-leb, eqb-true, eqb-false, ne_eqb, eq-eqb, not-true, not_from_false, and_parts, and_from, cond-true, cond-false, both_ways, false_from_ne_true}
+use Rattle.std.proofs.lemmas.Bool.{leb-true, le-leb, eqb-true, eqb-false, ne_eqb, not-true, not_from_false, and_parts, and_from, cond-true, cond-false, both_ways, false_from_ne_true}
 use Rattle.std.proofs.lemmas.Bool.Decides.{Decides-by_and}
 use Rattle.std.proofs.lemmas.List.Elements.{All-head, All-cons, All-nil}
 use Rattle.std.proofs.lemmas.Slice.Eq.{bytes_eq-Decides}
 use Rattle.hex.specs.Hex.{decode_of}
+use Rattle.hex.proofs.HexLemmas.{decode_of-ok}
 use Rattle.hex.specs.declared.error.FromHexError.{FromHexError}
 use Rattle.hex.specs.declared.error.FromHexError.TheVariants.{OutOfMemory}
-use Rattle.qfs_base.specs.Path.{IsName, IsNameByte, IsPath, SpellsPath, slash, path_text}
+use Rattle.qfs_base.specs.Path.{IsName, IsNameByte, SpellsPath, slash}
 use Rattle.qfs_script.specs.Commands.{is_name_byte, is_name, one_name_path, hex_bytes, few_bytes}
 
 is_name_byte-Decides : (byte : ℕ) → Decides (is_name_byte byte) (IsNameByte byte)
 is_name_byte-Decides byte = (
-    λ tested. let parts = and_parts _ _ tested in let range = and_parts _ _ parts.0 in
+  λ tested. let parts = and_parts _ _ tested in let range = and_parts _ _ parts.0 in
       (leb-true _ _ range.0, leb-true _ _ range.1, eqb-false _ _ (not-true _ parts.1)),
-    λ is. and_from _ _ (and_from _ _ (le-leb _ _ is.0) (le-leb _ _ is.1)) (not_from_false _ (ne_eqb _ _ is.2)),
-  )
+  λ is. and_from _ _ (and_from _ _ (le-leb _ _ is.0) (le-leb _ _ is.1)) (not_from_false _ (ne_eqb _ _ is.2)),
+)
 
 bytes-Decides : (name : List ℕ) → Decides (list_all is_name_byte name) (All IsNameByte name)
 bytes-Decides = Decides-by_and is_name_byte IsNameByte (list_all is_name_byte) is_name_byte-Decides refl (λ _ _. refl)
@@ -84,21 +85,37 @@ other_path text found names is several only =
 pub no_path : (text : List ℕ) (found : Option (List (List ℕ))) → found ≡ None → ((n : List (List ℕ)) → SpellsPath text n → found ≡ Some n) → None ≡ one_name_path text
 no_path text found none only = no_one_name text (λ name spells. cc (only (name ∷ []) spells, none))
 
--- digits that tell 1 to 32 bytes
-pub hex_enough : (digits bytes : List ℕ) → decode_of digits ≡ Ok bytes → 1 ≤ length bytes → length bytes ≤ 32 → hex_bytes digits ≡ Some bytes
-unfolding hex_bytes
-hex_enough digits bytes told some few =
-    ap (λ (r : Result (List ℕ) FromHexError). option_and_then few_bytes (result_ok r)) told
-    ∙ cond-true _ _ _ (and_from _ _ (le-leb _ _ some) (le-leb _ _ few))
+few : (bytes : List ℕ) → 1 ≤ length bytes → length bytes ≤ 32 → few_bytes bytes ≡ Some bytes
+few bytes some within = cond-true _ _ _ (and_from _ _ (le-leb _ _ some) (le-leb _ _ within))
 
--- digits that tell no bytes, or more than 32
-pub hex_not_enough : (digits bytes : List ℕ) → decode_of digits ≡ Ok bytes → (1 ≤ length bytes → length bytes ≤ 32 → ⊥) → hex_bytes digits ≡ None
-unfolding hex_bytes
-hex_not_enough digits bytes told never =
-    ap (λ (r : Result (List ℕ) FromHexError). option_and_then few_bytes (result_ok r)) told
-    ∙ cond-false _ _ _ (false_from_ne_true _ (λ tested. let parts = and_parts _ _ tested in never (leb-true _ _ parts.0) (leb-true _ _ parts.1)))
+not_few : (bytes : List ℕ) → (1 ≤ length bytes → length bytes ≤ 32 → ⊥) → few_bytes bytes ≡ None
+not_few bytes never =
+    cond-false _ _ _ (false_from_ne_true _ (λ tested. let parts = and_parts _ _ tested in never (leb-true _ _ parts.0) (leb-true _ _ parts.1)))
 
--- no digits
+-- 2 to 64 digits tell 1 to 32 bytes
+pub told_bytes : (digits bytes : List ℕ) → decode_of digits ≡ Ok bytes → 1 ≤ length digits → length digits ≤ 64 → (1 ≤ length bytes) × (length bytes ≤ 32)
+told_bytes digits bytes told some within =
+    let twice : length digits ≡ 2 * length bytes = (decode_of-ok digits bytes told).2 in
+    (omega arith, omega arith)
+
+pub hex_told : (digits bytes : List ℕ) → decode_of digits ≡ Ok bytes → 1 ≤ length digits → length digits ≤ 64 → hex_bytes digits ≡ Some bytes
+unfolding hex_bytes
+hex_told digits bytes told some within =
+    let range = told_bytes digits bytes told some within in
+    ap (λ (r : Result (List ℕ) FromHexError). option_and_then few_bytes (result_ok r)) told ∙ few bytes range.0 range.1
+
+-- no digits, and more than 64, don't
+hex_outside_at : (digits : List ℕ) (told : Result (List ℕ) FromHexError) → decode_of digits ≡ told → (1 ≤ length digits → length digits ≤ 64 → ⊥) → option_and_then few_bytes (result_ok told) ≡ None
+hex_outside_at digits (Ok bytes) is outside =
+    let twice : length digits ≡ 2 * length bytes = (decode_of-ok digits bytes is).2 in
+    not_few bytes (λ some within. outside (omega arith) (omega arith))
+hex_outside_at digits (Err error) is outside = refl
+
+pub hex_outside : (digits : List ℕ) → (1 ≤ length digits → length digits ≤ 64 → ⊥) → hex_bytes digits ≡ None
+unfolding hex_bytes
+hex_outside digits outside = hex_outside_at digits (decode_of digits) refl outside
+
+-- a word that isn't of digits
 pub hex_refused : (digits : List ℕ) (error : FromHexError) → (error ≡ OutOfMemory) ⊎ (decode_of digits ≡ Err error) → (error ≡ OutOfMemory → ⊥) → hex_bytes digits ≡ None
 unfolding hex_bytes
 hex_refused digits error (inl memory) other = absurd (other memory)

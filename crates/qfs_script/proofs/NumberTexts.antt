@@ -5,7 +5,7 @@ use Rattle.std.specs.Result.{result_ok}
 use Rattle.std.specs.Option.{option_and_then}
 use Rattle.std.specs.Str.{bytes_eq}
 use Rattle.std.specs.Str.Parse.{digits_value}
-use Rattle.std.proofs.lemmas.Bool.{lt-ltb, le-ltb, ltb-true, ltb-false, and_parts, cond-true, cond-false, both_ways}
+use Rattle.std.proofs.lemmas.Bool.{lt-ltb, le-ltb, ltb-true, and_parts, cond-true, cond-false, both_ways}
 use Rattle.std.proofs.lemmas.Fmt.{decimal_is_IsNumeral, IsAscii-decimal}
 use Rattle.std.proofs.lemmas.Str.{IsUtf8-from_ascii}
 use Rattle.std.proofs.lemmas.Slice.Eq.{bytes_eq-Decides}
@@ -34,7 +34,7 @@ pub below_none : (bound : ℕ) (text : List ℕ) → ((n : ℕ) → n < bound �
 unfolding number_below
 below_none bound text never =
     none_if _ _ (λ tested. let parts = and_parts _ _ tested in
-      never (digits_value 10 text) (ltb-true _ _ parts.0) ((bytes_eq-Decides _ _).0 parts.1))
+    never (digits_value 10 text) (ltb-true _ _ parts.0) ((bytes_eq-Decides _ _).0 parts.1))
 
 -- what was parsed and is written the same way
 pub written : (n : ℕ) (text : List ℕ) → n < 2 ^ 64 → bytes_eq (decimal n) text ≡ true → Some n ≡ number_below (2 ^ 64) text
@@ -44,8 +44,8 @@ written n text small same = sym (below_some (2 ^ 64) n text small (omega arith) 
 pub written_otherwise : (n : ℕ) (text : List ℕ) → ((m : ℕ) → m < 2 ^ 64 → decimal m ≡ text → Some n ≡ Some m) → bytes_eq (decimal n) text ≡ false → None ≡ number_below (2 ^ 64) text
 written_otherwise n text only other =
     sym (below_none (2 ^ 64) text (λ m small is.
-      let same : n ≡ m = cc (only m small is) in
-      both_ways _ other ((bytes_eq-Decides _ _).1 (ap decimal same ∙ is))))
+    let same : n ≡ m = cc (only m small is) in
+    both_ways _ other ((bytes_eq-Decides _ _).1 (ap decimal same ∙ is))))
 
 pub not_written : (text : List ℕ) (r : Option ℕ) → r ≡ None → ((m : ℕ) → m < 2 ^ 64 → decimal m ≡ text → r ≡ Some m) → None ≡ number_below (2 ^ 64) text
 not_written text r none only =

@@ -1,4 +1,5 @@
 pub mod Commands
+pub mod Examples
 pub mod Head
 pub mod Lines
 pub mod Numbers

@@ -1,5 +1,5 @@
 -- What an error tells of a script.
-use Rattle.std.specs.Prelude.{◌≡◌, ℕ, ⊤, Result, Ok, Err}
+use Rattle.std.specs.Prelude.{◌≡◌, ℕ, ⊤, Result, Err}
 use Rattle.qfs_base.specs.declared.script.ScriptCause.TheVariants.{NotYet}
 use Rattle.qfs_script.specs.declared.error.ScriptError.{ScriptError}
 use Rattle.qfs_script.specs.declared.error.ScriptError.TheVariants.{NoMemory, Bad}

@@ -1,7 +1,7 @@
 -- A script: the lines of its head, and then those of one actor's commands. Where a line is of
 -- another form the answer is its number, from 1; where the text ends too early, the number that the
 -- next line would have.
-use Rattle.std.specs.Prelude.{◌≡◌, MatchResult, ℕ, ◌+◌, nat_lt, if◌then◌else◌, Bool, false, List, [], ◌∷◌, codes, Option, Some, None, Result, Ok, Err}
+use Rattle.std.specs.Prelude.{◌≡◌, MatchResult, ℕ, ◌+◌, nat_lt, if◌then◌else◌, false, List, [], ◌∷◌, codes, Option, Some, None, Result, Ok, Err}
 use Rattle.qfs_base.specs.Shape.{Shape}
 use Rattle.qfs_base.specs.declared.command.Command.{Command}
 use Rattle.qfs_base.specs.declared.script.Script.{Script}
@@ -63,13 +63,13 @@ read_commands number (line ∷ lines) = do
 
 -- the script of one phase, in which one actor has these commands
 abbrev pub script_of : Shape → ℕ → List Command → Script
-script_of layout servers commands = record
-    { layout = layout
-    ; servers = servers
-    ; audit = false
-    ; phases = (commands ∷ []) ∷ []
-    ; order = None
-    }
+script_of layout servers commands = record {
+  layout = layout;
+  servers = servers;
+  audit = false;
+  phases = (commands ∷ []) ∷ [];
+  order = None;
+}
 
 -- the script that lines say, or the number of the first that isn't of these forms
 unfoldable pub read_lines : List (List ℕ) → Result Script ℕ

@@ -1,5 +1,5 @@
 //! The lines of an actor's commands: `put P hex H` and `get P`.
-ghost use Rattle.std.specs.Prelude.{◌≡◌, None, MatchOption, IfOk, IfErr, OnOk, IsTrue, ◌↔◌, ◌<◌, ◌+◌};
+ghost use Rattle.std.specs.Prelude.{◌≡◌, None, MatchOption, IfOk, IfErr, OnOk, IsTrue, ◌↔◌, length, ◌<◌, ◌+◌};
 ghost use Rattle.std.specs.Option.{option_map};
 ghost use Rattle.hex.specs.declared.error.FromHexError.TheVariants.{OutOfMemory};
 ghost use Rattle.qfs_base.specs.declared.recipe.Form.TheVariants.{Hex};
@@ -20,8 +20,18 @@ use std::alloc::{AllocError, Global};
 /// The number of the first command's line.
 const FIRST_COMMAND: u32 = 6;
 
+/// The most bytes that hexadecimal digits tell.
+const MOST_HEX_BYTES: usize = 32;
+
 /// The most commands of an actor.
 const MOST_COMMANDS: u32 = 4096;
+
+/// Whether the path stands right below the root.
+fn has_one_name(path: &Path) -> bool
+    ensures { IsTrue result ↔ (length path.now ≡ 1) }
+{
+    path.names.len() == 1
+}
 
 /// The path of exactly one name that a word spells.
 fn one_name_path(alloc: Global, word: &[u8]) -> Result<Option<Path>, AllocError>
@@ -29,7 +39,7 @@ fn one_name_path(alloc: Global, word: &[u8]) -> Result<Option<Path>, AllocError>
 {
     match path_from(alloc, word)? {
         Some(path) => {
-            if path.names.len() == 1 {
+            if has_one_name(&path) {
                 Ok(Some(path))
             } else {
                 Ok(None)
@@ -50,14 +60,14 @@ fn is_no_memory(error: FromHexError) -> bool
 fn hex_recipe(alloc: Global, digits: &[u8]) -> Result<Option<Recipe>, AllocError>
     ensures { IfOk result (λ recipe. recipe ≡ option_map Hex (hex_bytes digits.now)) }
 {
+    // Two digits tell a byte, so the bytes of a long word needn't be made.
+    if digits.is_empty() || digits.len() > 2 * MOST_HEX_BYTES {
+        return Ok(None);
+    }
     match hex::decode(alloc, digits) {
         Ok(bytes) => {
-            if 1 <= bytes.len() && bytes.len() <= 32 {
-                let form = Form::Hex(Listing::from_vec(bytes));
-                Ok(Some(Recipe { form }))
-            } else {
-                Ok(None)
-            }
+            let form = Form::Hex(Listing::from_vec(bytes));
+            Ok(Some(Recipe { form }))
         }
         Err(error) => {
             if is_no_memory(error) {

@@ -3,11 +3,13 @@
 
 mod commands;
 mod error;
+mod examples;
 mod head;
 mod lines;
 mod numbers;
 mod script;
 
 pub use error::ScriptError;
+pub use examples::reads_by_lines;
 pub use numbers::read_seed;
 pub use script::read;

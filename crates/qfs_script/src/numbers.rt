@@ -26,9 +26,11 @@ fn is_decimal(text: &[u8], number: u64) -> bool
 fn number(text: &[u8]) -> Option<u64>
     ensures { result ≡ number_below (2 ^ 64) text.now }
 {
-    match parsed(text) {
-        Some(number) if is_decimal(text, number) => Some(number),
-        _ => None,
+    let number = parsed(text)?;
+    if is_decimal(text, number) {
+        Some(number)
+    } else {
+        None
     }
 }
 
@@ -38,9 +40,11 @@ pub fn number_below(bound: u32, text: &[u8]) -> Option<u32>
     ensures value { result ≡ number_below bound text.now }
     ensures within { IfSome result (λ number. number < bound) }
 {
-    match number(text) {
-        Some(number) if number < u64::from(bound) => Some(number as u32),
-        _ => None,
+    let number = number(text)?;
+    if number < u64::from(bound) {
+        Some(number as u32)
+    } else {
+        None
     }
 }
 
@@ -50,4 +54,22 @@ pub fn read_seed(word: &str) -> Option<u64>
     ensures { result ≡ number_below (2 ^ 64) word.now }
 {
     number(word.as_bytes())
+}
+
+#[cfg(test)]
+mod tests {
+    use super::*;
+
+    #[test]
+    fn seeds_have_one_spelling(rt: HostRuntime) {
+        assert_eq!(rt; read_seed("0"), Some(0));
+        assert_eq!(rt;
+            read_seed("18446744073709551615"),
+            Some(18_446_744_073_709_551_615)
+        );
+        assert_eq!(rt; read_seed("18446744073709551616"), None, "2^64");
+        assert_eq!(rt; read_seed("07"), None, "a leading zero");
+        assert_eq!(rt; read_seed("+7"), None, "a sign");
+        assert_eq!(rt; read_seed(""), None, "no digit");
+    }
 }

@@ -1,27 +1,32 @@
-use Rattle.std.proofs.Common.{◌≡◌, ◌∙◌, ap, sym, arith, length, ℕ, List, Some, true, false, ◌≤◌}
+use Rattle.std.proofs.Common.{◌∙◌, ap, sym, arith, length, ℕ, List, Some, ◌≤◌}
 use Rattle.std.specs.Option.{option_map}
-use Rattle.std.specs.Prelude.{IsTrue}
 use Rattle.std.proofs.lemmas.Grind.{common_steps}
 use Rattle.qfs_base.specs.declared.recipe.Form.TheVariants.{Hex}
-use Rattle.qfs_script.proofs.CommandTexts.{hex_enough, hex_not_enough, hex_refused}
+use Rattle.qfs_script.proofs.CommandTexts.{hex_told, hex_outside, hex_refused, told_bytes}
 use Rattle.qfs_script.proofs.commands.hex_recipe.Goals as goal
-use Rattle.qfs_script.proofs.commands.hex_recipe.Goals.{else-len-ge1-via-then-len-ge1+else-len-le32, else-len-ge1-via-else-len-ge1}
+use Rattle.qfs_script.proofs.commands.hex_recipe.Goals.{then-is_empty-via-then-is_empty, then-is_empty-via-else-is_empty+then-digits}
 
-pub returns-then-len-le32 : goal.returns-then-len-le32
-returns-then-len-le32 c =
-    let some : 1 ≤ length c.in-Ok.bytes.items = grind (arith, common_steps) in
-    let few : length c.in-Ok.bytes.items ≤ 32 = grind (arith, common_steps) in
-    ap (λ (bytes : List ℕ). Some (Hex bytes)) c.from_vec.ensures
-    ∙ ap (option_map Hex) (sym (hex_enough _ _ c.in-Ok.ensures.ok some few))
-
-pub returns-else-len-ge1 : goal.returns-else-len-ge1
-returns-else-len-ge1 c =
-    elim c.else-len-ge1.branch [
-      | else-len-ge1-via-then-len-ge1+else-len-le32 w ↦
-          ap (option_map Hex) (sym (hex_not_enough _ _ c.in-Ok.ensures.ok (λ some few. grind (arith, common_steps))))
-      | else-len-ge1-via-else-len-ge1 w ↦
-          ap (option_map Hex) (sym (hex_not_enough _ _ c.in-Ok.ensures.ok (λ some few. grind (arith, common_steps))))
+pub returns-then-is_empty : goal.returns-then-is_empty
+returns-then-is_empty c =
+    elim c.then-is_empty.branch [
+      | then-is_empty-via-then-is_empty w ↦
+          ap (option_map Hex) (sym (hex_outside _ (λ some within. grind (arith, common_steps))))
+      | then-is_empty-via-else-is_empty+then-digits w ↦
+          ap (option_map Hex) (sym (hex_outside _ (λ some within. omega arith)))
     ]
+
+pub invariant_of-result : goal.invariant_of-result
+invariant_of-result c =
+    let some : 1 ≤ length c.args.digits.now = grind (arith, common_steps) in
+    let range = told_bytes _ _ c.in-Ok.ensures.ok some (omega arith) in
+    let same = ap length c.from_vec.ensures in
+    (omega arith, omega arith)
+
+pub returns-in-Ok : goal.returns-in-Ok
+returns-in-Ok c =
+    let some : 1 ≤ length c.args.digits.now = grind (arith, common_steps) in
+    ap (λ (bytes : List ℕ). Some (Hex bytes)) c.from_vec.ensures
+    ∙ ap (option_map Hex) (sym (hex_told _ _ c.in-Ok.ensures.ok some (omega arith)))
 
 pub returns-else-is_no_memory : goal.returns-else-is_no_memory
 returns-else-is_no_memory c =

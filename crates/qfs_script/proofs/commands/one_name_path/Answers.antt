@@ -1,21 +1,19 @@
-use Rattle.std.proofs.Common.{◌≡◌, ◌∙◌, ap, subst, sym, arith, length, ℕ, List, Option}
+use Rattle.std.proofs.Common.{subst, ℕ, List, Option}
 use Rattle.std.specs.Prelude.{IfSome}
 use Rattle.qfs_base.specs.Path.{SpellsPath}
 use Rattle.qfs_script.proofs.CommandTexts.{one_name, other_path, no_path}
 use Rattle.qfs_script.proofs.commands.one_name_path.Goals as goal
 
-pub returns-then-len-eq1 : goal.returns-then-len-eq1
-returns-then-len-eq1 c =
-    let names : c.path.inside.names ≡ c.in-Some.path = c.path.view_is in
+pub returns-then-has_one_name : goal.returns-then-has_one_name
+returns-then-has_one_name c =
     one_name c.args.word.now c.in-Some.path
     (subst (λ (found : Option (List (List ℕ))). IfSome found (λ path. SpellsPath c.args.word.now path)) c.in-Some.is c.in_ok-path.ensures.found)
-    (ap length (sym names) ∙ sym c.len.ensures ∙ c.if-len-eq1.true)
+    (c.has_one_name.ensures.0 c.if-has_one_name.true)
 
-pub returns-else-len-eq1 : goal.returns-else-len-eq1
-returns-else-len-eq1 c =
-    let names : c.path.inside.names ≡ c.in-Some.path = c.path.view_is in
+pub returns-else-has_one_name : goal.returns-else-has_one_name
+returns-else-has_one_name c =
     other_path _ _ c.in-Some.path c.in-Some.is
-    (λ one. c.if-len-eq1.false (c.len.ensures ∙ ap length names ∙ one)) c.in_ok-path.ensures.only
+    (λ one. cc (c.has_one_name.ensures.1 one, c.if-has_one_name.false)) c.in_ok-path.ensures.only
 
 pub returns-in-None : goal.returns-in-None
 returns-in-None c = no_path _ _ c.in-None.is c.in_ok-path.ensures.only

@@ -1,4 +1,4 @@
-use Rattle.std.proofs.Common.{◌≡◌, ◌∙◌, ap, sym}
+use Rattle.std.proofs.Common.{◌∙◌, ap, sym}
 use Rattle.qfs_script.specs.Lines.{words_left}
 use Rattle.qfs_script.proofs.Splits.{words_at, words_nowhere}
 use Rattle.qfs_script.proofs.lines.Words.next_word.Goals as goal
