@@ -1,10 +1,8 @@
 -- What the loops of the choice of a server keep.
-use Rattle.std.proofs.Common.{◌≡◌, ℕ, ◌+◌, ◌<◌, nat_lt, Bool, true, false, cond, not, ◌&&◌, List, [], ◌∷◌, ◌++◌, map, filter, fold, count_by, Option, Some, None, refl, ap, sym, ◌∙◌, arith}
+use Rattle.std.proofs.Common.{◌≡◌, ℕ, ◌+◌, nat_lt, Bool, true, false, cond, not, ◌&&◌, List, [], ◌∷◌, ◌++◌, map, filter, fold, count_by, Option, Some, None, refl, ap, sym, ◌∙◌, arith}
 use Rattle.std.specs.Option.{option_map, option_to_list}
 use Rattle.std.specs.List.{reduce, enumerate_from, flat_map}
 use Rattle.qfs_base.specs.declared.chunk.BlockId.{BlockId}
-use Rattle.qfs_base.specs.declared.image.Grant.{Grant}
-use Rattle.qfs_base.specs.declared.image.Load.{Load}
 use Rattle.qfs_base.specs.declared.image.ServerView.{ServerView}
 use Rattle.qfs_base.specs.declared.image.SlotRow.{SlotRow}
 use Rattle.qfs_base.specs.declared.chunk.Copy.{Copy}
@@ -15,7 +13,7 @@ use Rattle.std.proofs.lemmas.List.Sums.{sum_by-append}
 use Rattle.qfs_model_meta.specs.Placing.{Numbered, load_of, census, is_open, open_servers, lighter, choose, with_live_servers}
 use Rattle.qfs_model_meta.specs.Slots.{is_on, count_on, is_of_block, grants_of_block, granted_copy}
 use Rattle.qfs_meta.specs.declared.census.Candidate.{Candidate}
-use Rattle.qfs_meta.specs.Candidates.{lighter_of, after_server, best_from}
+use Rattle.qfs_meta.specs.Candidates.{lighter_of, best_from}
 
 fold-append : {A B : Type 0} (f : B → A → B) (start : B) (xs ys : List A) → fold f start (xs ++ ys) ≡ fold f (fold f start xs) ys
 fold-append f start [] ys = refl
@@ -57,12 +55,13 @@ barred-next servers set block row rows =
     let copies_of : SlotRow → List Copy = λ r. option_to_list (granted_copy r.state.grant) in
     let behind : List SlotRow = filter (is_of_block block) rows in
     elim (is_of_block block row) as (λ b.
-      fold bar set (flat_map copies_of (cond b (row ∷ behind) behind))
-      ≡ fold bar (fold bar set (flat_map copies_of (cond b (row ∷ []) []))) (flat_map copies_of behind))
-    [ true ↦
-        fold-append bar set (copies_of row) (flat_map copies_of behind)
-        ∙ ap (λ copies. fold bar (fold bar set copies) (flat_map copies_of behind)) (sym (append-nil (copies_of row)))
-    | false ↦ refl ]
+    fold bar set (flat_map copies_of (cond b (row ∷ behind) behind))
+    ≡ fold bar (fold bar set (flat_map copies_of (cond b (row ∷ []) []))) (flat_map copies_of behind)) [
+      | true ↦
+          fold-append bar set (copies_of row) (flat_map copies_of behind)
+          ∙ ap (λ copies. fold bar (fold bar set copies) (flat_map copies_of behind)) (sym (append-nil (copies_of row)))
+      | false ↦ refl
+    ]
 
 -- a server as placement sees it, as a candidate
 abbrev pub as_candidate : Numbered → Candidate
@@ -98,20 +97,22 @@ best_from-lightest slots barred None number (server ∷ servers) =
     let next : Numbered = (number, load_of slots number server) in
     let rest : List Numbered = open_from slots barred (number + 1) servers in
     elim (server.up && not server.leaving && not (has barred number)) as (λ b.
-      best_from slots barred (cond b (Some (as_candidate next)) None) (number + 1) servers
-      ≡ option_map as_candidate (lightest None (cond b (next ∷ rest) rest)))
-    [ true ↦ best_from-lightest slots barred (Some next) (number + 1) servers
-    | false ↦ best_from-lightest slots barred None (number + 1) servers ]
+    best_from slots barred (cond b (Some (as_candidate next)) None) (number + 1) servers
+    ≡ option_map as_candidate (lightest None (cond b (next ∷ rest) rest))) [
+      | true ↦ best_from-lightest slots barred (Some next) (number + 1) servers
+      | false ↦ best_from-lightest slots barred None (number + 1) servers
+    ]
 best_from-lightest slots barred (Some best) number (server ∷ servers) =
     let next : Numbered = (number, load_of slots number server) in
     let rest : List Numbered = open_from slots barred (number + 1) servers in
     elim (server.up && not server.leaving && not (has barred number)) as (λ b.
-      best_from slots barred (cond b (Some (lighter_of (Some (as_candidate best)) (as_candidate next))) (Some (as_candidate best))) (number + 1) servers
-      ≡ option_map as_candidate (lightest (Some best) (cond b (next ∷ rest) rest)))
-    [ true ↦
-        ap (λ c. best_from slots barred (Some c) (number + 1) servers) (as_candidate-lighter best next)
-        ∙ best_from-lightest slots barred (Some (lighter best next)) (number + 1) servers
-    | false ↦ best_from-lightest slots barred (Some best) (number + 1) servers ]
+    best_from slots barred (cond b (Some (lighter_of (Some (as_candidate best)) (as_candidate next))) (Some (as_candidate best))) (number + 1) servers
+    ≡ option_map as_candidate (lightest (Some best) (cond b (next ∷ rest) rest))) [
+      | true ↦
+          ap (λ c. best_from slots barred (Some c) (number + 1) servers) (as_candidate-lighter best next)
+          ∙ best_from-lightest slots barred (Some (lighter best next)) (number + 1) servers
+      | false ↦ best_from-lightest slots barred (Some best) (number + 1) servers
+    ]
 
 -- the best candidate of all servers is the one that is chosen
 pub best_from-choose : (slots : List SlotRow) (barred : List ℕ) (servers : List ServerView) →

@@ -1,5 +1,5 @@
 -- How the requests of a get are served, by what the code finds out.
-use Rattle.std.proofs.Common.{◌≡◌, ℕ, true, false, [], ◌∷◌, Option, Some, None, length, refl, sym, ap, ◌∙◌, subst}
+use Rattle.std.proofs.Common.{◌≡◌, ℕ, true, false, [], ◌∷◌, Some, None, length, refl, sym, subst}
 use Rattle.qfs_base.specs.declared.image.MetaImage.{MetaImage}
 use Rattle.qfs_base.specs.declared.reply.MetaReply.TheVariants as Told
 use Rattle.qfs_base.specs.declared.reply.Opened.{Opened}

@@ -1,5 +1,5 @@
 -- How the grant of a slot is served, by what the code finds out.
-use Rattle.std.proofs.Common.{◌≡◌, ℕ, nat_lt, Bool, true, false, List, [], ◌∷◌, Option, Some, None, refl, sym, ap, ◌∙◌, subst}
+use Rattle.std.proofs.Common.{◌≡◌, ℕ, nat_lt, Bool, true, false, [], ◌∷◌, Some, None, refl, sym, ap, subst}
 use Rattle.qfs_base.specs.declared.chunk.BlockId.{BlockId}
 use Rattle.qfs_base.specs.declared.image.Grant.{Grant}
 use Rattle.qfs_base.specs.declared.image.MetaImage.{MetaImage}

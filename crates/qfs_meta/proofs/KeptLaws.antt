@@ -1,6 +1,6 @@
 -- What changes keep of the metaserver's state.
-use Rattle.std.proofs.Common.{◌≡◌, ℕ, ◌+◌, ◌<◌, ◌^◌, Bool, true, false, List, [], ◌∷◌, ◌++◌, length, map, Option, Some, None, refl, sym, ap, ◌∙◌, subst, arith, length-append}
-use Rattle.std.proofs.lemmas.List.Elements.{All-nil, All-cons, All-head, All-tail, All-map, All-weaker}
+use Rattle.std.proofs.Common.{ℕ, ◌+◌, ◌<◌, ◌^◌, true, false, List, [], ◌∷◌, ◌++◌, length, sym, subst, arith, length-append}
+use Rattle.std.proofs.lemmas.List.Elements.{All-cons, All-head, All-tail, All-map, All-weaker}
 use Rattle.std.specs.List.{All}
 use Rattle.std.specs.declared.cmp.Ordering.{Ordering}
 use Rattle.std.specs.declared.cmp.Ordering.TheVariants.{Less, Equal, Greater}
@@ -11,11 +11,8 @@ use Rattle.qfs_base.specs.NameTree.{PathNames}
 use Rattle.qfs_base.specs.Table.{place, place_before, change_row}
 use Rattle.qfs_model_meta.specs.Apply.{apply, add_file, write_entry, with_slots, grant_slot, finish_lease}
 use Rattle.qfs_model_meta.specs.Change.{AddFile, CloseFile, GrantSlot, GiveLease, EndLease}
-use Rattle.qfs_model_meta.specs.Condemned.{unblock_all}
-use Rattle.qfs_model_meta.specs.Leases.{give_lease, end_lease}
 use Rattle.qfs_model_meta.specs.Slots.{change_state, sealed_slot, is_of_file, seal_file, with_slot, granted_slot, slot_cmp}
 use Rattle.qfs_model_meta.specs.Step.{next_turn}
-use Rattle.qfs_model_meta.specs.TreeRows.{add_row, close_file}
 use Rattle.qfs_meta.specs.Kept.{IsKept, IsGrantedOnServer, AreGrantedOnServers, IsServerNumber}
 use Rattle.qfs_meta.proofs.TableLaws.{change_where-map}
 
@@ -38,10 +35,11 @@ sealed_rows file rows granted =
 pub placed_rows : {X : Type 0} (P : X → Type 0) (order : X → X → Ordering) (new : X) (rows : List X) → P new → All P rows → All P (place order new rows)
 placed_rows P order new [] holds all = All-cons P new [] holds all
 placed_rows P order new (row ∷ rows) holds all =
-    elim (order new row) as (λ o. All P (place_before new row rows (place order new rows) o))
-    [ Less ↦ All-cons P new (row ∷ rows) holds all
-    | Equal ↦ All-cons P new rows holds (All-tail P row rows all)
-    | Greater ↦ All-cons P row (place order new rows) (All-head P row rows all) (placed_rows P order new rows holds (All-tail P row rows all)) ]
+    elim (order new row) as (λ o. All P (place_before new row rows (place order new rows) o)) [
+      | Less ↦ All-cons P new (row ∷ rows) holds all
+      | Equal ↦ All-cons P new rows holds (All-tail P row rows all)
+      | Greater ↦ All-cons P row (place order new rows) (All-head P row rows all) (placed_rows P order new rows holds (All-tail P row rows all))
+    ]
 
 pub kept-create : (m : MetaImage) (path : PathNames) (actor command len : ℕ) → IsKept m →
     m.next_file + 1 < 2 ^ 32 → length m.history + 1 < 2 ^ 32 → IsKept (next_turn (apply m (AddFile path actor command len)))

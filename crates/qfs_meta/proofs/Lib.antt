@@ -4,6 +4,7 @@ pub mod GrantLaws
 pub mod KeptLaws
 pub mod ListedLaws
 pub mod PutLaws
+pub mod RequestLaws
 pub mod ServerLaws
 pub mod StepLaws
 pub mod TableLaws

@@ -1,11 +1,10 @@
 -- The name tree's rules over the rows of the metaserver's tree.
-use Rattle.std.proofs.Common.{◌≡◌, ℕ, suc, ◌<◌, ◌+◌, ◌-◌, Bool, true, false, cond, List, [], ◌∷◌, length, map, take, find, Option, Some, None, refl, ap, sym, ◌∙◌, arith}
+use Rattle.std.proofs.Common.{◌≡◌, ℕ, suc, ◌<◌, ◌+◌, ◌-◌, true, false, cond, List, [], ◌∷◌, length, map, take, find, Option, Some, None, refl, ap, ◌∙◌, arith}
 use Rattle.std.specs.Option.{option_map, option_or}
 use Rattle.std.specs.List.{range_with_len}
 use Rattle.qfs_base.specs.declared.reply.TreeRefusal.{TreeRefusal}
 use Rattle.qfs_base.specs.Table.{first_of}
 use Rattle.qfs_base.specs.declared.image.TreeRow.{TreeRow}
-use Rattle.qfs_base.specs.declared.lists.NameKind.{NameKind}
 use Rattle.qfs_base.specs.NameTree.{PathNames, Standing, kind_at, stands_at, path_eq}
 use Rattle.qfs_model_meta.specs.TreeRows.{standing, kind_of, row_path}
 
@@ -16,8 +15,8 @@ unfolding standing
 find_standing [] path = refl
 find_standing (row ∷ rows) path =
     elim (path_eq row.path path) as (λ b.
-      option_map (λ (row : Standing). row.kind) (cond b (Some (record { path = row.path; kind = kind_of row.file row.closed })) (find (λ (row : Standing). path_eq row.path path) (standing rows)))
-      ≡ option_map (λ (row : TreeRow). kind_of row.file row.closed) (cond b (Some row) (find (stands_at row_path path) rows)))
+    option_map (λ (row : Standing). row.kind) (cond b (Some (record { path = row.path; kind = kind_of row.file row.closed })) (find (λ (row : Standing). path_eq row.path path) (standing rows)))
+    ≡ option_map (λ (row : TreeRow). kind_of row.file row.closed) (cond b (Some row) (find (stands_at row_path path) rows)))
     [ true ↦ refl | false ↦ find_standing rows path ]
 
 -- below the root the first row of a path tells what stands there

@@ -1,5 +1,5 @@
 -- The choice of a server, one server after another.
-use Rattle.std.specs.Prelude.{ℕ, ◌+◌, nat_lt, Bool, cond, not, ◌&&◌, List, [], ◌∷◌, Option, Some, None}
+use Rattle.std.specs.Prelude.{ℕ, ◌+◌, nat_lt, cond, not, ◌&&◌, List, [], ◌∷◌, Option, Some, None}
 use Rattle.qfs_base.specs.declared.image.ServerView.{ServerView}
 use Rattle.qfs_base.specs.declared.image.SlotRow.{SlotRow}
 use Rattle.qfs_base.specs.NumberSet.{has}

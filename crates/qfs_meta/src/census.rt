@@ -45,7 +45,12 @@ fn count_on(slots: &[SlotRow], server: ServerId, life: Life) -> usize
 
 /// The servers so far, and that of a row's grant where this is a live one of the block.
 #[tactic(auto, unfolding(qfs_model_meta::specs::Placing::with_live_servers, qfs_model_meta::specs::Slots::grants_of_block, qfs_model_meta::specs::Slots::granted_copy, qfs_model_meta::specs::Slots::is_of_block, qfs_model_meta::specs::Slots::same_block))]
-fn barred_with(servers: &[ServerView], block: BlockId, row: &SlotRow, barred: ServerSet) -> ServerSet
+fn barred_with(
+    servers: &[ServerView],
+    block: BlockId,
+    row: &SlotRow,
+    barred: ServerSet,
+) -> ServerSet
     requires { IsGrantedOnServer row.now }
     ensures { result ≡ with_live_servers servers.now barred (grants_of_block block (row.now ∷ [])) }
 {
@@ -64,7 +69,12 @@ fn barred_with(servers: &[ServerView], block: BlockId, row: &SlotRow, barred: Se
 
 /// The servers that are barred for a put of a slot: those with a live grant of its block, and
 /// those that failed a put of the slot.
-pub fn barred_for_put(servers: &[ServerView], slots: &[SlotRow], block: BlockId, failed: ServerSet) -> ServerSet
+pub fn barred_for_put(
+    servers: &[ServerView],
+    slots: &[SlotRow],
+    block: BlockId,
+    failed: ServerSet,
+) -> ServerSet
     requires { AreGrantedOnServers slots.now }
     ensures { result ≡ barred_for_put servers.now slots.now block failed }
 {
@@ -89,7 +99,13 @@ fn lighter(best: Option<Candidate>, next: Candidate) -> Candidate
 }
 
 /// The best candidate once a server was looked at too.
-fn after_server(best: Option<Candidate>, number: ServerId, server: &ServerView, slots: &[SlotRow], barred: ServerSet) -> Option<Candidate>
+fn after_server(
+    best: Option<Candidate>,
+    number: ServerId,
+    server: &ServerView,
+    slots: &[SlotRow],
+    barred: ServerSet,
+) -> Option<Candidate>
     requires best { IfSome best IsCandidate }
     requires number { IsServerNumber number }
     ensures best { result ≡ after_server slots.now barred best number server.now }
@@ -99,7 +115,13 @@ fn after_server(best: Option<Candidate>, number: ServerId, server: &ServerView, 
         return best;
     }
     let count = count_on(slots, number, server.life);
-    Some(lighter(best, Candidate { server: number, count }))
+    Some(lighter(
+        best,
+        Candidate {
+            server: number,
+            count,
+        },
+    ))
 }
 
 /// Of the servers that are up, not leaving and not barred, the one with the lowest load, and

@@ -129,7 +129,13 @@ impl RowChange<TreeRow> for CloseRow {
 }
 
 /// Closes a file that an actor's command wrote. On want of memory the state stays.
-pub fn close_file(alloc: Global, image: &mut MetaImage, file: FileId, actor: ActorId, command: u16) -> Result<(), AllocError>
+pub fn close_file(
+    alloc: Global,
+    image: &mut MetaImage,
+    file: FileId,
+    actor: ActorId,
+    command: u16,
+) -> Result<(), AllocError>
     ensures ok { OnOk result (image.new ≡ apply image.old (CloseFile file actor command)) }
     ensures err { OnErr result (image.new ≡ image.old) }
 {

@@ -31,7 +31,13 @@ pub fn copy_path(path: &Path) -> Result<Path, AllocError>
 
 /// Makes an unclosed file of `len` bytes for an actor's command. On want of memory the state
 /// stays.
-pub fn add_file(image: &mut MetaImage, path: &Path, actor: ActorId, command: u16, len: u32) -> Result<(), AllocError>
+pub fn add_file(
+    image: &mut MetaImage,
+    path: &Path,
+    actor: ActorId,
+    command: u16,
+    len: u32,
+) -> Result<(), AllocError>
     requires { image.old.next_file + 1 < 2 ^ 32 }
     ensures ok { OnOk result (image.new ≡ apply image.old (AddFile path.now actor command len)) }
     ensures err { OnErr result (image.new ≡ image.old) }

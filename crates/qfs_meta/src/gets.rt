@@ -32,7 +32,13 @@ fn give_lease(image: &mut MetaImage, actor: ActorId, file: FileId) -> Result<(),
 }
 
 /// Opens a closed file under a lease. On want of memory the state stays.
-pub fn open(alloc: Global, layout: &Layout, image: &mut MetaImage, actor: ActorId, path: &Path) -> Result<MetaReply, AllocError>
+pub fn open(
+    alloc: Global,
+    layout: &Layout,
+    image: &mut MetaImage,
+    actor: ActorId,
+    path: &Path,
+) -> Result<MetaReply, AllocError>
     requires { IsKept image.old }
     ensures ok { IfOk result (λ reply. Serves image.old (decide_open layout.now actor path.now image.old) image.new reply) }
     ensures err { OnErr result (image.new ≡ image.old) }
@@ -44,7 +50,13 @@ pub fn open(alloc: Global, layout: &Layout, image: &mut MetaImage, actor: ActorI
     }
     let (file, len) = file_at(image.tree.as_slice(), path);
     let count = layout.blocks_of(len);
-    let blocks = listed_blocks(alloc, image.servers.as_slice(), image.slots.as_slice(), file, count)?;
+    let blocks = listed_blocks(
+        alloc,
+        image.servers.as_slice(),
+        image.slots.as_slice(),
+        file,
+        count,
+    )?;
     let lease = image.next_lease;
     if lease == LeaseId::MAX {
         return Ok(MetaReply::NoMemory);

@@ -61,7 +61,13 @@ fn chosen_for_put(image: &MetaImage, block: BlockId, slot: Slot) -> Option<Serve
 
 /// Gives a slot a grant on a server, in the life that is known of it. On want of memory the state
 /// stays.
-fn grant_slot(image: &mut MetaImage, block: BlockId, slot: Slot, server: ServerId, actor: ActorId) -> Result<(), AllocError>
+fn grant_slot(
+    image: &mut MetaImage,
+    block: BlockId,
+    slot: Slot,
+    server: ServerId,
+    actor: ActorId,
+) -> Result<(), AllocError>
     ensures ok { OnOk result (image.new ≡ apply image.old (GrantSlot block slot server actor 0)) }
     ensures err { OnErr result (image.new ≡ image.old) }
 {
@@ -74,7 +80,15 @@ fn grant_slot(image: &mut MetaImage, block: BlockId, slot: Slot, server: ServerI
 
 /// What a put of a file of `len` bytes is told of the grant that it is about to get.
 #[tactic(auto, unfolding(qfs_model_meta::specs::PutRequests::put_granted, qfs_model_meta::specs::Lists::new_grant))]
-fn put_granted(alloc: Global, layout: &Layout, len: u32, block: BlockId, slot: Slot, image: &MetaImage, server: ServerId) -> Result<Granted, AllocError>
+fn put_granted(
+    alloc: Global,
+    layout: &Layout,
+    len: u32,
+    block: BlockId,
+    slot: Slot,
+    image: &MetaImage,
+    server: ServerId,
+) -> Result<Granted, AllocError>
     requires { block.index < block_count layout.now len }
     ensures { IfOk result (λ told. MetaReply.Granted told ≡ put_granted layout.now len block slot image.now server) }
 {
@@ -92,7 +106,15 @@ fn put_granted(alloc: Global, layout: &Layout, len: u32, block: BlockId, slot: S
 }
 
 /// Grants a slot on the server that is chosen, if there is one. On want of memory the state stays.
-fn grant_chosen(alloc: Global, layout: &Layout, image: &mut MetaImage, actor: ActorId, len: u32, block: BlockId, slot: Slot) -> Result<MetaReply, AllocError>
+fn grant_chosen(
+    alloc: Global,
+    layout: &Layout,
+    image: &mut MetaImage,
+    actor: ActorId,
+    len: u32,
+    block: BlockId,
+    slot: Slot,
+) -> Result<MetaReply, AllocError>
     requires kept { IsKept image.old }
     requires index { block.index < block_count layout.now len }
     ensures ok { IfOk result (λ reply. Serves image.old (grant_after layout.now actor len block slot [] image.old) image.new reply) }
@@ -110,7 +132,14 @@ fn grant_chosen(alloc: Global, layout: &Layout, image: &mut MetaImage, actor: Ac
 
 /// Grants a server for a slot of a file that the actor hasn't closed yet. On want of memory the
 /// state stays.
-pub fn grant(alloc: Global, layout: &Layout, image: &mut MetaImage, actor: ActorId, block: BlockId, slot: Slot) -> Result<MetaReply, AllocError>
+pub fn grant(
+    alloc: Global,
+    layout: &Layout,
+    image: &mut MetaImage,
+    actor: ActorId,
+    block: BlockId,
+    slot: Slot,
+) -> Result<MetaReply, AllocError>
     requires { IsKept image.old }
     ensures ok { IfOk result (λ reply. Serves image.old (decide_grant layout.now actor block slot false image.old) image.new reply) }
     ensures err { OnErr result (image.new ≡ image.old) }

@@ -13,7 +13,9 @@ use std::alloc::Global;
 pub fn holds_lease(leases: &[Lease], actor: ActorId, number: LeaseId) -> bool
     ensures { result ≡ holds_lease actor number leases.now }
 {
-    leases.iter().any(|lease| lease.lease == number && lease.actor == actor)
+    leases
+        .iter()
+        .any(|lease| lease.lease == number && lease.actor == actor)
 }
 
 /// Ends a lease.

@@ -23,7 +23,12 @@ pub fn no_sources(alloc: Global) -> Result<Nine, AllocError>
 }
 
 /// The listed copies of a block.
-fn listed_nine(alloc: Global, servers: &[ServerView], slots: &[SlotRow], block: BlockId) -> Result<Nine, AllocError>
+fn listed_nine(
+    alloc: Global,
+    servers: &[ServerView],
+    slots: &[SlotRow],
+    block: BlockId,
+) -> Result<Nine, AllocError>
     ensures { IfOk result (λ nine. nine ≡ listed_nine servers.now slots.now block) }
 {
     let mut nine = Listing::with_capacity(alloc, SLOTS as usize)?;
@@ -35,7 +40,13 @@ fn listed_nine(alloc: Global, servers: &[ServerView], slots: &[SlotRow], block: 
 }
 
 /// The listed copies of so many blocks of a file.
-pub fn listed_blocks(alloc: Global, servers: &[ServerView], slots: &[SlotRow], file: FileId, count: u32) -> Result<Listing<Nine>, AllocError>
+pub fn listed_blocks(
+    alloc: Global,
+    servers: &[ServerView],
+    slots: &[SlotRow],
+    file: FileId,
+    count: u32,
+) -> Result<Listing<Nine>, AllocError>
     ensures { IfOk result (λ blocks. blocks ≡ listed_blocks servers.now slots.now file count) }
 {
     let mut blocks = Listing::with_capacity(alloc, count as usize)?;

@@ -110,10 +110,11 @@ impl Meta {
         if let Some(turn) = dropped_at(self.image.dropped.as_slice(), actor) {
             return Ok(MetaReply::Dropped { turn });
         }
-        match serve_request(self.alloc, &self.layout, &mut self.image, actor, request) {
-            Ok(reply) => Ok(reply),
-            Err(_) => Ok(MetaReply::NoMemory),
-        }
+        let Ok(reply) = serve_request(self.alloc, &self.layout, &mut self.image, actor, request)
+        else {
+            return Ok(MetaReply::NoMemory);
+        };
+        Ok(reply)
     }
 
     /// The state.

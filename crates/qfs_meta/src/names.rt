@@ -88,7 +88,11 @@ fn file_refusal(kind: Option<NameKind>) -> Option<TreeRefusal>
 }
 
 /// The parents of a path are tried from the top, and the first that isn't a directory decides.
-fn parents_refusal(absent: TreeRefusal, tree: &[TreeRow], names: &[Listing<u8>]) -> Option<TreeRefusal>
+fn parents_refusal(
+    absent: TreeRefusal,
+    tree: &[TreeRow],
+    names: &[Listing<u8>],
+) -> Option<TreeRefusal>
     ensures { result ≡ parents_refusal absent (standing tree.now) names.now }
 {
     for depth in 1..names.len() {

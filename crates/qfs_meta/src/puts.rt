@@ -18,7 +18,13 @@ use qfs_stripe::{Layout, LayoutCalls};
 use std::alloc::{AllocError, Global};
 
 /// Makes a file that its actor has yet to write. On want of memory the state stays.
-pub fn create(image: &mut MetaImage, actor: ActorId, path: &Path, command: u16, len: u32) -> Result<MetaReply, AllocError>
+pub fn create(
+    image: &mut MetaImage,
+    actor: ActorId,
+    path: &Path,
+    command: u16,
+    len: u32,
+) -> Result<MetaReply, AllocError>
     requires { IsKept image.old }
     ensures ok { IfOk result (λ reply. Serves image.old (decide_create actor path.now command len image.old) image.new reply) }
     ensures err { OnErr result (image.new ≡ image.old) }
@@ -38,7 +44,13 @@ pub fn create(image: &mut MetaImage, actor: ActorId, path: &Path, command: u16, 
 }
 
 /// Closes a file once all of its slots are granted. On want of memory the state stays.
-pub fn close(alloc: Global, layout: &Layout, image: &mut MetaImage, actor: ActorId, file: FileId) -> Result<MetaReply, AllocError>
+pub fn close(
+    alloc: Global,
+    layout: &Layout,
+    image: &mut MetaImage,
+    actor: ActorId,
+    file: FileId,
+) -> Result<MetaReply, AllocError>
     requires { IsKept image.old }
     ensures ok { IfOk result (λ reply. Serves image.old (decide_close layout.now actor file image.old) image.new reply) }
     ensures err { OnErr result (image.new ≡ image.old) }

@@ -32,7 +32,13 @@ pub fn is_built(request: &MetaRequest) -> bool
 }
 
 /// Serves a request of an actor that wasn't dropped. On want of memory the state stays.
-pub fn serve_request(alloc: Global, layout: &Layout, image: &mut MetaImage, actor: ActorId, request: &MetaRequest) -> Result<MetaReply, AllocError>
+pub fn serve_request(
+    alloc: Global,
+    layout: &Layout,
+    image: &mut MetaImage,
+    actor: ActorId,
+    request: &MetaRequest,
+) -> Result<MetaReply, AllocError>
     requires kept { IsKept image.old }
     requires built { is_built request.now ≡ true }
     ensures ok { IfOk result (λ reply. Serves image.old (decide layout.now actor image.old request.now) image.new reply) }
@@ -42,7 +48,10 @@ pub fn serve_request(alloc: Global, layout: &Layout, image: &mut MetaImage, acto
     match request {
         MetaRequest::Create { path, command, len } => create(image, actor, path, *command, *len),
         MetaRequest::Grant {
-            file, index, slot, ..
+            file,
+            index,
+            slot,
+            ..
         } => {
             if *slot >= SLOTS {
                 return Ok(MetaReply::Nothing);

@@ -27,7 +27,10 @@ fn never_granted() -> SlotRecord
 pub fn slot_at(slots: &[SlotRow], block: BlockId, slot: Slot) -> SlotRecord
     ensures { result ≡ slot_at slots.now block slot }
 {
-    match slots.iter().find(|row| row.block == block && row.slot == slot) {
+    match slots
+        .iter()
+        .find(|row| row.block == block && row.slot == slot)
+    {
         Some(row) => row.state,
         None => never_granted(),
     }
@@ -48,6 +51,8 @@ impl Row for SlotRow {
 
     #[tactic(auto, unfolding(qfs_model_meta::specs::Slots::slot_cmp))]
     fn order(&self, other: &Self) -> Ordering {
-        self.block.cmp(&other.block).then(self.slot.cmp(&other.slot))
+        self.block
+            .cmp(&other.block)
+            .then(self.slot.cmp(&other.slot))
     }
 }

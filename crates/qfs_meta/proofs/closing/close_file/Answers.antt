@@ -9,7 +9,7 @@ pub returns-clause-ok : goal.returns-clause-ok
 unfolding apply write_entry with_slots seal_file close_file
 returns-clause-ok c =
     let slots : c.change_rows.new.rows ≡ seal_file c.args.file c.args.image.now.slots =
-        c.change_rows.ensures ∙ sym (change_where-map (is_of_file c.args.file) (change_state sealed_slot) c.args.image.now.slots) in
+    c.change_rows.ensures ∙ sym (change_where-map (is_of_file c.args.file) (change_state sealed_slot) c.args.image.now.slots) in
     let tree : c.change_rows-2.new.rows ≡ close_file c.args.file c.args.image.now.tree =
-        c.change_rows-2.ensures ∙ sym (change_where-map (has_file c.args.file) close_row c.args.image.now.tree) in
+    c.change_rows-2.ensures ∙ sym (change_where-map (has_file c.args.file) close_row c.args.image.now.tree) in
     λ i. record c.args.image.now { tree = tree i; slots = slots i; history = c.in_ok-push.ensures.ok i }

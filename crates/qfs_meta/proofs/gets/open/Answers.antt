@@ -43,9 +43,9 @@ returns-clause-ok c =
     let m = c.args.image.now in
     let row : TreeRow = row_at m.tree c.args.path.now in
     let count : c.blocks_of-count.result ≡ block_count c.args.layout.now row.len =
-        c.blocks_of-count.ensures ∙ ap (block_count c.args.layout.now) (len c) in
+    c.blocks_of-count.ensures ∙ ap (block_count c.args.layout.now) (len c) in
     let blocks : c.in_ok-blocks.blocks ≡ listed_blocks m.servers m.slots row.file (block_count c.args.layout.now row.len) =
-        c.in_ok-blocks.ensures ∙ (λ i. listed_blocks (c.as_slice-3.ensures i) (c.as_slice-4.ensures i) (file c i) (count i)) in
+    c.in_ok-blocks.ensures ∙ (λ i. listed_blocks (c.as_slice-3.ensures i) (c.as_slice-4.ensures i) (file c i) (count i)) in
     open-made c.args.layout.now c.args.actor c.args.path.now m _ _
     (ap (λ tree. look_refusal (standing tree) c.args.path.now) (sym c.as_slice.ensures) ∙ sym c.look_refusal.ensures ∙ c.in_default.is)
     (λ i. record { lease = m.next_lease; place = c.next_place-place.ensures i; file = file c i; len = len c i; blocks = blocks i })

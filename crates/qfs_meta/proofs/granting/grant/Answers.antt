@@ -1,6 +1,5 @@
-use Rattle.std.proofs.Common.{◌≡◌, ◌∙◌, ap, sym, subst, nat_lt, Bool, true, false, Option, Some, None}
+use Rattle.std.proofs.Common.{◌∙◌, ap, sym, nat_lt, false}
 use Rattle.std.specs.Option.{option_copied}
-use Rattle.qfs_model_meta.specs.Lists.{block_count}
 use Rattle.qfs_model_meta.specs.Slots.{slot_at}
 use Rattle.qfs_model_meta.specs.TreeRows.{unclosed_file}
 use Rattle.qfs_meta.proofs.GrantLaws.{grant-gone, grant-no_block, grant-taken, grant-first}

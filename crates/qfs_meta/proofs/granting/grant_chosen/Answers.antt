@@ -1,9 +1,8 @@
-use Rattle.std.proofs.Common.{◌≡◌, ◌∙◌, ap, sym, subst, Some}
-use Rattle.std.specs.Option.{IfSome}
+use Rattle.std.proofs.Common.{◌≡◌, ◌∙◌, ap, sym, subst}
 use Rattle.qfs_model_meta.specs.Apply.{apply}
 use Rattle.qfs_model_meta.specs.Change.{GrantSlot}
 use Rattle.qfs_model_meta.specs.Step.{next_turn}
-use Rattle.qfs_meta.specs.Kept.{IsKept, IsServerNumber}
+use Rattle.qfs_meta.specs.Kept.{IsKept}
 use Rattle.qfs_meta.proofs.GrantLaws.{chosen-none, chosen-granted}
 use Rattle.qfs_meta.proofs.KeptLaws.{kept-grant}
 use Rattle.qfs_meta.proofs.granting.grant_chosen.Goals as goal

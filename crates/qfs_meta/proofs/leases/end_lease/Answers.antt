@@ -1,4 +1,4 @@
-use Rattle.std.proofs.Common.{rules, ◌∙◌, sym, ap, not}
+use Rattle.std.proofs.Common.{rules, ◌∙◌, ap, not}
 use Rattle.std.proofs.lemmas.Fn.{filter_same}
 use Rattle.qfs_base.specs.declared.image.Lease.{Lease}
 use Rattle.qfs_model_meta.specs.Leases.{end_lease, is_lease}

@@ -11,8 +11,8 @@ loop-depth-init c = refl
 pub loop-depth-preserved : goal.loop-depth-preserved
 loop-depth-preserved c =
     let passed : through_refusal c.args.absent (kind_at (standing c.args.tree.now) (take c.loop-depth.depth c.args.names.now)) ≡ None =
-        ap (through_refusal c.args.absent) (sym c.kind_at.ensures)
-        ∙ sym c.through_refusal.ensures
-        ∙ c.in_default.is in
+    ap (through_refusal c.args.absent) (sym c.kind_at.ensures)
+    ∙ sym c.through_refusal.ensures
+    ∙ c.in_default.is in
     c.loop-depth.invariant
     ∙ parents_next (λ parent. through_refusal c.args.absent (kind_at (standing c.args.tree.now) parent)) c.args.names.now c.loop-depth.depth c.loop-depth-test.true passed

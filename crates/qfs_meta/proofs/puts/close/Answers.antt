@@ -1,7 +1,5 @@
-use Rattle.std.proofs.Common.{◌≡◌, ◌∙◌, ap, sym, subst, arith, Option, Some, None}
+use Rattle.std.proofs.Common.{◌≡◌, ◌∙◌, ap, sym, subst, arith, Some, None}
 use Rattle.std.specs.Option.{option_copied}
-use Rattle.qfs_base.specs.declared.request.SlotId.{SlotId}
-use Rattle.qfs_base.specs.declared.image.SlotRow.{SlotRow}
 use Rattle.qfs_model_meta.specs.Apply.{apply}
 use Rattle.qfs_model_meta.specs.Change.{CloseFile}
 use Rattle.qfs_model_meta.specs.Lists.{block_count}
@@ -22,12 +20,12 @@ returns-in_default-clause-ok c =
 pub returns-in-Some-first_ungranted-clause-ok : goal.returns-in-Some-first_ungranted-clause-ok
 returns-in-Some-first_ungranted-clause-ok c =
     let found : unclosed_file c.args.actor c.args.file c.args.image.now.tree ≡ Some c.in-Some.row.now =
-        ap (unclosed_file c.args.actor c.args.file) (sym c.as_slice.ensures) ∙ sym c.unclosed_file.ensures ∙ ap option_copied c.in-Some.is in
+    ap (unclosed_file c.args.actor c.args.file) (sym c.as_slice.ensures) ∙ sym c.unclosed_file.ensures ∙ ap option_copied c.in-Some.is in
     let lacks : first_ungranted c.args.file (block_count c.args.layout.now c.in-Some.row.now.len) c.args.image.now.slots ≡ Some c.in-Some-first_ungranted.id =
-        ap (λ count. first_ungranted c.args.file count c.args.image.now.slots) (sym c.blocks_of-count.ensures)
-        ∙ ap (first_ungranted c.args.file c.blocks_of-count.result) (sym c.as_slice-2.ensures)
-        ∙ sym c.first_ungranted.ensures
-        ∙ c.in-Some-first_ungranted.is in
+    ap (λ count. first_ungranted c.args.file count c.args.image.now.slots) (sym c.blocks_of-count.ensures)
+    ∙ ap (first_ungranted c.args.file c.blocks_of-count.result) (sym c.as_slice-2.ensures)
+    ∙ sym c.first_ungranted.ensures
+    ∙ c.in-Some-first_ungranted.is in
     close-incomplete c.args.layout.now c.args.actor c.args.file c.args.image.now c.in-Some.row.now c.in-Some-first_ungranted.id found lacks
 
 pub returns-then-place-clause-ok : goal.returns-then-place-clause-ok
@@ -44,11 +42,11 @@ returns-clause-kept c =
 pub returns-clause-ok : goal.returns-clause-ok
 returns-clause-ok c =
     let found : unclosed_file c.args.actor c.args.file c.args.image.now.tree ≡ Some c.in-Some.row.now =
-        ap (unclosed_file c.args.actor c.args.file) (sym c.as_slice.ensures) ∙ sym c.unclosed_file.ensures ∙ ap option_copied c.in-Some.is in
+    ap (unclosed_file c.args.actor c.args.file) (sym c.as_slice.ensures) ∙ sym c.unclosed_file.ensures ∙ ap option_copied c.in-Some.is in
     let granted : first_ungranted c.args.file (block_count c.args.layout.now c.in-Some.row.now.len) c.args.image.now.slots ≡ None =
-        ap (λ count. first_ungranted c.args.file count c.args.image.now.slots) (sym c.blocks_of-count.ensures)
-        ∙ ap (first_ungranted c.args.file c.blocks_of-count.result) (sym c.as_slice-2.ensures)
-        ∙ sym c.first_ungranted.ensures
-        ∙ c.in_default-first_ungranted.is in
+    ap (λ count. first_ungranted c.args.file count c.args.image.now.slots) (sym c.blocks_of-count.ensures)
+    ∙ ap (first_ungranted c.args.file c.blocks_of-count.result) (sym c.as_slice-2.ensures)
+    ∙ sym c.first_ungranted.ensures
+    ∙ c.in_default-first_ungranted.is in
     close-made c.args.layout.now c.args.actor c.args.file c.args.image.now c.in-Some.row.now _ _ c.next_place-place.ensures
     found granted (made c) (returns-clause-kept c)
