@@ -1,1 +1,4 @@
 pub mod Stripes
+pub mod Puts
+pub mod Rows
+pub mod Gets

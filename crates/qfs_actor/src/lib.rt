@@ -2,5 +2,11 @@
 #![tactic(auto)]
 
 mod chunk;
+mod ending;
+mod get;
+mod put;
+mod stage;
+mod turn;
 
 pub use chunk::chunk_of;
+pub use stage::Stopped;
