@@ -9,7 +9,7 @@ ghost use Rattle.qfs_model_actor.specs.Command.{work_of};
 ghost use Rattle.qfs_model_actor.specs.Hold.{nothing, on_answer, end_with};
 ghost use Rattle.qfs_model_actor.specs.Read.{Source};
 ghost use Rattle.qfs_model_actor.specs.Work.{goes_on};
-ghost use Rattle.qfs_actor.specs.Forms.{IsBuilt, IsHex, bytes_put, on_first};
+ghost use Rattle.qfs_actor.specs.Forms.{IsBuilt, IsBuiltFile, IsHex, bytes_of_file, bytes_put, on_first_file, on_first};
 ghost use Rattle.qfs_actor.specs.Rest.{rest_at, rest_after, hold_at, fault_report, on_answer_at, AsksMeta, CanAsk, IsAt, IsUnbuilt, MovesTo};
 
 use crate::ending::{fault_report, given_back};
@@ -105,7 +105,10 @@ fn on_chunk(
 {
     match stage {
         Stage::Storing(at, _) => Ok(stored(layout, bytes, at, &reply.answer)),
-        Stage::Reading(open_file, slot) => fetched(alloc, layout, open_file, slot, reply),
+        Stage::Reading(open_file, slot) => {
+            let step = fetched(alloc, layout, open_file, slot, reply)?;
+            Ok(step)
+        }
         _ => Ok(Move::Ends(Reply::Unnamed)),
     }
 }
@@ -173,21 +176,24 @@ pub fn bytes_put(command: &Command) -> &[u8]
     }
 }
 
-/// The move of a command at the answer to its first request.
+/// The move of a file command at the answer to its first request.
 fn first_answered(
     alloc: Global,
     layout: &Layout,
-    command: &Command,
+    command: &FileCommand,
     answer: &MetaReply,
 ) -> Result<Move, Stopped>
-    requires { IsBuilt command.now }
-    ensures rest { IfOk result (λ move. (sources : List Source) (pieces : List (List ℕ)) → rest_after layout.now (bytes_put command.now) sources pieces move ≡ on_first layout.now command.now answer.now) }
-    ensures at { IfOk result (λ move. (sources : List Source) (pieces : List (List ℕ)) → MovesTo layout.now (bytes_put command.now) sources pieces move) }
+    requires { IsBuiltFile command.now }
+    ensures rest { IfOk result (λ move. (sources : List Source) (pieces : List (List ℕ)) → rest_after layout.now (bytes_of_file command.now) sources pieces move ≡ on_first_file layout.now command.now answer.now) }
+    ensures at { IfOk result (λ move. (sources : List Source) (pieces : List (List ℕ)) → MovesTo layout.now (bytes_of_file command.now) sources pieces move) }
     ensures not_built { IfErr result (λ stopped. stopped ≡ Stopped.NotBuilt → IsUnbuilt layout.now (NodeReply.Meta answer.now)) }
 {
     match command {
-        Command::File(FileCommand::Put(_, recipe)) => Ok(created(layout, hex_of(recipe), answer)),
-        Command::File(FileCommand::Get(..)) => opened(alloc, layout, answer),
+        FileCommand::Put(_, recipe) => Ok(created(layout, hex_of(recipe), answer)),
+        FileCommand::Get(..) => {
+            let step = opened(alloc, layout, answer)?;
+            Ok(step)
+        }
         _ => unreachable!(),
     }
 }
@@ -205,7 +211,10 @@ pub fn first_move(
     ensures not_built { IfErr result (λ stopped. stopped ≡ Stopped.NotBuilt → IsUnbuilt layout.now reply.now) }
 {
     match reply {
-        NodeReply::Meta(answer) => first_meta(alloc, layout, command, answer),
+        NodeReply::Meta(answer) => {
+            let step = first_meta(alloc, layout, command, answer)?;
+            Ok(step)
+        }
         NodeReply::Chunk(_) => Ok(Move::Ends(Reply::Unnamed)),
     }
 }
@@ -230,6 +239,24 @@ fn first_meta(
             right: *right,
             offset: *offset,
         })),
-        _ => first_answered(alloc, layout, command, answer),
+        _ => first_file(alloc, layout, command, answer),
+    }
+}
+
+/// The move of a command at an answer to its first request that doesn't end every command.
+fn first_file(
+    alloc: Global,
+    layout: &Layout,
+    command: &Command,
+    answer: &MetaReply,
+) -> Result<Move, Stopped>
+    requires { IsBuilt command.now }
+    ensures rest { IfOk result (λ move. (sources : List Source) (pieces : List (List ℕ)) → rest_after layout.now (bytes_put command.now) sources pieces move ≡ on_first layout.now command.now answer.now) }
+    ensures at { IfOk result (λ move. (sources : List Source) (pieces : List (List ℕ)) → MovesTo layout.now (bytes_put command.now) sources pieces move) }
+    ensures not_built { IfErr result (λ stopped. stopped ≡ Stopped.NotBuilt → IsUnbuilt layout.now (NodeReply.Meta answer.now)) }
+{
+    match command {
+        Command::File(command) => first_answered(alloc, layout, command, answer),
+        _ => unreachable!(),
     }
 }
