@@ -19,9 +19,9 @@ use Rattle.qfs_device.specs.declared.errors.DeviceError.TheVariants as Error
 use Rattle.qfs_record.specs.Part.{AreBytes}
 use Rattle.qfs_record.specs.ChunkRecord.{IsChunk, chunk_record}
 use Rattle.qfs_model_server.specs.Server.{Server, chunk_attempted, chunk_served, chunk_refusal, room_of, refuse, unless_away, without_room}
-use Rattle.qfs_store.specs.Stands.{Known, Keeps, KeepsCopy, KeepsNone, StandsOn, Serves, IsStep, IsAttempt, IsAway, knowing, forgetting, failure}
-use Rattle.qfs_store.proofs.StandsLaws.{same_key, same_key-is, keeps_along, keeps_one, absent_again, taken_back, torn_is_none}
-use Rattle.qfs_store.proofs.StepLaws.{refused_is_step, attempt_is_step, known_is_there, none_handed}
+use Rattle.qfs_store.specs.Stands.{Known, Lengths, lengths_of, StandsOn, Serves, IsStep, IsAttempt, IsAway, knowing, forgetting, failure}
+use Rattle.qfs_store.proofs.StandsLaws.{same_key, same_key-is, keeps_along, keeps_one, absent_again, absent_key, absent_copy, known_is_there, lengths_with, taken_back, torn_is_none}
+use Rattle.qfs_store.proofs.StepLaws.{refused_is_step, attempt_is_step, none_handed}
 
 -- ---- refusals
 
@@ -70,25 +70,18 @@ is_chunk key bytes file index slot version each size =
 
 -- ---- keys after a Put
 
-absent_key : {X : Type 0} (entries : List (ChunkKey × X)) (key : ChunkKey) → has_key key_cmp entries key ≡ false → value_at key_cmp entries key ≡ None
-absent_key {X = X} entries key apart =
-    elim (value_at key_cmp entries key) as (λ (o : Option X). is_some o ≡ false → o ≡ None) [
-      | None ↦ λ h. refl
-      | Some v ↦ λ h. absurd (true≢false h)
-    ] apart
-
 -- the copy's record under its key
 put_stands : (held : Held) (shelf : Known) (server : Server) (key : ChunkKey) (bytes : List ℕ) → IsChunk key bytes → StandsOn held shelf server →
     StandsOn (holding key (chunk_record key bytes) held) (knowing key (length bytes) shelf) (record server { copies = with_entry key_cmp server.copies key bytes })
 put_stands held shelf server key bytes fits stands = record {
   up = stands.up;
   life = stands.life;
+  lengths = ap (λ (lengths : Lengths). with_entry key_cmp lengths key (length bytes)) stands.lengths ∙ sym (lengths_with server.copies key bytes);
   keys = λ q.
-      keeps_along q _ _ _ _ _ _
+      keeps_along q _ _ _ _
       (sym (value_at-with_entry key_cmp_total held.contents key (chunk_record key bytes) q))
-      (sym (value_at-with_entry key_cmp_total shelf.lengths key (length bytes) q))
       (sym (value_at-with_entry key_cmp_total server.copies key bytes q))
-      (keeps_one key q (Some (chunk_record key bytes)) _ (Some (length bytes)) _ (Some bytes) _ (same_key q key) (same_key-is q key) (record { fits = fits; record_is = refl; length_is = refl }) (stands.keys q));
+      (keeps_one key q (Some (chunk_record key bytes)) _ (Some bytes) _ (same_key q key) (same_key-is q key) (fits, refl) (stands.keys q));
 }
 
 -- what is left of the copy's record under its key, and no copy there
@@ -100,28 +93,25 @@ same_life_left : (held : Held) (key : ChunkKey) (left : Option (List ℕ)) → (
 same_life_left held key None = refl
 same_life_left held key (Some part) = refl
 
-pub same_count_left : (held : Held) (key : ChunkKey) (left : Option (List ℕ)) → (leaving key left held).handed_out ≡ held.handed_out
+same_count_left : (held : Held) (key : ChunkKey) (left : Option (List ℕ)) → (leaving key left held).handed_out ≡ held.handed_out
 same_count_left held key None = refl
 same_count_left held key (Some part) = refl
 
--- no copy is known where none is there
-absent_copy : (held : Held) (shelf : Known) (server : Server) (key : ChunkKey) → has_key key_cmp shelf.lengths key ≡ false → StandsOn held shelf server → value_at key_cmp server.copies key ≡ None
-absent_copy held shelf server key apart stands = absent_key server.copies key (sym (known_is_there held shelf server key stands) ∙ apart)
-
-forgotten : (shelf : Known) (key q : ChunkKey) (count : ℕ) → has_key key_cmp shelf.lengths key ≡ false → value_at key_cmp (forgetting key (knowing key count shelf)).lengths q ≡ value_at key_cmp shelf.lengths q
-forgotten shelf key q count apart = taken_back shelf.lengths key q count (absent_key shelf.lengths key apart)
+-- the length was known in between
+forgotten : (shelf : Known) (server : Server) (key : ChunkKey) (count : ℕ) → has_key key_cmp shelf.lengths key ≡ false → shelf.lengths ≡ lengths_of server.copies → (forgetting key (knowing key count shelf)).lengths ≡ lengths_of server.copies
+forgotten shelf server key count apart known = taken_back shelf.lengths key count (absent_key shelf.lengths key apart) ∙ known
 
 torn_stands : (held : Held) (shelf : Known) (server : Server) (key : ChunkKey) (bytes : List ℕ) (left : Option (List ℕ)) → length bytes < 2 ^ 32 → has_key key_cmp shelf.lengths key ≡ false → IsTorn (chunk_record key bytes) left → StandsOn held shelf server →
     StandsOn (leaving key left held) (forgetting key (knowing key (length bytes) shelf)) server
 torn_stands held shelf server key bytes left few apart torn stands = record {
   up = stands.up;
   life = same_life_left held key left ∙ stands.life;
+  lengths = forgotten shelf server key (length bytes) apart stands.lengths;
   keys = λ q.
-      keeps_along q _ _ _ _ _ _
+      keeps_along q _ _ _ _
       (sym (left_at held key left q))
-      (absent_again shelf.lengths key q (absent_key shelf.lengths key apart) ∙ sym (forgotten shelf key q (length bytes) apart))
       (absent_again server.copies key q (absent_copy held shelf server key apart stands))
-      (keeps_one key q left _ None _ None _ (same_key q key) (same_key-is q key) (record { no_record = torn_is_none key bytes left few torn; no_length = refl }) (stands.keys q));
+      (keeps_one key q left _ None _ (same_key q key) (same_key-is q key) (torn_is_none key bytes left few torn) (stands.keys q));
 }
 
 -- nothing was written
@@ -129,7 +119,8 @@ back_stands : (held : Held) (shelf : Known) (server : Server) (key : ChunkKey) (
 back_stands held shelf server key count apart stands = record {
   up = stands.up;
   life = stands.life;
-  keys = λ q. keeps_along q _ _ _ _ _ _ refl (sym (forgotten shelf key q count apart)) refl (stands.keys q);
+  lengths = forgotten shelf server key count apart stands.lengths;
+  keys = stands.keys;
 }
 
 -- ---- attempts
@@ -137,7 +128,7 @@ back_stands held shelf server key count apart stands = record {
 pub put_without_memory : (key : ChunkKey) (life : ℕ) (bytes : List ℕ) (told : Option Held) (shelf : Known) → IsAttempt (Ask.Put key life bytes) told shelf (without_room Answer.NoMemory) told shelf
 unfolding chunk_attempted chunk_outcome room_of
 put_without_memory key life bytes told shelf server before told_is stands =
-    (before, told_is, record { reply_is = refl; stands = stands; handed = none_handed before.handed_out server.handed_out })
+    (before, told_is, record { reply_is = refl; stands = stands; handed = none_handed (Ask.Put key life bytes) before.handed_out server.handed_out })
 
 pub put_stored : (key : ChunkKey) (life : ℕ) (bytes : List ℕ) (told told' : Option Held) (shelf : Known) → IsChunk key bytes → told' ≡ option_map (holding key (chunk_record key bytes)) told →
     IsAttempt (Ask.Put key life bytes) told shelf (without_room Answer.Stored) told' (knowing key (length bytes) shelf)
@@ -145,7 +136,7 @@ unfolding chunk_attempted chunk_outcome chunk_served
 put_stored key life bytes told told' shelf fits wrote server before told_is stands = (
   holding key (chunk_record key bytes) before,
   wrote ∙ ap (option_map (holding key (chunk_record key bytes))) told_is,
-  record { reply_is = refl; stands = put_stands before shelf server key bytes fits stands; handed = none_handed before.handed_out server.handed_out },
+  record { reply_is = refl; stands = put_stands before shelf server key bytes fits stands; handed = none_handed (Ask.Put key life bytes) before.handed_out server.handed_out },
 )
 
 pub put_failed : (key : ChunkKey) (life : ℕ) (bytes : List ℕ) (told told' : Option Held) (shelf : Known) (error : DeviceError) → length bytes < 2 ^ 32 → has_key key_cmp shelf.lengths key ≡ false →
@@ -164,5 +155,5 @@ put_failed key life bytes told told' shelf Error.Failed few apart wrote server b
 put_failed key life bytes told told' shelf Error.NoMemory few apart wrote server before told_is stands = (
   before,
   wrote ∙ told_is,
-  record { reply_is = refl; stands = back_stands before shelf server key (length bytes) apart stands; handed = none_handed before.handed_out server.handed_out },
+  record { reply_is = refl; stands = back_stands before shelf server key (length bytes) apart stands; handed = none_handed (Ask.Put key life bytes) before.handed_out server.handed_out },
 )

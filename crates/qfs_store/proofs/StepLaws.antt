@@ -11,9 +11,10 @@ use Rattle.qfs_base.specs.declared.reply.ChunkAnswer.{ChunkAnswer}
 use Rattle.qfs_base.specs.declared.reply.ChunkAnswer.TheVariants as Answer
 use Rattle.qfs_base.specs.declared.reply.ChunkReply.{ChunkReply}
 use Rattle.qfs_base.specs.declared.request.ChunkRequest.{ChunkRequest}
+use Rattle.qfs_base.specs.declared.request.ChunkRequest.TheVariants as Ask
 use Rattle.qfs_device.specs.Held.{Held, chunk_at}
 use Rattle.qfs_model_server.specs.Server.{Server, Answered, server_step, chunk_decided, chunk_attempted, chunk_refusal, room_of, refuse, unless_away, stays}
-use Rattle.qfs_store.specs.Stands.{Known, Keeps, KeepsCopy, KeepsNone, StandsOn, Serves, RoseBy, Follows, IsStep, IsAttempt, IsAway, OnFault, IsQuiet, TakesNoMemory}
+use Rattle.qfs_store.specs.Stands.{Known, StandsOn, Serves, HandsOut, Follows, IsStep, IsAttempt, IsAway, OnFault, IsQuiet, TakesNoMemory}
 
 -- ---- requests that are refused, and the others
 
@@ -26,22 +27,28 @@ unfolding server_step chunk_decided
 let_through request outcome server due = ap (chunk_decided server request outcome) due
 
 -- nothing was handed out
-pub none_handed : (old count : ℕ) → RoseBy (count - count) old old
-none_handed old count = omega arith
+pub none_handed : (request : ChunkRequest) (old count : ℕ) → HandsOut request (count - count) old old
+none_handed (Ask.Put key life bytes) old count = omega arith
+none_handed (Ask.Fetch key life from room) old count = omega arith
+none_handed (Ask.Erase key life) old count = omega arith
+none_handed Ask.Stop old count = omega arith
+none_handed Ask.Start old count = omega arith
+none_handed Ask.Wipe old count = omega arith
+none_handed Ask.Inventory old count = omega arith
 
-pub serves_along : (before after : Held) (shelf : Known) (reply : ChunkReply) (server : Server) (step step' : Answered) → step ≡ step' → Serves before after shelf reply server step → Serves before after shelf reply server step'
-serves_along before after shelf reply server step step' same serves = subst (Serves before after shelf reply server) same serves
+pub serves_along : (request : ChunkRequest) (before after : Held) (shelf : Known) (reply : ChunkReply) (server : Server) (step step' : Answered) → step ≡ step' → Serves request before after shelf reply server step → Serves request before after shelf reply server step'
+serves_along request before after shelf reply server step step' same serves = subst (Serves request before after shelf reply server) same serves
 
 -- a server that stays as it was
-pub unmoved : (before : Held) (shelf : Known) (server : Server) (answer : ChunkAnswer) (room : List ℕ) → StandsOn before shelf server → Serves before before shelf (record { answer = answer; room = room }) server (stays server answer room)
-unmoved before shelf server answer room stands = record { reply_is = refl; stands = stands; handed = none_handed before.handed_out server.handed_out }
+pub unmoved : (request : ChunkRequest) (before : Held) (shelf : Known) (server : Server) (answer : ChunkAnswer) (room : List ℕ) → StandsOn before shelf server → Serves request before before shelf (record { answer = answer; room = room }) server (stays server answer room)
+unmoved request before shelf server answer room stands = record { reply_is = refl; stands = stands; handed = none_handed request before.handed_out server.handed_out }
 
 -- a request that is refused is a step
 pub refused_is_step : (request : ChunkRequest) (told : Option Held) (shelf : Known) (answer : ChunkAnswer) →
     ((server : Server) (held : Held) → told ≡ Some held → StandsOn held shelf server → chunk_refusal server request ≡ Some answer) →
     IsStep request told shelf (record { answer = answer; room = room_of request }) told shelf
 refused_is_step request told shelf answer due server before told_is stands =
-    (before, told_is, serves_along before before shelf _ server _ _ (sym (refused request (chunk_outcome answer) server answer (due server before told_is stands))) (unmoved before shelf server answer (room_of request) stands))
+    (before, told_is, serves_along request before before shelf _ server _ _ (sym (refused request (chunk_outcome answer) server answer (due server before told_is stands))) (unmoved request before shelf server answer (room_of request) stands))
 
 -- where no refusal is due, an attempt is a step
 pub attempt_is_step : (request : ChunkRequest) (told told' : Option Held) (shelf shelf' : Known) (reply : ChunkReply) →
@@ -49,7 +56,7 @@ pub attempt_is_step : (request : ChunkRequest) (told told' : Option Held) (shelf
     IsAttempt request told shelf reply told' shelf' → IsStep request told shelf reply told' shelf'
 attempt_is_step request told told' shelf shelf' reply none attempt server before told_is stands =
     let did = attempt server before told_is stands in
-    (did.0, did.1, serves_along before did.0 shelf' reply server _ _ (sym (let_through request (chunk_outcome reply.answer) server (none server before told_is stands))) did.2)
+    (did.0, did.1, serves_along request before did.0 shelf' reply server _ _ (sym (let_through request (chunk_outcome reply.answer) server (none server before told_is stands))) did.2)
 
 -- ---- a server that is away
 
@@ -87,13 +94,3 @@ quiet_is_no_fault _ fact quiet = tt
 pub quiet_has_memory : (answer : ChunkAnswer) → IsQuiet answer → TakesNoMemory answer
 quiet_has_memory Answer.NoMemory quiet = absurd quiet
 quiet_has_memory _ quiet = tt
-
--- ---- copies and what is known of them
-
-keeps_known : (key : ChunkKey) (under : Option (List ℕ)) (known : Option ℕ) (copy : Option (List ℕ)) → Keeps key under known copy → is_some known ≡ is_some copy
-keeps_known key under known None keeps = ap is_some keeps.no_length
-keeps_known key under known (Some bytes) keeps = ap is_some keeps.length_is
-
--- the copies are those whose lengths are known
-pub known_is_there : (held : Held) (shelf : Known) (server : Server) (key : ChunkKey) → StandsOn held shelf server → has_key key_cmp shelf.lengths key ≡ has_key key_cmp server.copies key
-known_is_there held shelf server key stands = keeps_known key (chunk_at held key) (value_at key_cmp shelf.lengths key) (value_at key_cmp server.copies key) (stands.keys key)

@@ -1,6 +1,6 @@
 -- What a chunk server knows of its copies, when it stands over its device for a server of the definitions, and what
 -- it may ask and answer.
-use Rattle.std.specs.Prelude.{◌≡◌, ℕ, ◌+◌, ◌-◌, ◌<◌, ◌≤◌, min, nat_le, Bool, true, false, List, [], length, take, drop, replicate, Option, Some, None, ⊤}
+use Rattle.std.specs.Prelude.{◌≡◌, ℕ, ◌+◌, ◌-◌, ◌<◌, ◌≤◌, min, nat_le, Bool, true, false, List, [], length, map, take, drop, replicate, Option, Some, None, ⊤}
 use Rattle.std.specs.Option.{ForSome, option_map}
 use Rattle.qfs_base.specs.Key.{key_cmp}
 use Rattle.qfs_base.specs.KeyMap.{value_at, with_entry, without_key}
@@ -16,15 +16,18 @@ use Rattle.qfs_device.specs.Held.{Held, chunk_at, handing}
 use Rattle.qfs_device.specs.declared.errors.DeviceError.{DeviceError}
 use Rattle.qfs_device.specs.declared.errors.DeviceError.TheVariants as Error
 use Rattle.qfs_record.specs.ChunkRecord.{IsChunk, chunk_record}
-use Rattle.qfs_model_server.specs.Server.{Server, Answered, server_step, chunk_attempted, unless_away}
+use Rattle.qfs_model_server.specs.Server.{Server, Copies, Answered, server_step, chunk_attempted, unless_away}
 
 -- ---- what a server knows
 
--- the lengths of the copies, by key
+-- the lengths of copies, by key
 abbrev pub Lengths : Type 0
 Lengths = List (ChunkKey × ℕ)
 
--- whether the server is up, and how long each of its copies is
+abbrev pub lengths_of : Copies → Lengths
+lengths_of copies = map (λ copy. (copy.0, length copy.1)) copies
+
+-- whether a server is up, and how long each of its copies is
 pub record Known : Type 0 where
   pub up : Bool
   pub lengths : Lengths
@@ -48,27 +51,18 @@ reaches end (Some size) = nat_le end size
 
 -- ---- when it stands for a server
 
--- under the key of a copy stands its chunk record, and the copy's length is known
-pub record KeepsCopy (key : ChunkKey) (under : Option (List ℕ)) (known : Option ℕ) (bytes : List ℕ) : Type 0 where
-  pub fits : IsChunk key bytes
-  pub record_is : under ≡ Some (chunk_record key bytes)
-  pub length_is : known ≡ Some (length bytes)
-
--- under the key of no copy stands no whole chunk record that names it, and no length is known
-pub record KeepsNone (key : ChunkKey) (under : Option (List ℕ)) (known : Option ℕ) : Type 0 where
-  pub no_record : (bytes : List ℕ) → under ≡ Some (chunk_record key bytes) → ⊥
-  pub no_length : known ≡ None
-
--- what stands under a key and what is known of it, for the copy of that key or for none
-abbrev pub Keeps : ChunkKey → Option (List ℕ) → Option ℕ → Option (List ℕ) → Type 0
-Keeps key under known None = KeepsNone key under known
-Keeps key under known (Some bytes) = KeepsCopy key under known bytes
+-- under the key of a copy stands that copy's chunk record; under the key of no copy stands no whole chunk record that
+-- names the key
+abbrev pub Keeps : ChunkKey → Option (List ℕ) → Option (List ℕ) → Type 0
+Keeps key under None = (bytes : List ℕ) → under ≡ Some (chunk_record key bytes) → ⊥
+Keeps key under (Some bytes) = IsChunk key bytes × (under ≡ Some (chunk_record key bytes))
 
 -- what a server knows, over a device that holds this, stands for this server
 pub record StandsOn (held : Held) (shelf : Known) (server : Server) : Type 0 where
   pub up : shelf.up ≡ server.up
   pub life : held.life ≡ server.life
-  pub keys : (key : ChunkKey) → Keeps key (chunk_at held key) (value_at key_cmp shelf.lengths key) (value_at key_cmp server.copies key)
+  pub lengths : shelf.lengths ≡ lengths_of server.copies
+  pub keys : (key : ChunkKey) → Keeps key (chunk_at held key) (value_at key_cmp server.copies key)
 
 -- as far as the device tells what it holds, there is a server that this stands for
 abbrev pub IsGrounded : Option Held → Known → Type 0
@@ -80,34 +74,39 @@ IsGrounded told shelf = ForSome told (λ held. (server : Server) × StandsOn hel
 abbrev pub kept : ℕ → ℕ
 kept count = min count last_count
 
--- the count of bytes handed out rose by so many
-abbrev pub RoseBy : ℕ → ℕ → ℕ → Type 0
-RoseBy count old new = kept new ≡ kept (old + count)
+-- a step on this request raised the count of bytes handed out by so many. A start may also have read the headers of
+-- keys of no copy, and one that failed those of some copies, so it hands out at least so many.
+abbrev pub HandsOut : ChunkRequest → ℕ → ℕ → ℕ → Type 0
+HandsOut Ask.Start count old new = kept (old + count) ≤ kept new
+HandsOut _ count old new = kept new ≡ kept (old + count)
 
--- this server stands, over a device that holds this, where a step led, and it gave that step's reply; the device
--- handed out as many bytes as the server did
-pub record Serves (before after : Held) (shelf : Known) (reply : ChunkReply) (server : Server) (step : Answered) : Type 0 where
+-- it stands, over a device that holds this, for the server where a step on this request led, and gave that step's
+-- reply; the device handed out what the server did
+pub record Serves (request : ChunkRequest) (before after : Held) (shelf : Known) (reply : ChunkReply) (server : Server) (step : Answered) : Type 0 where
   pub reply_is : reply ≡ step.reply
   pub stands : StandsOn after shelf step.server
-  pub handed : RoseBy (step.server.handed_out - server.handed_out) before.handed_out after.handed_out
+  pub handed : HandsOut request (step.server.handed_out - server.handed_out) before.handed_out after.handed_out
 
 -- whichever server it stood for, it now stands for that server after this action, and gave that action's reply
-abbrev pub Follows : (Server → Answered) → Option Held → Known → ChunkReply → Option Held → Known → Type 0
-Follows act told shelf reply told' shelf' =
+abbrev pub Follows : ChunkRequest → (Server → Answered) → Option Held → Known → ChunkReply → Option Held → Known → Type 0
+Follows request act told shelf reply told' shelf' =
     (server : Server) (before : Held) → told ≡ Some before → StandsOn before shelf server →
-    (after : Held) × (told' ≡ Some after) × Serves before after shelf' reply server (act server)
+    (after : Held) × (told' ≡ Some after) × Serves request before after shelf' reply server (act server)
 
 -- it took the server's step on this request, with the outcome that its reply shows
 abbrev pub IsStep : ChunkRequest → Option Held → Known → ChunkReply → Option Held → Known → Type 0
-IsStep request told shelf reply told' shelf' = Follows (server_step request (chunk_outcome reply.answer)) told shelf reply told' shelf'
+IsStep request told shelf reply told' shelf' = Follows request (server_step request (chunk_outcome reply.answer)) told shelf reply told' shelf'
 
 -- the same, where the request isn't refused
 abbrev pub IsAttempt : ChunkRequest → Option Held → Known → ChunkReply → Option Held → Known → Type 0
-IsAttempt request told shelf reply told' shelf' = Follows (λ server. chunk_attempted server request (chunk_outcome reply.answer)) told shelf reply told' shelf'
+IsAttempt request told shelf reply told' shelf' = Follows request (λ server. chunk_attempted server request (chunk_outcome reply.answer)) told shelf reply told' shelf'
 
--- a device holds the record of a copy in which so many bytes lie from this offset on
-abbrev pub HoldsRange : Held → ChunkKey → ℕ → ℕ → Type 0
-HoldsRange held key from count = (bytes : List ℕ) × (chunk_at held key ≡ Some (chunk_record key bytes)) × (from + count ≤ length bytes) × (length bytes ≤ 67108864)
+-- a device holds, under this key, the record of bytes that reach from this offset so far
+pub record HoldsRange (held : Held) (key : ChunkKey) (from count : ℕ) : Type 0 where
+  pub bytes : List ℕ
+  pub record_is : chunk_at held key ≡ Some (chunk_record key bytes)
+  pub inside : from + count ≤ length bytes
+  pub size : length bytes ≤ 67108864
 
 -- ---- refusals
 
@@ -144,7 +143,7 @@ OnFault _ fact = ⊤
 abbrev pub IsFill : ChunkKey → ℕ → ℕ → Option Held → Option Held → ChunkAnswer → List ℕ → Type 0
 IsFill key from count told told' Answer.Fetched room =
     (told' ≡ option_map (handing count) told)
-    × ((held : Held) (bytes : List ℕ) → told ≡ Some held → chunk_at held key ≡ Some (chunk_record key bytes) → length bytes ≤ 67108864 → from + count ≤ length bytes → room ≡ take count (drop from bytes))
+    × ((held : Held) → told ≡ Some held → (range : HoldsRange held key from count) → room ≡ take count (drop from range.bytes))
 IsFill key from count told told' Answer.Fault room = (told' ≡ told) × (room ≡ replicate count 0)
 IsFill key from count told told' _ room = ⊥
 
@@ -158,3 +157,10 @@ IsQuiet _ = ⊤
 abbrev pub TakesNoMemory : ChunkAnswer → Type 0
 TakesNoMemory Answer.NoMemory = ⊥
 TakesNoMemory _ = ⊤
+
+-- requests that take no memory aren't answered want of it
+abbrev pub MemoryFor : ChunkRequest → ChunkAnswer → Type 0
+MemoryFor (Ask.Put key life bytes) answer = ⊤
+MemoryFor Ask.Start answer = ⊤
+MemoryFor Ask.Inventory answer = ⊤
+MemoryFor _ answer = TakesNoMemory answer

@@ -4,13 +4,16 @@ ghost use Rattle.std.specs.Option.{ForSome};
 ghost use Rattle.qfs_base.specs.Key.{key_cmp};
 ghost use Rattle.qfs_base.specs.KeyMap.{value_at, has_key};
 ghost use Rattle.qfs_base.specs.declared.request.ChunkRequest.TheVariants as Ask;
+ghost use Rattle.std.specs.Map.{keys_of};
 ghost use Rattle.qfs_device.specs.Fault.{Rose};
+ghost use Rattle.qfs_device.specs.Held.{Held};
 ghost use Rattle.qfs_model_server.specs.Server.{without_room};
 ghost use Rattle.qfs_record.specs.ChunkRecord.{chunk_record};
 ghost use Rattle.qfs_store.specs.Stands.{no_copies, knowing, forgetting, reaches, HoldsRange, IsFill, IsGrounded, IsStep, IsAttempt, IsAway, failure, OnFault, IsQuiet, TakesNoMemory};
 
 use qfs_base::chunk::ChunkKey;
 use qfs_base::key_map::KeyMap;
+use qfs_base::lists::KeyList;
 use qfs_base::numbers::Life;
 use qfs_base::reply::ChunkAnswer;
 use qfs_device::{ChunkDevice, DeviceError};
@@ -147,6 +150,82 @@ impl Shelf {
         fill(device, key, from, room)
     }
 
+    /// Deletes a copy: Down where the server isn't up, Lost where its life isn't the asked one,
+    /// Absent where it has no such copy, and then Fault where the device fails. It takes no memory.
+    pub fn erase<D: ChunkDevice>(
+        &mut self,
+        device: &mut D,
+        key: ChunkKey,
+        life: Life,
+    ) -> ChunkAnswer
+        ensures step { IsStep (Ask.Erase key life) (D.told device.old) self.old (without_room result) (D.told device.new) self.new }
+        ensures tells { is_some (D.told device.new) ≡ is_some (D.told device.old) }
+        ensures never_falls { D.faults device.old ≤ D.faults device.new }
+        ensures cause { OnFault result (Rose (D.faults device.old) (D.faults device.new)) }
+        ensures memory { TakesNoMemory result }
+    {
+        if let Some(refusal) = self.away(device, life) {
+            return refusal;
+        }
+        if !self.lengths.contains(&key) {
+            return ChunkAnswer::Absent;
+        }
+        match device.remove(key) {
+            Ok(()) => {
+                self.forget(&key);
+                ChunkAnswer::Erased
+            }
+            Err(_) => ChunkAnswer::Fault,
+        }
+    }
+
+    /// Takes the server down. Its copies stay.
+    pub fn stop(&mut self) -> ChunkAnswer
+        ensures step { (told : Option Held) → IsStep Ask.Stop told self.old (without_room result) told self.new }
+        ensures quiet { IsQuiet result }
+    {
+        self.up = false;
+        ChunkAnswer::Stopped
+    }
+
+    /// Empties the server, up or not, and begins its next life, or Fault where the device fails.
+    /// It takes no memory.
+    pub fn wipe<D: ChunkDevice>(&mut self, device: &mut D) -> ChunkAnswer
+        ensures step { IsStep Ask.Wipe (D.told device.old) self.old (without_room result) (D.told device.new) self.new }
+        ensures tells { is_some (D.told device.new) ≡ is_some (D.told device.old) }
+        ensures never_falls { D.faults device.old ≤ D.faults device.new }
+        ensures cause { OnFault result (Rose (D.faults device.old) (D.faults device.new)) }
+        ensures memory { TakesNoMemory result }
+    {
+        match device.wipe() {
+            Ok(()) => {
+                self.lengths.clear();
+                ChunkAnswer::Wiped {
+                    life: device.life(),
+                }
+            }
+            Err(_) => ChunkAnswer::Fault,
+        }
+    }
+
+    /// Lists the copies, rising by key: Down where the server isn't up, and NoMemory where the
+    /// list doesn't fit.
+    pub fn inventory<D: ChunkDevice>(&self, device: &D) -> ChunkAnswer
+        ensures step { IsStep Ask.Inventory (D.told device.now) self.now (without_room result) (D.told device.now) self.now }
+        ensures cause { OnFault result ⊥ }
+    {
+        if !self.up {
+            return ChunkAnswer::Down;
+        }
+        match keys_in(self.alloc, &self.lengths) {
+            Ok(keys) => ChunkAnswer::Inventory {
+                life: device.life(),
+                keys,
+            },
+            Err(_) => ChunkAnswer::NoMemory,
+        }
+    }
+
     /// Whether so many bytes from `from` on lie in a copy that is there.
     fn has_range(&self, key: &ChunkKey, from: u32, count: usize) -> bool
         ensures { result ≡ reaches (from + count) (value_at key_cmp self.now.lengths key.now) }
@@ -185,6 +264,17 @@ fn failed(error: DeviceError) -> ChunkAnswer
         DeviceError::Failed => ChunkAnswer::Fault,
         DeviceError::NoMemory => ChunkAnswer::NoMemory,
     }
+}
+
+/// The keys of the copies, rising.
+fn keys_in(alloc: Global, lengths: &KeyMap<ChunkKey, u32>) -> Result<KeyList, AllocError>
+    ensures { IfOk result (λ keys. keys ≡ keys_of lengths.now) }
+{
+    let mut keys = KeyList::with_capacity(alloc, lengths.len())?;
+    for (key, _) in lengths.iter() {
+        keys.push(*key)?;
+    }
+    Ok(keys)
 }
 
 /// Reads the bytes of a copy from `from` on into the room. After a failure the room is zeros.
