@@ -1,2 +1,3 @@
 pub mod Scripts
-pub mod Rows
+pub mod Prints
+pub mod PlainPaths
