@@ -1,6 +1,10 @@
 //! Worked runs: the definitions give exactly what was worked out by hand. Each run is a script with
-//! an order of steps, and a function without a body whose contract says that the order fits the
+//! an order of steps, and a function that does nothing, whose contract says that the order fits the
 //! script and is whole, and what the run prints.
 #![tactic(auto)]
 
+mod failures;
 mod plain_paths;
+mod refusals;
+mod repairs;
+mod restarts;
