@@ -5,3 +5,4 @@ pub mod Failures
 pub mod Repairs
 pub mod Refusals
 pub mod Restarts
+pub mod Audits

@@ -3,6 +3,7 @@
 //! script and is whole, and what the run prints.
 #![tactic(auto)]
 
+mod audits;
 mod failures;
 mod plain_paths;
 mod refusals;
