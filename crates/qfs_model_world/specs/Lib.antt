@@ -6,3 +6,9 @@ pub mod Events
 pub mod Made
 pub mod Audit
 pub mod Text
+pub mod Drawn
+pub mod Held
+pub mod Agrees
+pub mod Deletion
+pub mod Heard
+pub mod SoundWorld
