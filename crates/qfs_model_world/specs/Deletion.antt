@@ -1,7 +1,8 @@
 -- Deletions, and the chunks that they must not name.
-use Rattle.std.specs.Prelude.{ℕ, Option, Some, None}
+use Rattle.std.specs.Prelude.{◌≡◌, ◌≢◌, ℕ, ◌≤◌, List, length, take, slice_get, Option, Some, None}
 use Rattle.qfs_base.specs.declared.chunk.ChunkKey.{ChunkKey}
 use Rattle.qfs_base.specs.declared.chunk.Copy.{Copy}
+use Rattle.qfs_base.specs.declared.history.Step.{Step}
 use Rattle.qfs_base.specs.declared.reply.ChunkAnswer.{ChunkAnswer}
 use Rattle.qfs_base.specs.declared.reply.ChunkAnswer.TheVariants as Did
 use Rattle.qfs_base.specs.declared.reply.Condemned.{Condemned}
@@ -13,10 +14,11 @@ use Rattle.qfs_base.specs.declared.request.ChunkRequest.{ChunkRequest}
 use Rattle.qfs_base.specs.declared.request.ChunkRequest.TheVariants as Serve
 use Rattle.qfs_base.specs.declared.request.NodeRequest.{NodeRequest}
 use Rattle.qfs_base.specs.declared.request.NodeRequest.TheVariants as To
+use Rattle.qfs_base.specs.declared.script.Script.{Script}
 use Rattle.qfs_model_meta.specs.Past.{SlotCopy}
 use Rattle.qfs_model_meta.specs.Slots.{slot_at}
-use Rattle.qfs_model_world.specs.Events.{Event}
-use Rattle.qfs_model_world.specs.World.{World}
+use Rattle.qfs_model_world.specs.Events.{Event, events}
+use Rattle.qfs_model_world.specs.World.{World, after}
 
 -- the copy that the metaserver orders deleted
 unfoldable pub ordered_copy : MetaReply → Option SlotCopy
@@ -52,3 +54,12 @@ deleted_in event = deleted_by event.request event.reply
 -- the current copy of a slot in a world
 unfoldable pub current_of : World → SlotCopy → Option Copy
 current_of world of_slot = (slot_at world.meta.slots of_slot.block of_slot.slot).current
+
+-- no deletion names the current copy of its slot, at that step or at any later one
+abbrev pub NoDeletion : Script → List Step → Type 0
+NoDeletion script order =
+    (i n : ℕ) (event : Event) (c : SlotCopy)
+    → slice_get (events script order) i ≡ Some event
+    → deleted_in event ≡ Some c
+    → i ≤ n → n ≤ length order
+    → current_of (after script (take n order)) c ≢ Some c.copy

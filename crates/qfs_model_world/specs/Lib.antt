@@ -12,3 +12,7 @@ pub mod Agrees
 pub mod Deletion
 pub mod Heard
 pub mod SoundWorld
+pub mod Reports
+pub mod EveryGet
+pub mod Replayed
+pub mod Headline
