@@ -3,13 +3,21 @@
 #![tactic(auto)]
 
 pub mod chunk;
+pub mod command;
+pub mod history;
+pub mod image;
 pub mod key_map;
 pub mod layout;
 pub mod listing;
 mod listing_compared;
-#[cfg(test)]
-mod listing_tests;
+pub mod lists;
+pub mod mask;
 pub mod numbers;
 pub mod path;
 pub mod recipe;
+pub mod reply;
+pub mod request;
+pub mod script;
 pub mod server_set;
+#[cfg(test)]
+mod tests;

@@ -1,7 +1,8 @@
-//! Lists and maps at the types that messages and records have.
+//! Lists, maps and sets at the types that messages and records have.
 use crate::chunk::{BlockId, ChunkKey};
 use crate::key_map::KeyMap;
 use crate::listing::Listing;
+use crate::server_set::ServerSet;
 use std::alloc::{AllocError, Global};
 use std::test::Fail;
 
@@ -67,5 +68,28 @@ fn a_map_goes_by_key(rt: HostRuntime) -> Result<(), Fail> {
     assert_eq!(rt; sizes.as_slice(), [3, 4].as_slice());
     assert!(rt; map.remove(&low).is_some());
     assert!(rt; !map.contains(&low));
+    Ok(())
+}
+
+#[derive(Clone, Copy, PartialEq, Eq)]
+struct Barred {
+    slot: u8,
+    servers: ServerSet,
+}
+
+#[test]
+fn a_set_goes_by_number(rt: HostRuntime) -> Result<(), Fail> {
+    let mut servers = ServerSet::none();
+    servers.insert(64);
+    servers.insert(3);
+    servers.insert(64);
+    let barred = Barred { slot: 1, servers };
+    assert!(rt; barred == Barred { slot: 1, servers });
+    assert!(rt; barred.servers.contains(64) && !barred.servers.contains(4));
+    let mut numbers = Listing::new(rt.alloc());
+    for server in barred.servers.iter() {
+        numbers.push(server)?;
+    }
+    assert_eq!(rt; numbers.as_slice(), [3, 64].as_slice());
     Ok(())
 }

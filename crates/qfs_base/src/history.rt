@@ -1,0 +1,52 @@
+//! The file history and the order of steps.
+
+use crate::listing::Listing;
+use crate::lists::{Bytes, Names};
+use crate::numbers::{ActorId, FileId};
+use crate::path::Path;
+use crate::reply::TreeRefusal;
+
+/// One change of the name tree.
+#[derive(Clone, PartialEq, Eq, Drop)]
+pub enum Entry {
+    Mkdir(Path),
+    Rmdir(Path),
+    Created(FileId, Path),
+    /// The file was closed by this command of this actor.
+    Closed(FileId, ActorId, u16),
+    Aborted(FileId),
+    Removed(Path),
+    Renamed(Path, Path),
+}
+
+/// The changes of the name tree, in order.
+pub type History = Listing<Entry>;
+
+/// What a file command answers at a place of the history.
+#[derive(PartialEq, Eq, Drop)]
+pub enum FileReply {
+    Refused(TreeRefusal),
+    Done,
+    Names(Names),
+    Read(Bytes),
+    Accepted,
+}
+
+/// How a step ended at its node.
+#[derive(Clone, Copy, PartialEq, Eq)]
+pub enum Outcome {
+    Done,
+    /// A device or disk of the node failed.
+    Failed,
+    NoMemory,
+}
+
+/// One step: who took it and how it ended.
+#[derive(Clone, Copy, PartialEq, Eq)]
+pub struct Step {
+    pub actor: ActorId,
+    pub outcome: Outcome,
+}
+
+/// The one order in which all steps were taken.
+pub type Order = Listing<Step>;

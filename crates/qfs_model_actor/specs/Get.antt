@@ -1,0 +1,75 @@
+-- A get: OpenFile; the Fetches of its range; Release. The lease is released where the command ends early.
+use Rattle.std.specs.Prelude.{ℕ, ◌+◌, ◌==◌, ◌&&◌, Bool, true, false, List, [], ◌∷◌, min, length, Option, Some, None, slice_get, unwrap_or, nat_le, nat_lt}
+use Rattle.qfs_base.specs.Layout.{blocks_of}
+use Rattle.qfs_base.specs.Shape.{Shape}
+use Rattle.qfs_base.specs.declared.chunk.Copy.{Copy}
+use Rattle.qfs_base.specs.declared.command.Range.{Range}
+use Rattle.qfs_base.specs.declared.command.Reply.TheVariants as Report
+use Rattle.qfs_base.specs.declared.reply.MetaReply.{MetaReply}
+use Rattle.qfs_base.specs.declared.reply.MetaReply.TheVariants as Said
+use Rattle.qfs_base.specs.declared.reply.Opened.{Opened}
+use Rattle.qfs_base.specs.declared.request.MetaRequest.TheVariants as Ask
+use Rattle.qfs_model_actor.specs.Work.{Work}
+use Rattle.qfs_model_actor.specs.Hold.{nothing, opened, unnamed, end_with}
+use Rattle.qfs_model_actor.specs.Ask.{ask}
+use Rattle.qfs_model_actor.specs.Tree.{refused}
+use Rattle.qfs_model_actor.specs.Pieces.{data_of, rows_of_file}
+use Rattle.qfs_model_actor.specs.Windows.{blocks_touched, windows_touched, window_offset, cut_to_range}
+use Rattle.qfs_model_actor.specs.Read.{Reading, read_block}
+
+-- the greatest length of a file
+abbrev pub MOST_BYTES : ℕ
+MOST_BYTES = 268435456
+
+-- what a get reads of block k, for the bytes from `from` up to `to` of its file
+unfoldable pub reading_of : Shape → Opened → ℕ → ℕ → ℕ → Reading
+reading_of layout o from to k =
+    record {
+      hold = opened o.lease;
+      block = record { file = o.file; index = k };
+      stripe = layout.s;
+      kept = λ w pieces. cut_to_range from to (window_offset layout w) (rows_of_file layout.s w.rows (data_of pieces));
+      too_few = λ causes. end_with (opened o.lease) (Report.ReadTooFew o.place k causes);
+    }
+
+-- the listed copies of block k
+abbrev pub listed_in : Opened → ℕ → List (Option Copy)
+listed_in o k = unwrap_or (slice_get o.blocks k) []
+
+-- reads these blocks behind the bytes that it has got
+unfoldable pub read_blocks : Shape → Opened → ℕ → ℕ → List ℕ → List ℕ → Work
+read_blocks layout o from to [] got = end_with (opened o.lease) (Report.Read o.place got)
+read_blocks layout o from to (k ∷ ks) got =
+    read_block (reading_of layout o from to k) (windows_touched layout from to k) (listed_in o k) got
+    (λ more. read_blocks layout o from to ks more)
+
+-- reads the bytes from `from` up to `to`, of which there is one where the flag says so
+unfoldable pub read_if_any : Shape → Opened → ℕ → ℕ → Bool → Work
+read_if_any layout o from to true = read_blocks layout o from to (blocks_touched layout from to) []
+read_if_any layout o from to false = end_with (opened o.lease) (Report.Read o.place [])
+
+-- reads a range, cut at the file's end
+unfoldable pub read_range : Shape → Opened → Range → Work
+read_range layout o range =
+    let to = min (range.from + range.count) o.len in read_if_any layout o range.from to (nat_lt range.from to)
+
+-- a file's length is in its range, and each of its blocks has its list
+unfoldable pub is_whole : Shape → Opened → Bool
+is_whole layout o = nat_le o.len MOST_BYTES && length o.blocks == blocks_of layout.s layout.r o.len
+
+unfoldable pub read_if_whole : Shape → Range → Opened → Bool → Work
+read_if_whole layout range o true = read_range layout o range
+read_if_whole layout range o false = unnamed
+
+-- the file is open
+unfoldable pub was_opened : Shape → Range → MetaReply → Work
+was_opened layout range (Said.Opened o) = read_if_whole layout range o (is_whole layout o)
+was_opened layout range answer = refused answer
+
+-- without a range the whole file is wanted
+unfoldable pub range_of : Option Range → Range
+range_of (Some range) = range
+range_of None = record { from = 0; count = MOST_BYTES }
+
+unfoldable pub get_work : Shape → List (List ℕ) → Option Range → Work
+get_work layout path range = ask nothing (Ask.OpenFile path) (was_opened layout (range_of range))

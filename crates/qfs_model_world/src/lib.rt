@@ -1,0 +1,2 @@
+//! The world of a script as definitions: chunk servers, steps, orders, and what a run prints.
+#![tactic(auto)]
