@@ -1,0 +1,4 @@
+pub mod Forms
+pub mod Rest
+pub mod Moves
+pub mod Standing
