@@ -13,4 +13,4 @@ block_cmp a b = ordering_then (nat_cmp a.file b.file) (nat_cmp a.index b.index)
 abbrev pub key_cmp : ChunkKey → ChunkKey → Ordering
 key_cmp a b =
     ordering_then (block_cmp a.block b.block)
-        (ordering_then (nat_cmp a.slot b.slot) (nat_cmp a.version b.version))
+    (ordering_then (nat_cmp a.slot b.slot) (nat_cmp a.version b.version))

@@ -1,6 +1,11 @@
+pub mod FileReplies
+pub mod Files
 pub mod Key
+pub mod KeyLaws
 pub mod KeyMap
+pub mod KeyMapLaws
 pub mod Layout
+pub mod Mask
 pub mod NameTree
 pub mod NumberSet
 pub mod NumberSetLaws

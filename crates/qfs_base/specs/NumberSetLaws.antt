@@ -1,13 +1,15 @@
 -- What a set that is told by the bits of a number has, and how a bit that is set changes it.
-use Rattle.std.proofs.Common.{◌≡◌, ◌≢◌, ◌⊎◌, inl, inr, ⊎_elim, ℕ, zero, suc, ◌+◌, ◌-◌, ◌*◌, ◌/◌, ◌%◌, ◌^◌, ◌<◌, ◌≤◌, Bool, true, false, List, [], ◌∷◌, nat_eq, refl, sym, ap, ◌∙◌, subst, arith, rules}
+use Rattle.std.proofs.Common.{◌≡◌, ◌≢◌, ◌⊎◌, inl, inr, ⊎_elim, ℕ, zero, suc, ◌+◌, ◌-◌, ◌*◌, ◌/◌, ◌%◌, ◌^◌, ◌<◌, ◌≤◌, Bool, true, false, List, [], ◌∷◌, nat_eq, refl, sym, ap, ◌∙◌, subst, arith}
 use Rattle.std.proofs.lemmas.Grind.{common_steps}
-use Rattle.std.proofs.lemmas.Nat.{mod-pow-add}
-use Rattle.std.proofs.lemmas.Nat.Bits.{bit_at-lt, bit_at-zero, shr_and_one, bit_at_set_same, bit_at_set_other}
+use Rattle.std.proofs.lemmas.Bool.{cases_lt, eqb-true, eq-eqb}
+use Rattle.std.specs.Cmp.Lexicographic.{pointwise, bytes_decides}
+use Rattle.std.proofs.lemmas.Nat.{mod-pow-add, and_le_l}
+use Rattle.std.proofs.lemmas.Nat.Bits.{bit_at-lt, bit_at-zero, shr_and_one, bit_at_set_same, bit_at_set_other, bit_at_clear_same, bit_at_clear_other, bit_at-trailing_zeros, bit_at_above}
 use Rattle.std.proofs.lemmas.List.Sums.{sum_by-cons}
 use Rattle.std.specs.List.{sum_by}
 use Rattle.std.proofs.Common.{zero-add}
 use Rattle.std.proofs.Math.Nat.{eq-or-lt_of_le, mod-eq_of_lt}
-use Rattle.std.specs.Int.{bit_at, Width}
+use Rattle.std.specs.Int.{bit_at, Width, bit_not, trailing_zeros}
 use mir.Val.{bits}
 use Rattle.std.specs.Prelude.{bit_and, bit_or}
 use Rattle.std.specs.Prelude.{◌||◌, ◌&&◌}
@@ -53,13 +55,13 @@ has-numbers_in test first (suc count) n low high =
     let rest : List ℕ = numbers_in test (first + 1) count in
     has-keep_if (test first) first rest n
     ∙ ⊎_elim
-        (λ here. subst (λ m. ((test first && nat_eq first m) || has rest m) ≡ test m) here
-          (ap (λ t. (test first && t) || has rest first) (same_number first)
-          ∙ only_here (test first) _ (has-numbers_in_above test (first + 1) count first (omega arith))))
-        (λ later. ap (λ t. (test first && t) || has rest n) (below first n later)
-          ∙ neither (test first) _
-          ∙ has-numbers_in test (first + 1) count n (omega arith) (omega arith))
-        (eq-or-lt_of_le low)
+    (λ here. subst (λ m. ((test first && nat_eq first m) || has rest m) ≡ test m) here
+    (ap (λ t. (test first && t) || has rest first) (same_number first)
+    ∙ only_here (test first) _ (has-numbers_in_above test (first + 1) count first (omega arith))))
+    (λ later. ap (λ t. (test first && t) || has rest n) (below first n later)
+    ∙ neither (test first) _
+    ∙ has-numbers_in test (first + 1) count n (omega arith) (omega arith))
+    (eq-or-lt_of_le low)
 
 pub has-numbers_in_below : (test : ℕ → Bool) (first count n : ℕ) → first + count ≤ n → has (numbers_in test first count) n ≡ false
 has-numbers_in_below test first zero n high = refl
@@ -111,16 +113,16 @@ numbers_in-with_member test wider first zero n low high at others = absurd (omeg
 numbers_in-with_member test wider first (suc count) n low high at others =
     let rest : List ℕ = numbers_in test (first + 1) count in
     ⊎_elim
-      (λ here.
-        ap (λ b. keep_if b first (numbers_in wider (first + 1) count)) (ap wider here ∙ at)
-        ∙ ap (λ r. first ∷ r) (same_numbers wider test (first + 1) count (λ m from. others m (omega arith) (omega arith)))
-        ∙ with_member-at (test first) first rest (with_member-before test (first + 1) count first (omega arith))
-        ∙ ap (with_member (keep_if (test first) first rest)) here)
-      (λ later.
-        ap (λ b. keep_if b first (numbers_in wider (first + 1) count)) (others first (omega arith) (omega arith))
-        ∙ ap (keep_if (test first) first) (numbers_in-with_member test wider (first + 1) count n (omega arith) (omega arith) at (λ m from apart. others m (omega arith) apart))
-        ∙ with_member-later (test first) first n rest later)
-      (eq-or-lt_of_le low)
+    (λ here.
+    ap (λ b. keep_if b first (numbers_in wider (first + 1) count)) (ap wider here ∙ at)
+    ∙ ap (λ r. first ∷ r) (same_numbers wider test (first + 1) count (λ m from. others m (omega arith) (omega arith)))
+    ∙ with_member-at (test first) first rest (with_member-before test (first + 1) count first (omega arith))
+    ∙ ap (with_member (keep_if (test first) first rest)) here)
+    (λ later.
+    ap (λ b. keep_if b first (numbers_in wider (first + 1) count)) (others first (omega arith) (omega arith))
+    ∙ ap (keep_if (test first) first) (numbers_in-with_member test wider (first + 1) count n (omega arith) (omega arith) at (λ m from apart. others m (omega arith) apart))
+    ∙ with_member-later (test first) first n rest later)
+    (eq-or-lt_of_le low)
 
 -- ---- the bits of the members
 
@@ -134,11 +136,11 @@ unfolding bits_of_members
 sum-keep_if first k digit rest small =
     let place : first + k - first ≡ k = omega arith in
     ⊎_elim
-      (λ one. subst (λ d. sum_by (λ n. 2 ^ (n - first)) (keep_if (nat_eq d 1) (first + k) rest) ≡ d * 2 ^ k + sum_by (λ n. 2 ^ (n - first)) rest) (sym one)
-        (sum_by-cons _ (first + k) rest ∙ rw place (omega arith)))
-      (λ none. subst (λ d. sum_by (λ n. 2 ^ (n - first)) (keep_if (nat_eq d 1) (first + k) rest) ≡ d * 2 ^ k + sum_by (λ n. 2 ^ (n - first)) rest) (sym none)
-        (omega arith))
-      (one_or_none digit small)
+    (λ one. subst (λ d. sum_by (λ n. 2 ^ (n - first)) (keep_if (nat_eq d 1) (first + k) rest) ≡ d * 2 ^ k + sum_by (λ n. 2 ^ (n - first)) rest) (sym one)
+    (sum_by-cons _ (first + k) rest ∙ rw place (omega arith)))
+    (λ none. subst (λ d. sum_by (λ n. 2 ^ (n - first)) (keep_if (nat_eq d 1) (first + k) rest) ≡ d * 2 ^ k + sum_by (λ n. 2 ^ (n - first)) rest) (sym none)
+    (omega arith))
+    (one_or_none digit small)
 
 joined : (a b c d e : ℕ) → d ≡ a + c → b + d ≡ e → a + b + c ≡ e
 joined a b c d e h i = omega arith
@@ -208,5 +210,74 @@ pub members_of_bits-set : (w : Width) (first count place n : ℕ) → first ≤ 
 unfolding members_of_bits
 members_of_bits-set w first count place n low high within =
     numbers_in-with_member (is_bit_of first place) (is_bit_of first (bit_or place (1 * 2 ^ (n - first) % 2 ^ bits w))) first count n low high
-      (ap (λ d. nat_eq d 1) (bit_at_set_same w place (n - first) within))
-      (λ m from apart. ap (λ d. nat_eq d 1) (bit_at_set_other w place (n - first) within (m - first) (λ e. apart (omega arith))))
+    (ap (λ d. nat_eq d 1) (bit_at_set_same w place (n - first) within))
+    (λ m from apart. ap (λ d. nat_eq d 1) (bit_at_set_other w place (n - first) within (m - first) (λ e. apart (omega arith))))
+
+-- ---- the least member
+
+-- where n is the first to pass a test, and another test passes those behind it
+numbers_in-least : (test others : ℕ → Bool) (first count n : ℕ) → first ≤ n → n < first + count → test n ≡ true → others n ≡ false
+    → ((m : ℕ) → first ≤ m → m < n → test m ≡ false) → ((m : ℕ) → first ≤ m → m ≢ n → others m ≡ test m)
+    → numbers_in test first count ≡ n ∷ numbers_in others first count
+numbers_in-least test others first zero n low high at gone before same = absurd (omega arith)
+numbers_in-least test others first (suc count) n low high at gone before same =
+    let tests : List ℕ = numbers_in test (first + 1) count in
+    let rest : List ℕ = numbers_in others (first + 1) count in
+    ⊎_elim
+    (λ here.
+    ap (λ b. keep_if b first tests) (ap test here ∙ at)
+    ∙ ap (λ ns. first ∷ ns) (same_numbers test others (first + 1) count (λ m from. sym (same m (omega arith) (omega arith))))
+    ∙ ap (λ b. first ∷ keep_if b first rest) (sym (ap others here ∙ gone))
+    ∙ ap (λ m. m ∷ keep_if (others first) first rest) here)
+    (λ later.
+    ap (λ b. keep_if b first tests) (before first (omega arith) later)
+    ∙ numbers_in-least test others (first + 1) count n (omega arith) (omega arith) at gone (λ m from to. before m (omega arith) to) (λ m from apart. same m (omega arith) apart)
+    ∙ ap (λ b. n ∷ keep_if b first rest) (sym (same first (omega arith) (omega arith) ∙ before first (omega arith) later)))
+    (eq-or-lt_of_le low)
+
+-- every bit but the one that is cleared stays, also past the word's end
+others : (w : Width) (word place : ℕ) → place < bits w → word < 2 ^ bits w → (i : ℕ) → i ≢ place → bit_at (bit_and word (bit_not w (1 * 2 ^ place % 2 ^ bits w))) i ≡ bit_at word i
+others w word place within fits i apart =
+    ⊎_elim
+    (λ inside. bit_at_clear_other w word place within i inside apart)
+    (λ past.
+    let cleared : bit_and word (bit_not w (1 * 2 ^ place % 2 ^ bits w)) ≤ word = and_le_l _ _ in
+    let small : bit_and word (bit_not w (1 * 2 ^ place % 2 ^ bits w)) < 2 ^ bits w = omega arith in
+    bit_at_above _ (bits w) i small past ∙ sym (bit_at_above word (bits w) i fits past))
+    (cases_lt i (bits w))
+
+-- the lowest bit that is set, and the others
+pub members_of_bits-least : (w : Width) (first word : ℕ) → 0 < word → word < 2 ^ bits w
+    → members_of_bits first (bits w) word ≡ (trailing_zeros w word + first) ∷ members_of_bits first (bits w) (bit_and word (bit_not w (1 * 2 ^ trailing_zeros w word % 2 ^ bits w)))
+unfolding members_of_bits
+members_of_bits-least w first word some fits =
+    let place : ℕ = trailing_zeros w word in
+    let lowest : (place < bits w) × (bit_at word place ≡ 1) × ((i : ℕ) → i < place → bit_at word i ≡ 0) = bit_at-trailing_zeros w word some fits in
+    let within : place < bits w = lowest.0 in
+    let here : place + first - first ≡ place = omega arith in
+    numbers_in-least (is_bit_of first word) (is_bit_of first (bit_and word (bit_not w (1 * 2 ^ place % 2 ^ bits w)))) first (bits w) (place + first) (omega arith) (omega arith)
+    (ap (λ i. nat_eq (bit_at word i) 1) here ∙ ap (λ d. nat_eq d 1) lowest.1)
+    (ap (λ i. nat_eq (bit_at (bit_and word (bit_not w (1 * 2 ^ place % 2 ^ bits w))) i) 1) here ∙ ap (λ d. nat_eq d 1) (bit_at_clear_same w word place within))
+    (λ m from to. ap (λ d. nat_eq d 1) (lowest.2 (m - first) (omega arith)))
+    (λ m from apart. ap (λ d. nat_eq d 1) (others w word place within fits (m - first) (λ e. apart (omega arith))))
+
+-- ---- two words
+
+same_answer : (a b : Bool) → (a ≡ true → b ≡ true) → (b ≡ true → a ≡ true) → a ≡ b
+same_answer true b to from = sym (to refl)
+same_answer false true to from = from refl
+same_answer false false to from = refl
+
+-- words that fit tell the same members exactly where they are equal
+pub pointwise-members_of_bits : (first count word other : ℕ) → word < 2 ^ count → other < 2 ^ count
+    → nat_eq word other ≡ pointwise nat_eq (members_of_bits first count word) (members_of_bits first count other)
+pointwise-members_of_bits first count word other fits other_fits =
+    let lists : (pointwise nat_eq (members_of_bits first count word) (members_of_bits first count other) ≡ true → members_of_bits first count word ≡ members_of_bits first count other)
+    × (members_of_bits first count word ≡ members_of_bits first count other → pointwise nat_eq (members_of_bits first count word) (members_of_bits first count other) ≡ true)
+    = bytes_decides (members_of_bits first count word) (members_of_bits first count other) in
+    same_answer _ _
+    (λ same. lists.1 (ap (members_of_bits first count) (eqb-true word other same)))
+    (λ same. eq-eqb word other
+    (sym (bits_of_members-members_of_bits first count word fits)
+    ∙ ap (bits_of_members first) (lists.0 same)
+    ∙ bits_of_members-members_of_bits first count other other_fits))

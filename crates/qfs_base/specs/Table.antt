@@ -1,11 +1,10 @@
 -- Tables: lists of rows in the order of their keys, read and changed by tests and comparisons. They
 -- compute on literals. A row is found by std's `find`, tested by `list_any` and `list_all`, and
 -- counted by `count_by`.
-use Rattle.std.specs.Prelude.{ℕ, Bool, true, false, not, List, [], ◌∷◌, fold, filter, find, unwrap_or, Option, None}
+use Rattle.std.specs.Prelude.{⊤, ◌≡◌, Bool, true, false, not, List, [], ◌∷◌, fold, filter, find, unwrap_or, Option, None}
 use Rattle.std.specs.Option.{option_or}
 use Rattle.std.specs.declared.cmp.Ordering.{Ordering}
 use Rattle.std.specs.declared.cmp.Ordering.TheVariants.{Less, Equal, Greater}
-use Rattle.std.specs.Ordering.{nat_cmp, ordering_then}
 
 -- what stands first of those that pass the test, or else the default
 abbrev pub look : {X : Type 0} → X → (X → Bool) → List X → X
@@ -41,11 +40,17 @@ place order new (row ∷ rows) = place_before new row rows (place order new rows
 abbrev pub place_all : {X : Type 0} → (X → X → Ordering) → List X → List X → List X
 place_all order new rows = fold (λ table row. place order row table) rows new
 
--- two keys of two parts each: the first part decides, and where it ties the second
-abbrev pub pair_cmp : ℕ → ℕ → ℕ → ℕ → Ordering
-pair_cmp a b c d = ordering_then (nat_cmp a c) (nat_cmp b d)
-
 -- the first answer that is one, of the items in order
 abbrev pub first_of : {X Y : Type 0} → (X → Option Y) → List X → Option Y
 first_of answer [] = None
 first_of answer (x ∷ xs) = option_or (answer x) (first_of answer xs)
+
+-- P holds of each row
+abbrev pub Each : {X : Type 0} → (X → Type 0) → List X → Type 0
+Each P [] = ⊤
+Each P (row ∷ rows) = P row × Each P rows
+
+-- each row comes before all later ones: the rows are in order, without repeats
+abbrev pub IsRising : {X : Type 0} → (X → X → Ordering) → List X → Type 0
+IsRising order [] = ⊤
+IsRising order (row ∷ rows) = Each (λ later. order row later ≡ Less) rows × IsRising order rows

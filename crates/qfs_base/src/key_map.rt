@@ -1,5 +1,5 @@
 //! A map by key, which contracts see as the list of its entries in the order of their keys.
-ghost use Rattle.std.specs.Prelude.{◌≡◌, [], length, IsTrue, ◌↔◌, OnOk, OnErr};
+ghost use Rattle.std.specs.Prelude.{◌≡◌, [], length, is_some, IsTrue, ◌↔◌, OnOk, OnErr};
 ghost use Rattle.std.specs.Option.{option_copied};
 ghost use Rattle.std.specs.List.Sorted.{IsStrictlySortedBy};
 ghost use Rattle.std.specs.Map.{keys_of};
@@ -25,6 +25,11 @@ impl<K: Ord, V> Model for KeyMap<K, V> {
     ghost coded = { coded_list (coded× K.code V.code) };
 
     ghost view = { λ it. it.map.entries };
+
+    ghost use Rattle.std.specs.List.Sorted.{IsStrictlySortedBy};
+    ghost use Rattle.std.specs.Map.{keys_of};
+
+    ghost invariant = { λ it. IsStrictlySortedBy K.cmp (keys_of it.map.entries) };
 }
 
 impl<K: Ord, V> KeyMap<K, V> {
@@ -53,7 +58,8 @@ impl<K: Ord, V> KeyMap<K, V> {
 
     /// The value at a key, or None where the key isn't there.
     pub fn get(&self, key: &K) -> Option<&V>
-        ensures { option_copied result ≡ value_at K.cmp self.now key.now }
+        ensures value { option_copied result ≡ value_at K.cmp self.now key.now }
+        ensures variant { is_some result ≡ has_key K.cmp self.now key.now }
     {
         self.map.get(key)
     }

@@ -10,9 +10,8 @@ pub mod key_map;
 pub mod layout;
 pub mod listing;
 mod listing_compared;
-#[cfg(test)]
-mod listing_tests;
 pub mod lists;
+pub mod mask;
 pub mod numbers;
 pub mod path;
 pub mod recipe;
@@ -20,3 +19,5 @@ pub mod reply;
 pub mod request;
 pub mod script;
 pub mod server_set;
+#[cfg(test)]
+mod tests;

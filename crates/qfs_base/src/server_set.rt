@@ -1,5 +1,8 @@
 //! Sets of chunk servers, in one word.
-ghost use Rattle.std.specs.Prelude.{◌≡◌, ◌<◌, ◌≤◌, [], ◌∷◌, MatchOption};
+ghost use Rattle.std.specs.Prelude.{◌≡◌, ◌≤◌, [], ◌∷◌, nat_eq, MatchOption};
+ghost use Rattle.std.specs.Cmp.{partial_equiv_from_equiv};
+ghost use Rattle.std.specs.Cmp.Lexicographic.{pointwise, nat_list_eq_equiv};
+ghost use Rattle.std.specs.Iterator.{YieldsFirst, item_count};
 ghost use Rattle.qfs_base.specs.NumberSet.{has, with_member};
 
 use crate::numbers::ServerId;
@@ -65,5 +68,72 @@ impl ServerSet {
             return false;
         }
         (bits >> (server - 1)) & 1 == 1
+    }
+}
+
+impl PartialEq for ServerSet {
+    ghost eq = { pointwise nat_eq };
+
+    ghost laws = { partial_equiv_from_equiv nat_list_eq_equiv };
+
+    fn eq(&self, other: &Self) -> bool {
+        self.bits == other.bits
+    }
+}
+
+impl Eq for ServerSet {
+    ghost laws = { nat_list_eq_equiv };
+}
+
+impl ServerSet {
+    /// The servers of the set, rising.
+    pub fn iter(&self) -> Servers
+        ensures { result ≡ self.now }
+    {
+        Servers { left: self.bits }
+    }
+}
+
+/// The servers of a set that are still to come, rising.
+#[derive(Drop)]
+pub struct Servers {
+    left: u64,
+}
+
+impl Model for Servers {
+    ghost use Rattle.std.specs.Prelude.{List, ℕ, ◌<◌, ◌^◌};
+    ghost use Rattle.qfs_base.specs.NumberSet.{members_of_bits};
+
+    ghost Value = { List ℕ };
+
+    ghost view = { λ s. members_of_bits 1 64 s.left };
+
+    ghost invariant = { λ s. s.left < 2 ^ 64 };
+}
+
+impl Servers {
+    // Takes the least server off.
+    fn take_least(&mut self) -> Option<ServerId>
+        ensures { MatchOption result ((self.old ≡ []) × (self.new ≡ [])) (λ least. self.old ≡ least ∷ self.new) }
+    {
+        let left = self.left;
+        if left == 0 {
+            return None;
+        }
+        let place = left.trailing_zeros();
+        self.left = left & !(1u64 << place);
+        Some((place + 1) as ServerId)
+    }
+}
+
+impl Iterator for Servers {
+    type Item = ServerId;
+
+    ghost next_gives = { YieldsFirst (λ left. left) };
+
+    ghost remaining = { item_count (λ left. left) };
+
+    fn next(&mut self) -> Option<ServerId> {
+        self.take_least()
     }
 }

@@ -31,6 +31,7 @@ static INVERSES: [u8; 256] = [
 const PERIOD: u32 = 255;
 
 /// The product of `a` and `b`.
+#[inline(always)]
 pub fn mul(a: u8, b: u8) -> u8
     ensures { result ≡ product a b }
 {
@@ -66,24 +67,28 @@ pub fn add_scaled(dst: &mut [u8], src: &[u8], c: u8)
     requires { length dst.old ≡ length src.now }
     ensures { EachIndex dst.new (λ i. slice_index dst.new i ≡ bit_xor (slice_index dst.old i) (product c (slice_index src.now i))) }
 {
-    let products = products_of(c);
-    for i in 0..src.len() {
-        dst[i] ^= products[src[i] as usize];
+    if c == 1 {
+        add(dst, src);
+    } else if c != 0 {
+        // The digits of `c` are the same for each byte, so the compiler takes many bytes at once.
+        for i in 0..src.len() {
+            dst[i] ^= mul(src[i], c);
+        }
     }
 }
 
-/// The products of `c` with the bytes from 0 to 255.
-fn products_of(c: u8) -> [u8; 256]
-    ensures { (b : ℕ) → b < 256 → slice_index result b ≡ product c b }
+/// Adds each byte of `src` to the byte of `dst` at the same place.
+fn add(dst: &mut [u8], src: &[u8])
+    requires { length dst.old ≡ length src.now }
+    ensures { EachIndex dst.new (λ i. slice_index dst.new i ≡ bit_xor (slice_index dst.old i) (slice_index src.now i)) }
 {
-    let mut products = [0; 256];
-    for b in 1..256usize {
-        products[b] = next_digit(products[b / 2], c, (b % 2) as u8);
+    for i in 0..src.len() {
+        dst[i] ^= src[i];
     }
-    products
 }
 
 /// The product of `a` and b, where `half` is the product of `a` and b / 2, and `digit` is b % 2.
+#[inline(always)]
 fn next_digit(half: u8, a: u8, digit: u8) -> u8
     requires { digit < 2 }
     ensures { result ≡ bit_xor (product 2 half) (digit * a) }
@@ -96,6 +101,7 @@ fn next_digit(half: u8, a: u8, digit: u8) -> u8
 }
 
 /// The product of 2 and `a`.
+#[inline(always)]
 fn double(a: u8) -> u8
     ensures { result ≡ product 2 a }
 {

@@ -1,13 +1,10 @@
 -- Each command asks a bounded number of requests.
-use Rattle.std.proofs.Common.{◌≡◌, ℕ, zero, suc, ◌+◌, ◌-◌, ◌*◌, ◌<◌, ◌≤◌, Bool, true, false, List, [], ◌∷◌, ◌++◌, length, Option, Some, None, Ok, Err, arith, subst}
-use Rattle.qfs_base.specs.Shape.{Shape}
+use Rattle.std.proofs.Common.{ℕ, zero, suc, ◌+◌, ◌*◌, ◌≤◌, Bool, true, false, List, [], ◌∷◌, length, arith}
 use Rattle.qfs_base.specs.declared.chunk.BlockId.{BlockId}
 use Rattle.qfs_base.specs.declared.chunk.Copy.{Copy}
-use Rattle.qfs_base.specs.declared.layout.Window.{Window}
 use Rattle.qfs_base.specs.declared.lists.Cause.{Cause}
 use Rattle.qfs_base.specs.declared.reply.ChunkAnswer.{ChunkAnswer}
 use Rattle.qfs_base.specs.declared.reply.ChunkAnswer.TheVariants as Did
-use Rattle.qfs_base.specs.declared.reply.Granted.{Granted}
 use Rattle.qfs_base.specs.declared.reply.MetaReply.{MetaReply}
 use Rattle.qfs_base.specs.declared.reply.MetaReply.TheVariants as Said
 use Rattle.qfs_base.specs.declared.reply.NodeReply.{NodeReply}
@@ -43,7 +40,7 @@ unfolding ask_or on_meta
 ask_or-steps n give_up request next g h =
     elim [ From.Meta answer ↦ on_answer-steps n give_up next g h answer | From.Chunk answer ↦ tt ]
 
-was_given_back-steps : (n : ℕ) (next : Work) → AsksAtMost n next → (a : MetaReply) → AsksAtMost n (was_given_back next a)
+pub was_given_back-steps : (n : ℕ) (next : Work) → AsksAtMost n next → (a : MetaReply) → AsksAtMost n (was_given_back next a)
 unfolding was_given_back
 was_given_back-steps n next h (Said.Done place) = h
 was_given_back-steps n next h answer = tt
@@ -139,7 +136,7 @@ pub fetch-steps : (n : ℕ) (hold : Hold) (block : BlockId) (slot from len : ℕ
 unfolding fetch
 fetch-steps n hold block slot from len fetched failed s f copy =
     on_chunk-steps (suc n) hold (after_fetch len fetched failed) (end_with-steps n hold)
-        (after_fetch-steps (suc n) len fetched failed s f)
+    (after_fetch-steps (suc n) len fetched failed s f)
 
 -- pieces of work that ask at most k requests each ask at most k times as many
 pub for_each-steps : {X : Type 0} (k : ℕ) (step : X → Work → Work)
@@ -151,4 +148,4 @@ for_each-steps k step h (x ∷ xs) rest n a =
     let m = length xs * k in
     let behind = more_steps (for_each step xs rest) (m + suc n) (suc (m + n)) (omega arith) (for_each-steps k step h xs rest n a) in
     more_steps (step x (for_each step xs rest)) (k + suc (m + n)) (length (x ∷ xs) * k + suc n) (grind arith)
-        (h x (for_each step xs rest) (m + n) behind)
+    (h x (for_each step xs rest) (m + n) behind)

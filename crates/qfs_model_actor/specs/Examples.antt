@@ -118,6 +118,20 @@ get_exchanges =
     ∷ fetches 5 Did.Fetched zeros
     ∷ releases ∷ []
 
+-- servers 1 and 2 are down, and slots 6 and 7 stand in for theirs
+abbrev pub degraded_exchanges : List Exchange
+degraded_exchanges =
+    opens
+    ∷ fetches 0 Did.Down zeros
+    ∷ fetches 1 Did.Down zeros
+    ∷ fetches 2 Did.Fetched zeros
+    ∷ fetches 3 Did.Fetched zeros
+    ∷ fetches 4 Did.Fetched zeros
+    ∷ fetches 5 Did.Fetched zeros
+    ∷ fetches 6 Did.Fetched with_five
+    ∷ fetches 7 Did.Fetched with_five
+    ∷ releases ∷ []
+
 -- servers 1, 4, 8 and 9 are down, and so too few slots answer
 abbrev pub too_few_exchanges : List Exchange
 too_few_exchanges =
@@ -143,6 +157,10 @@ get_command = Does.File (File.Get path_a None)
 pub record FileIsPutAndRead : Type 0 where
   pub put_goes : Goes (work_of small 1 put_command) put_exchanges (Report.Stored 1 5)
   pub get_goes : Goes (work_of small 2 get_command) get_exchanges (Report.Read 2 five)
+
+-- a get that makes two data slots anew
+abbrev pub DegradedGet : Type 0
+DegradedGet = Goes (work_of small 2 get_command) degraded_exchanges (Report.Read 2 five)
 
 -- a get that fails
 abbrev pub TooFewAnswer : Type 0

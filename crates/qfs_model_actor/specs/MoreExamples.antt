@@ -1,5 +1,6 @@
 -- Servers that fail, and chunks that are moved and swept, exchange by exchange.
-use Rattle.std.specs.Prelude.{ℕ, Bool, true, false, List, [], ◌∷◌, ◌++◌, Option, Some, None, replicate}
+use Rattle.std.specs.Prelude.{map, ℕ, Bool, true, false, List, [], ◌∷◌, ◌++◌, Option, Some, None, replicate}
+use Rattle.std.specs.List.{range_with_len}
 use Rattle.qfs_base.specs.declared.chunk.Copy.{Copy}
 use Rattle.qfs_base.specs.declared.command.Command.TheVariants as Does
 use Rattle.qfs_base.specs.declared.command.Reply.TheVariants as Report
@@ -11,7 +12,7 @@ use Rattle.qfs_base.specs.declared.reply.MetaReply.TheVariants as Said
 use Rattle.qfs_base.specs.declared.request.ChunkRequest.TheVariants as Serve
 use Rattle.qfs_base.specs.declared.request.MetaRequest.TheVariants as Ask
 use Rattle.qfs_model_actor.specs.Command.{work_of}
-use Rattle.qfs_model_actor.specs.Examples.{Exchange, Goes, small, path_a, zeros, with_five, meta, serve, block, key, put_command}
+use Rattle.qfs_model_actor.specs.Examples.{Exchange, Goes, small, path_a, zeros, with_five, meta, serve, fetches, block, key, put_command}
 
 -- a grant of slot 0 of the file's block, in this version, on this server
 abbrev pub first_slot_on : ℕ → ℕ → ℕ → List (Option Copy) → Granted
@@ -72,6 +73,25 @@ SourceWasEmptied =
     ∷ [])
     (Report.Rebalanced 0 1)
 
+-- slot 0 is made anew from slots 1 to 6, and stored on server 10
+abbrev pub all_but_first : List (Option Copy)
+all_but_first = None ∷ map (λ server. Some (record { server = server; life = 1; version = 1 })) (range_with_len 2 8)
+
+abbrev pub ChunkIsRecovered : Type 0
+ChunkIsRecovered =
+    Goes (work_of small 1 (Does.Recover path_a 0 0))
+    (meta (Ask.RecoverAt path_a 0 0) (Said.Granted (first_slot_on 10 2 7 all_but_first))
+    ∷ fetches 1 Did.Fetched zeros
+    ∷ fetches 2 Did.Fetched zeros
+    ∷ fetches 3 Did.Fetched zeros
+    ∷ fetches 4 Did.Fetched zeros
+    ∷ fetches 5 Did.Fetched zeros
+    ∷ fetches 6 Did.Fetched with_five
+    ∷ serve 10 (Serve.Put (record { block = block; slot = 0; version = 2 }) 1 with_five) Did.Stored []
+    ∷ meta (Ask.Confirm block 0 2 7) Said.Confirmed
+    ∷ [])
+    (Report.Recovered block 0 10 2)
+
 -- of two condemned copies one is on a server that is down
 abbrev pub condemned : ℕ → ℕ → Condemned
 condemned number server =
@@ -116,6 +136,7 @@ ServerStarts =
 pub record ServersFailAndChunksMove : Type 0 where
   pub no_server : PutFindsNoServer
   pub gives_up : PutGivesUp
+  pub recovered : ChunkIsRecovered
   pub moves : ChunkMoves
   pub emptied : SourceWasEmptied
   pub swept : TwoAreSwept

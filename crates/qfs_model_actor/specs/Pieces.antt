@@ -1,5 +1,5 @@
 -- What six of the nine slots of a block give in a window of rows.
-use Rattle.std.specs.Prelude.{ℕ, ◌*◌, ◌==◌, List, [], Option, Some, None, map, find, flat_map, take, drop}
+use Rattle.std.specs.Prelude.{ℕ, ◌*◌, ◌==◌, List, [], ◌∷◌, Option, Some, None, map, find, flat_map, take, drop, length}
 use Rattle.std.specs.List.{range_with_len}
 use Rattle.qfs_model_slot.specs.CodeWord.{data_slots, all_slots}
 use Rattle.qfs_model_actor.specs.Standin.{restored}
@@ -17,10 +17,20 @@ abbrev pub bytes_in : Option Piece → List ℕ
 bytes_in None = []
 bytes_in (Some piece) = piece.bytes
 
+-- the slots that gave their bytes, how long these are, and the bytes of all nine slots
+abbrev pub slots_in : List Piece → List ℕ
+slots_in pieces = map (λ (piece : Piece). piece.slot) pieces
+
+abbrev pub len_of : List Piece → ℕ
+len_of [] = 0
+len_of (piece ∷ pieces) = length piece.bytes
+
+abbrev pub nine_of : List Piece → List (List ℕ)
+nine_of pieces = map (λ slot. bytes_in (piece_of pieces slot)) all_slots
+
 -- the bytes of a slot, made anew from those of six
 unfoldable pub restored_slot : List Piece → ℕ → List ℕ
-restored_slot pieces slot =
-    restored (map (λ (piece : Piece). piece.slot) pieces) (map (λ j. bytes_in (piece_of pieces j)) all_slots) slot
+restored_slot pieces slot = restored (slots_in pieces) (len_of pieces) (nine_of pieces) slot
 
 -- the bytes of a slot: those that it gave, or else made anew
 unfoldable pub given_or_restored : List Piece → ℕ → Option Piece → List ℕ

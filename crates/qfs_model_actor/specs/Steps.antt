@@ -1,7 +1,7 @@
 -- How many requests a command asks at most, whatever the nodes answer.
-use Rattle.std.specs.Prelude.{ℕ, zero, suc, ◌+◌, ◌-◌, ◌*◌, List, length, drop, sum_by, Option, Some, None, ⊤}
+use Rattle.std.specs.Prelude.{ℕ, zero, suc, ◌+◌, ◌-◌, ◌*◌, ◌≤◌, length, drop, sum_by, Option, Some, None, ⊤}
 use Rattle.qfs_base.specs.Layout.{blocks_of}
-use Rattle.qfs_base.specs.Recipe.{bytes_of}
+use Rattle.qfs_base.specs.Recipe.{IsRecipe, bytes_of}
 use Rattle.qfs_base.specs.Shape.{Shape}
 use Rattle.qfs_base.specs.declared.command.Command.{Command}
 use Rattle.qfs_base.specs.declared.command.Command.TheVariants as Does
@@ -80,3 +80,19 @@ if_asking steps (Some request) = steps
 -- how many steps an actor has left at most; none where it has finished
 unfoldable pub left : Actor → ℕ
 left actor = if_asking (steps_ahead actor) (request_of actor)
+
+-- what a script bounds: the bytes of a put, and the budgets
+abbrev pub IsFileInRange : FileCommand → Type 0
+IsFileInRange (File.Put path recipe) = IsRecipe recipe
+IsFileInRange other = ⊤
+
+abbrev pub IsBudget : ℕ → Type 0
+IsBudget budget = budget ≤ 100000
+
+abbrev pub IsInRange : Command → Type 0
+IsInRange (Does.File command) = IsFileInRange command
+IsInRange (Does.Heal budget) = IsBudget budget
+IsInRange (Does.Rebalance budget) = IsBudget budget
+IsInRange (Does.Evacuate server budget) = IsBudget budget
+IsInRange (Does.Sweep budget) = IsBudget budget
+IsInRange other = ⊤

@@ -49,14 +49,15 @@ unfoldable pub is_copy_of : BlockId → ℕ → Copy → CondemnedRow → Bool
 is_copy_of block slot copy row =
     same_block row.condemned.block block && (row.condemned.slot == slot) && same_copy row.condemned.copy copy
 
+-- whether no live lease blocks a condemned copy
+unfoldable pub is_unblocked : List ℕ → Bool
+is_unblocked [] = true
+is_unblocked (lease ∷ leases) = false
+
 -- whether a condemned copy may be ordered deleted: its server is up, it is live, and no live lease
 -- blocks it
 unfoldable pub may_go : List ServerView → CondemnedRow → Bool
 may_go servers row = is_listed servers row.condemned.copy && is_unblocked row.blockers
-  where
-    is_unblocked : List ℕ → Bool
-    is_unblocked [] = true
-    is_unblocked (lease ∷ leases) = false
 
 -- the first condemned copy above a number that may be ordered deleted
 unfoldable pub next_to_go : List ServerView → ℕ → List CondemnedRow → Option CondemnedRow

@@ -1,7 +1,6 @@
 -- The requests of a put: a file is created, its slots are granted one after another, and it is closed
 -- or given up.
 use Rattle.std.specs.Prelude.{ℕ, nat_lt, Bool, true, false, List, [], ◌∷◌, ◌++◌, length, map, find, flat_map, Option, Some, None, is_none}
-use Rattle.std.specs.Option.{option_map}
 use Rattle.std.specs.List.{range_with_len}
 use Rattle.qfs_base.specs.declared.chunk.BlockId.{BlockId}
 use Rattle.qfs_base.specs.declared.image.Grant.{Grant}
@@ -38,36 +37,50 @@ unfoldable pub failed_grant : BlockId → ℕ → Option Grant → List Change
 failed_grant block slot None = []
 failed_grant block slot (Some grant) = FailGrant block slot ∷ []
 
--- a grant for a put, on the server that is chosen once the failed grant is out of the way
-unfoldable pub grant_for_put : Shape → ℕ → ℕ → BlockId → ℕ → List Change → MetaImage → MetaImage → Decision
-grant_for_put layout actor len block slot failing m freed =
-    need (Told.NoServer block slot)
-    (λ server.
-    Makes
-    (failing ++ GrantSlot block slot server actor 0 ∷ [])
-    (Told.Granted (new_grant layout len block slot server 0 no_sources freed)))
-    (choose
-    (census freed.servers freed.slots)
-    (barred_for_put freed.servers freed.slots block (slot_at freed.slots block slot).failed))
+-- the server that a put of a slot is granted, once its failed grant is out of the way
+unfoldable pub chosen_for_put : BlockId → ℕ → MetaImage → Option ℕ
+chosen_for_put block slot m =
+    choose (census m.servers m.slots)
+    (barred_for_put m.servers m.slots block (slot_at m.slots block slot).failed)
 
--- a server for a slot of a file that this actor hasn't closed yet
-unfoldable pub decide_grant : Shape → ℕ → BlockId → ℕ → Bool → MetaImage → Decision
-decide_grant layout actor block slot again m =
-    let pending : Option Grant = (slot_at m.slots block slot).grant in
+-- what a put is told of its grant, once its failed grant is out of the way
+unfoldable pub put_granted : Shape → ℕ → BlockId → ℕ → MetaImage → ℕ → MetaReply
+put_granted layout len block slot m server =
+    Told.Granted (new_grant layout len block slot server 0 no_sources m)
+
+-- a slot is granted on a server, after the changes of a failed grant
+unfoldable pub grant_for_put : Shape → ℕ → ℕ → BlockId → ℕ → List Change → MetaImage → ℕ → Decision
+grant_for_put layout actor len block slot failing freed server =
+    Makes (failing ++ GrantSlot block slot server actor 0 ∷ [])
+    (put_granted layout len block slot freed server)
+
+-- the same on the server that is chosen, if there is one
+unfoldable pub grant_after : Shape → ℕ → ℕ → BlockId → ℕ → List Change → MetaImage → Decision
+grant_after layout actor len block slot failing freed =
+    need (Told.NoServer block slot) (grant_for_put layout actor len block slot failing freed)
+    (chosen_for_put block slot freed)
+
+-- a slot of a file that the actor hasn't closed yet is granted, or refused
+unfoldable pub grant_in : Shape → ℕ → BlockId → ℕ → Bool → MetaImage → Option Grant → TreeRow → Decision
+grant_in layout actor block slot again m pending row =
     let failing : List Change = failed_grant block slot pending in
-    need Told.Gone
-    (λ (row : TreeRow).
     unless (nat_lt block.index (block_count layout row.len)) Told.NoBlock
     (refuse (taken_refusal again pending)
-    (grant_for_put layout actor row.len block slot failing m (apply_all failing m))))
+    (grant_after layout actor row.len block slot failing (apply_all failing m)))
+
+-- a server for a slot of a file that the actor hasn't closed yet
+unfoldable pub decide_grant : Shape → ℕ → BlockId → ℕ → Bool → MetaImage → Decision
+decide_grant layout actor block slot again m =
+    need Told.Gone (grant_in layout actor block slot again m (slot_at m.slots block slot).grant)
     (unclosed_file actor block.file m.tree)
 
--- all slots of so many blocks of a file, by index and slot
-unfoldable pub slot_ids : ℕ → ℕ → List SlotId
-slot_ids file count =
-    flat_map
-    (λ index. map (λ slot. record { block = record { file = file; index = index }; slot = slot }) slot_numbers)
-    (range_with_len 0 count)
+-- the slots of a block, and all slots of so many blocks of a file, by index and slot
+unfoldable pub block_slots : BlockId → List SlotId
+block_slots block = map (λ slot. record { block = block; slot = slot }) slot_numbers
+
+unfoldable pub file_slots : ℕ → ℕ → List SlotId
+file_slots file count =
+    flat_map (λ index. block_slots (record { file = file; index = index })) (range_with_len 0 count)
 
 -- whether a slot has no pending grant
 unfoldable pub lacks_grant : List SlotRow → SlotId → Bool
@@ -81,19 +94,23 @@ slot_id row = record { block = row.block; slot = row.slot }
 -- holds beyond them
 unfoldable pub first_ungranted : ℕ → ℕ → List SlotRow → Option SlotId
 first_ungranted file count slots =
-    find (lacks_grant slots) (slot_ids file count ++ map slot_id (slots_of file slots))
+    find (lacks_grant slots) (file_slots file count ++ map slot_id (slots_of file slots))
 
--- a file is closed once all of its slots are granted
+-- a file isn't closed before all of its slots are granted
+unfoldable pub incomplete : Option SlotId → Option MetaReply
+incomplete None = None
+incomplete (Some id) = Some (Told.Incomplete id.block.index id.slot)
+
+-- a file that the actor hasn't closed yet is closed, or refused
+unfoldable pub close_complete : Shape → ℕ → ℕ → MetaImage → TreeRow → Decision
+close_complete layout actor file m row =
+    refuse (incomplete (first_ungranted file (block_count layout row.len) m.slots))
+    (Makes (CloseFile file actor row.command ∷ []) (Told.Done (length m.history)))
+
+-- a file is closed
 unfoldable pub decide_close : Shape → ℕ → ℕ → MetaImage → Decision
 decide_close layout actor file m =
-    need Told.Gone
-    (λ (row : TreeRow).
-    refuse
-    (option_map
-    (λ (id : SlotId). Told.Incomplete id.block.index id.slot)
-    (first_ungranted file (block_count layout row.len) m.slots))
-    (Makes (CloseFile file actor row.command ∷ []) (Told.Done (length m.history))))
-    (unclosed_file actor file m.tree)
+    need Told.Gone (close_complete layout actor file m) (unclosed_file actor file m.tree)
 
 -- the changes that give an unclosed file up: its grants are condemned by index and slot
 unfoldable pub abort_changes : ℕ → List SlotRow → List Change
@@ -101,8 +118,8 @@ abort_changes file slots =
     map (λ (row : SlotRow). GiveUp row.block row.slot) (slots_of file slots) ++ AbortFile file ∷ []
 
 -- a file is given up before it is closed
+unfoldable pub abort_unclosed : ℕ → MetaImage → TreeRow → Decision
+abort_unclosed file m row = Makes (abort_changes file m.slots) (Told.Done (length m.history))
+
 unfoldable pub decide_abort : ℕ → ℕ → MetaImage → Decision
-decide_abort actor file m =
-    need Told.Gone
-    (λ (row : TreeRow). Makes (abort_changes file m.slots) (Told.Done (length m.history)))
-    (unclosed_file actor file m.tree)
+decide_abort actor file m = need Told.Gone (abort_unclosed file m) (unclosed_file actor file m.tree)

@@ -1,11 +1,13 @@
 -- The rows of the metaserver's name tree: beside each path its file, 0 for a directory, and the
 -- command that made it.
-use Rattle.std.specs.Prelude.{ℕ, zero, suc, ◌==◌, Bool, true, false, ◌&&◌, List, [], map, find, Option}
+use Rattle.std.specs.Prelude.{ℕ, zero, suc, ◌==◌, Bool, true, false, ◌&&◌, ◌||◌, List, [], map, filter, find, Option}
+use Rattle.std.specs.List.{list_any}
 use Rattle.qfs_base.specs.declared.image.TreeRow.{TreeRow}
 use Rattle.qfs_base.specs.declared.lists.NameKind.{NameKind}
 use Rattle.qfs_base.specs.declared.lists.NameKind.TheVariants.{Directory, Unclosed, Closed}
 use Rattle.qfs_base.specs.NameTree.{PathNames, Standing, added, renamed, taken, stands_at}
-use Rattle.qfs_base.specs.Table.{without, change_where, look}
+use Rattle.std.specs.Ordering.{nat_cmp}
+use Rattle.qfs_base.specs.Table.{without, change_where, look, place_all}
 
 -- what stands at a row: file 0 is a directory
 unfoldable pub kind_of : ℕ → Bool → NameKind
@@ -58,10 +60,31 @@ is_unclosed_row row = is_unclosed (kind_of row.file row.closed)
 unfoldable pub is_closed_row : TreeRow → Bool
 is_closed_row row = is_closed (kind_of row.file row.closed)
 
+-- whether a row is an actor's unclosed file
+unfoldable pub is_unclosed_of : ℕ → TreeRow → Bool
+is_unclosed_of actor row = is_unclosed_row row && (row.actor == actor)
+
 -- a file that an actor made and hasn't closed
 unfoldable pub unclosed_file : ℕ → ℕ → List TreeRow → Option TreeRow
 unclosed_file actor file tree =
-    find (λ (row : TreeRow). is_unclosed_row row && has_file file row && (row.actor == actor)) tree
+    find (λ (row : TreeRow). is_unclosed_of actor row && has_file file row) tree
+
+-- the numbers of these rows' files, rising
+unfoldable pub rising_files : List TreeRow → List ℕ
+rising_files rows = place_all nat_cmp (map (λ (row : TreeRow). row.file) rows) []
+
+-- the files that an actor hasn't closed, by number
+unfoldable pub unclosed_files : ℕ → List TreeRow → List ℕ
+unclosed_files actor tree = rising_files (filter (is_unclosed_of actor) tree)
+
+-- a closed file
+unfoldable pub closed_file : ℕ → List TreeRow → Option TreeRow
+closed_file file tree = find (λ (row : TreeRow). is_closed_row row && has_file file row) tree
+
+-- whether a file is in the tree, closed or not
+unfoldable pub file_stands : ℕ → List TreeRow → Bool
+file_stands file tree =
+    list_any (λ (row : TreeRow). (is_closed_row row || is_unclosed_row row) && has_file file row) tree
 
 -- a row after its file was closed
 unfoldable pub close_row : TreeRow → TreeRow

@@ -1,40 +1,119 @@
--- Small runs of the metaserver, to be computed.
-use Rattle.std.specs.Prelude.{ℕ, List, [], ◌∷◌, ◌++◌, map, fold, Option, Some, None}
+-- What the worked runs of the metaserver are made of: paths, requests and their replies.
+use Rattle.std.specs.Prelude.{ℕ, ◌+◌, false, List, [], ◌∷◌, ◌++◌, map, replicate, slice_set, codes, Option, Some, None}
+use Rattle.std.specs.List.{range_with_len}
+use Rattle.qfs_base.specs.declared.chunk.BlockId.{BlockId}
+use Rattle.qfs_base.specs.declared.chunk.Copy.{Copy}
 use Rattle.qfs_base.specs.declared.history.Outcome.TheVariants as Ended
 use Rattle.qfs_base.specs.declared.image.MetaImage.{MetaImage}
+use Rattle.qfs_base.specs.declared.reply.Granted.{Granted}
 use Rattle.qfs_base.specs.declared.reply.MetaReply.{MetaReply}
 use Rattle.qfs_base.specs.declared.reply.MetaReply.TheVariants as Told
+use Rattle.qfs_base.specs.declared.reply.TreeRefusal.{TreeRefusal}
 use Rattle.qfs_base.specs.declared.request.MetaRequest.{MetaRequest}
 use Rattle.qfs_base.specs.declared.request.MetaRequest.TheVariants as Ask
+use Rattle.qfs_base.specs.NameTree.{PathNames}
 use Rattle.qfs_base.specs.Shape.{Shape}
-use Rattle.qfs_model_meta.specs.Step.{Served, meta_step}
+use Rattle.qfs_model_meta.specs.Step.{Served, meta_step, opening}
 
 -- the layout of the worked runs: stripes of 16 bytes, two rows
 abbrev pub small_layout : Shape
 small_layout = record { s = 16; r = 2 }
 
--- the replies to an actor's requests, each of which is done
-abbrev pub replies_to : ℕ → List MetaRequest → MetaImage → List MetaReply
-replies_to actor [] m = []
-replies_to actor (request ∷ requests) m =
-    let served : Served = meta_step small_layout actor request Ended.Done m in
-    served.reply ∷ replies_to actor requests served.meta
+-- a request and the number of the actor that asks it
+abbrev pub Asked : Type 0
+Asked = ℕ × MetaRequest
 
--- a path of one name of one letter: `/a`
-abbrev pub slash_a : List (List ℕ)
-slash_a = (97 ∷ []) ∷ []
+-- the metaserver after these requests, each of which is done, and its replies in order
+pub record Ran : Type 0 where
+  pub meta : MetaImage
+  pub replies : List MetaReply
 
-abbrev pub put_a : List MetaRequest
-put_a =
-    Ask.Create slash_a 1 5 ∷ map (λ slot. Ask.Grant 1 0 slot Rattle.std.specs.Prelude.false) (0 ∷ 1 ∷ 2 ∷ 3 ∷ 4 ∷ 5 ∷ 6 ∷ 7 ∷ 8 ∷ [])
-    ++ Ask.Close 1 ∷ Ask.OpenFile slash_a ∷ Ask.Release 1 ∷ []
+abbrev pub run_one : Ran → Asked → Ran
+run_one ran asked =
+    let served : Served = meta_step small_layout asked.0 asked.1 Ended.Done ran.meta in
+    record { meta = served.meta; replies = ran.replies ++ served.reply ∷ [] }
 
-abbrev pub granted_on : ℕ → MetaReply
-granted_on slot =
-    Told.Granted (record { block = record { file = 1; index = 0 }; slot = slot; version = 1; server = Rattle.std.specs.Prelude.suc slot; life = 1; lease = 0; sources = Rattle.std.specs.Prelude.replicate 9 None; rows = 1 })
+abbrev pub run : Ran → List Asked → Ran
+run ran [] = ran
+run ran (asked ∷ more) = run (run_one ran asked) more
 
-abbrev pub put_a_replies : List MetaReply
-put_a_replies =
-    Told.Created 1 0 ∷ map granted_on (0 ∷ 1 ∷ 2 ∷ 3 ∷ 4 ∷ 5 ∷ 6 ∷ 7 ∷ 8 ∷ []) ++ Told.Done 1 ∷
-    Told.Opened (record { lease = 1; place = 2; file = 1; len = 5; blocks = map (λ slot. Some (record { server = Rattle.std.specs.Prelude.suc slot; life = 1; version = 1 })) (0 ∷ 1 ∷ 2 ∷ 3 ∷ 4 ∷ 5 ∷ 6 ∷ 7 ∷ 8 ∷ []) ∷ [] })
-    ∷ Told.Done 2 ∷ []
+-- a run begins with so many servers
+abbrev pub begins : ℕ → Ran
+begins servers = record { meta = opening servers; replies = [] }
+
+-- the replies to these requests, once those before were answered
+abbrev pub replies_after : ℕ → List Asked → List Asked → List MetaReply
+replies_after servers before asked =
+    let ran : Ran = run (begins servers) before in
+    (run (record { meta = ran.meta; replies = [] }) asked).replies
+
+-- paths of one name and of two
+abbrev pub path_a : PathNames
+path_a = codes "a" ∷ []
+
+abbrev pub path_b : PathNames
+path_b = codes "b" ∷ []
+
+abbrev pub path_d : PathNames
+path_d = codes "d" ∷ []
+
+abbrev pub path_q : PathNames
+path_q = codes "q" ∷ []
+
+abbrev pub path_df : PathNames
+path_df = codes "d" ∷ codes "f" ∷ []
+
+abbrev pub path_de : PathNames
+path_de = codes "d" ∷ codes "e" ∷ []
+
+abbrev pub path_xy : PathNames
+path_xy = codes "x" ∷ codes "y" ∷ []
+
+-- the first block of a file
+abbrev pub first_block : ℕ → BlockId
+first_block file = record { file = file; index = 0 }
+
+-- the requests of a put of a few bytes by an actor, as the given command and file
+abbrev pub grants_asked : ℕ → ℕ → List Asked
+grants_asked actor file = map (λ slot. (actor, Ask.Grant file 0 slot false)) (range_with_len 0 9)
+
+abbrev pub put_asked : ℕ → PathNames → ℕ → ℕ → List Asked
+put_asked actor path command file =
+    (actor, Ask.Create path command 1) ∷ grants_asked actor file ++ (actor, Ask.Close file) ∷ []
+
+-- a copy on a server in its first life
+abbrev pub copy_on : ℕ → ℕ → Copy
+copy_on server version = record { server = server; life = 1; version = version }
+
+-- the copies of a block whose slots stand on the servers 1 to 9 in turn
+abbrev pub first_nine : List (Option Copy)
+first_nine = map (λ slot. Some (copy_on (slot + 1) 1)) (range_with_len 0 9)
+
+-- the same but for one slot, and one slot alone
+abbrev pub all_but : ℕ → List (Option Copy)
+all_but slot = slice_set first_nine slot None
+
+abbrev pub only : ℕ → Copy → List (Option Copy)
+only slot copy = slice_set (replicate 9 None) slot (Some copy)
+
+-- a grant of a slot of a file's first block, on a server in its first life, without sources
+abbrev pub grant_on : ℕ → ℕ → ℕ → ℕ → Granted
+grant_on file slot server version =
+    record {
+      block = first_block file;
+      slot = slot;
+      version = version;
+      server = server;
+      life = 1;
+      lease = 0;
+      sources = replicate 9 None;
+      rows = 1;
+    }
+
+-- a grant under a lease, with its sources
+abbrev pub leased_on : Granted → ℕ → List (Option Copy) → Granted
+leased_on granted lease sources = record granted { lease = lease; sources = sources }
+
+-- a refusal of the name tree at a place
+abbrev pub refused : TreeRefusal → ℕ → MetaReply
+refused why place = Told.Refused why place

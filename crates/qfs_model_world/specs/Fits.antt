@@ -1,5 +1,7 @@
 -- Which orders of steps a script allows.
-use Rattle.std.specs.Prelude.{ℕ, ◌==◌, ◌&&◌, Bool, true, false, not, List, [], ◌∷◌, length, take, drop, map, filter, list_any, Option, Some, None}
+use Rattle.std.specs.Prelude.{ℕ, ◌==◌, ◌&&◌, Bool, true, false, not, List, [], ◌∷◌, length, take, drop, map, filter, Option, Some, None}
+use Rattle.std.specs.List.{list_any}
+use Rattle.qfs_base.specs.declared.command.Command.{Command}
 use Rattle.qfs_base.specs.Outcome.{outcome_of}
 use Rattle.qfs_base.specs.declared.history.Outcome.{Outcome}
 use Rattle.qfs_base.specs.declared.history.Outcome.TheVariants as Ended
@@ -10,7 +12,6 @@ use Rattle.qfs_base.specs.declared.request.MetaRequest.{MetaRequest}
 use Rattle.qfs_base.specs.declared.request.MetaRequest.TheVariants as Ask
 use Rattle.qfs_base.specs.declared.request.NodeRequest.{NodeRequest}
 use Rattle.qfs_base.specs.declared.request.NodeRequest.TheVariants as To
-use Rattle.qfs_base.specs.declared.script.Phase.{Phase}
 use Rattle.qfs_base.specs.declared.script.Script.{Script}
 use Rattle.qfs_model_actor.specs.Actor.{Actor, request_of, has_finished}
 use Rattle.qfs_model_text.specs.Order.{same_outcome}
@@ -21,7 +22,7 @@ unfoldable pub unfinished : List Actor → List ℕ
 unfinished actors = map (λ (actor : Actor). actor.number) (filter (λ actor. not (has_finished actor)) actors)
 
 -- the actors by phase, for phases of these commands
-unfoldable pub by_phase : List Phase → List Actor → List (List Actor)
+unfoldable pub by_phase : List (List (List Command)) → List Actor → List (List Actor)
 by_phase [] actors = []
 by_phase (phase ∷ phases) actors = take (length phase) actors ∷ by_phase phases (drop (length phase) actors)
 

@@ -11,7 +11,8 @@ use Rattle.qfs_base.specs.declared.script.Script.{Script}
 use Rattle.qfs_model_actor.specs.Actor.{Actor}
 use Rattle.qfs_model_actor.specs.Shown.{shown_reply}
 use Rattle.qfs_model_actor.specs.Work.{Report}
-use Rattle.qfs_model_text.specs.Output.{plain_output}
+use Rattle.qfs_model_text.specs.Output.{output}
+use Rattle.qfs_model_world.specs.Audit.{audit_if}
 use Rattle.qfs_model_world.specs.World.{World, after}
 
 -- how many bytes are shown as they are
@@ -45,10 +46,11 @@ lines_of_actor actor = lines_from actor.number 1 actor.ended
 unfoldable pub lines_of_world : World → List ReplyLine
 lines_of_world world = flat_map lines_of_actor world.actors
 
--- what a world prints after these steps
-unfoldable pub printed : World → List Step → List ℕ
-printed world order = plain_output (lines_of_world world) world.meta.history order
+-- what a world prints that stands after this order of a script
+unfoldable pub printed : Script → List Step → World → List ℕ
+printed script order world =
+    output (lines_of_world world) world.meta.history (audit_if script order world script.audit) order
 
 -- the text of a script and an order
 unfoldable pub text : Script → List Step → List ℕ
-text script order = printed (after script order) order
+text script order = printed script order (after script order)

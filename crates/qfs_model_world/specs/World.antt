@@ -14,7 +14,7 @@ use Rattle.qfs_base.specs.declared.request.NodeRequest.TheVariants as To
 use Rattle.qfs_base.specs.declared.script.Script.{Script}
 use Rattle.qfs_model_actor.specs.Actor.{Actor, starting, request_of, has_finished, after_reply}
 use Rattle.qfs_model_meta.specs.Step.{Served, opening, meta_step}
-use Rattle.qfs_model_world.specs.Server.{Server, Answered, fresh_server, server_step, without_room}
+use Rattle.qfs_model_server.specs.Server.{Server, Answered, fresh_server, server_step, without_room}
 
 pub record World : Type 0 where
   pub layout : Shape

@@ -1,10 +1,12 @@
 //! The calls on a layout.
 
-ghost use Rattle.std.specs.Prelude.{◌≡◌, ℕ, ◌<◌, ◌↔◌, IsSome, IfSome};
+ghost use Rattle.std.specs.Prelude.{◌≡◌, ℕ, ◌+◌, ◌*◌, ◌/◌, ◌^◌, ◌<◌, ◌≤◌, ◌↔◌, IsSome, IfSome};
 ghost use Rattle.qfs_base.specs.Shape.{IsStripe, IsRowCount};
-ghost use Rattle.qfs_base.specs.Layout.{row_bytes, block_bytes, blocks_of, rows_of};
+ghost use Rattle.qfs_base.specs.Layout.{row_bytes, block_bytes, blocks_of, rows_of, place_of, offset_of, windows_of};
 
-use qfs_base::layout::Layout;
+use crate::windows::Windows;
+use qfs_base::layout::{Layout, Spot};
+use qfs_base::numbers::Slot;
 
 /// The slots of a block that hold the file's own bytes.
 const DATA_SLOTS: u32 = 6;
@@ -31,6 +33,34 @@ pub trait LayoutCalls: Sized {
     fn rows_of(&self, len: u32, index: u32) -> u32
         requires { index < blocks_of (stripe self.now) (rows self.now) len }
         ensures { result ≡ rows_of (stripe self.now) (rows self.now) len index };
+
+    /// Where byte `o` of a file stands. `o` is below 268,435,456.
+    fn place_of(&self, o: u64) -> Spot
+        requires { o < 2 ^ 28 }
+        ensures value { result ≡ place_of (stripe self.now) (rows self.now) o }
+        ensures back { offset_of (stripe self.now) (rows self.now) result.index result.slot result.at ≡ o }
+        ensures slot { result.slot < 6 }
+        ensures within { result.at < stripe self.now * rows self.now };
+
+    /// Which byte of a file stands at byte `at` of the chunk of data slot `slot`, in block `index`.
+    /// The index is below 4,194,304, the slot below 6, and `at` below the bytes of a whole chunk.
+    fn offset_of(&self, index: u32, slot: Slot, at: u32) -> u64
+        requires index { index < 4194304 }
+        requires slot { slot < 6 }
+        requires at { at < stripe self.now * rows self.now }
+        ensures value { result ≡ offset_of (stripe self.now) (rows self.now) index slot at }
+        ensures back { place_of (stripe self.now) (rows self.now) result
+            ≡ record { index = index; row = at / stripe self.now; slot = slot; at = at } };
+
+    /// The windows in which `count` bytes from byte `from` on are read, of a file of `len` bytes: by
+    /// block and then by aligned group of 16 rows, of each group that the range touches, the rows
+    /// from the first to the last that it touches. A range is cut at the file's end. Each of the
+    /// three is at most 268,435,456.
+    fn windows(&self, len: u32, from: u32, count: u32) -> Windows
+        requires len { len ≤ 2 ^ 28 }
+        requires from { from ≤ 2 ^ 28 }
+        requires count { count ≤ 2 ^ 28 }
+        ensures { result ≡ windows_of (stripe self.now) (rows self.now) len from count };
 }
 
 /// The file bytes of a whole row.
@@ -45,6 +75,7 @@ fn row_bytes(layout: &Layout) -> u32
 fn block_bytes(layout: &Layout) -> u32
     ensures value { result ≡ block_bytes layout.now.s layout.now.r }
     ensures positive { 0 < result }
+    ensures largest { result ≤ 402653184 }
 {
     DATA_SLOTS * layout.s * layout.r
 }
@@ -71,18 +102,94 @@ impl LayoutCalls for Layout {
         let held = (len - index * whole).min(whole);
         held.div_ceil(row_bytes(self))
     }
+
+    fn place_of(&self, o: u64) -> Spot {
+        let o = o as u32;
+        let inside = o % block_bytes(self);
+        let row = inside / row_bytes(self);
+        Spot {
+            index: o / block_bytes(self),
+            row,
+            slot: (inside / self.s % DATA_SLOTS) as Slot,
+            at: row * self.s + inside % self.s,
+        }
+    }
+
+    fn offset_of(&self, index: u32, slot: Slot, at: u32) -> u64 {
+        let row = u64::from(at / self.s);
+        let in_row = u32::from(slot) * self.s + at % self.s;
+        u64::from(index) * u64::from(block_bytes(self))
+            + row * u64::from(row_bytes(self))
+            + u64::from(in_row)
+    }
+
+    fn windows(&self, len: u32, from: u32, count: u32) -> Windows {
+        let end = len.min(from + count);
+        if end <= from {
+            return Windows::none();
+        }
+        let row = row_bytes(self);
+        Windows::between(self.r, from / row, end.div_ceil(row))
+    }
 }
 
 #[cfg(test)]
 mod tests {
     use super::*;
+    use qfs_base::layout::Window;
     use std::test::Fail;
 
     #[test]
     fn a_million_bytes_are_three_rows_of_one_block(rt: HostRuntime) -> Result<(), Fail> {
         let usual = Layout::new(65536, 1024).ok_or("the usual layout")?;
         assert_eq!(rt; usual.blocks_of(1_000_000), 1);
-        assert_eq!(rt; usual.rows_of(1_000_000, 0), 3);
+        assert_eq!(rt; usual.rows_of(1_000_000, 0) * usual.s, 196_608);
+        Ok(())
+    }
+
+    #[test]
+    fn bytes_at_the_ends_of_rows_and_blocks(rt: HostRuntime) -> Result<(), Fail> {
+        let small = Layout::new(16, 2).ok_or("a small layout")?;
+        let known = [
+            (95, 0, 0, 5, 15),
+            (96, 0, 1, 0, 16),
+            (191, 0, 1, 5, 31),
+            (192, 1, 0, 0, 0),
+        ];
+        for (offset, index, row, slot, at) in known {
+            let wanted = Spot {
+                index,
+                row,
+                slot,
+                at,
+            };
+            assert!(rt; small.place_of(offset) == wanted);
+            assert_eq!(rt; small.offset_of(index, slot, at), offset);
+        }
+        Ok(())
+    }
+
+    fn window(index: u32, first_row: u32, rows: u32) -> Window {
+        Window {
+            index,
+            first_row,
+            rows,
+        }
+    }
+
+    // A row has 96 bytes and a block 40 rows. The bytes 1,500 to 4,399 lie in the rows 15 to 45.
+    #[test]
+    fn a_range_by_its_windows(rt: HostRuntime) -> Result<(), Fail> {
+        let layout = Layout::new(16, 40).ok_or("a layout")?;
+        let windows: Vec<Window> = layout.windows(4400, 1500, 3000).collect(rt.alloc())?;
+        let wanted = [
+            window(0, 15, 1),
+            window(0, 16, 16),
+            window(0, 32, 8),
+            window(1, 0, 6),
+        ];
+        assert!(rt; windows.as_slice() == wanted.as_slice());
+        assert!(rt; layout.windows(4400, 4400, 3000).next().is_none());
         Ok(())
     }
 }

@@ -3,6 +3,8 @@
 #![tactic(auto)]
 
 mod layout;
+mod windows;
 
 pub use layout::LayoutCalls;
 pub use qfs_base::layout::{Layout, Spot, Window};
+pub use windows::Windows;

@@ -8,6 +8,7 @@ returns c =
     record {
       no_server = record { requests = refl; end = refl };
       gives_up = record { requests = refl; end = refl };
+      recovered = record { requests = refl; end = refl };
       moves = record { requests = refl; end = refl };
       emptied = record { requests = refl; end = refl };
       swept = record { requests = refl; end = refl };

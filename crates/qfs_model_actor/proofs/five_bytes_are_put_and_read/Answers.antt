@@ -7,6 +7,10 @@ unfolding work_on_literals
 returns-clause-put_and_read c =
     record { put_goes = record { requests = refl; end = refl }; get_goes = record { requests = refl; end = refl } }
 
+pub returns-clause-degraded : goal.returns-clause-degraded
+unfolding work_on_literals
+returns-clause-degraded c = record { requests = refl; end = refl }
+
 pub returns-clause-too_few : goal.returns-clause-too_few
 unfolding work_on_literals
 returns-clause-too_few c = record { requests = refl; end = refl }

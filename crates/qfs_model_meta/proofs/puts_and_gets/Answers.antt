@@ -4,4 +4,4 @@ use Rattle.qfs_model_meta.proofs.puts_and_gets.Goals as goal
 
 pub returns : goal.returns
 unfolding whole_metaserver
-returns c = refl
+returns c = record { replies = refl }

@@ -1,5 +1,5 @@
 -- A number outside the range is no member, and the bit tells of each other one.
-use Rattle.std.proofs.Common.{◌≡◌, ◌<◌, sym, arith}
+use Rattle.std.proofs.Common.{sym, arith}
 use Rattle.qfs_base.specs.NumberSetLaws.{has-members_of_bits, has-members_of_bits_low, has-members_of_bits_high}
 use Rattle.qfs_base.proofs.server_set.ServerSet.contains.Goals as goal
 use Rattle.qfs_base.proofs.server_set.ServerSet.contains.Goals.{then-server-lt1-via-then-server-lt1, then-server-lt1-via-else-server-lt1+then-server-gt64}

@@ -1,6 +1,6 @@
 -- The word with one more bit tells one more member.
-use Rattle.std.proofs.Common.{◌≡◌, ◌<◌, ◌-◌, w64, arith}
-use Rattle.std.proofs.lemmas.Nat.{or_lt, one_shl}
+use Rattle.std.proofs.Common.{w64, arith}
+use Rattle.std.proofs.lemmas.Nat.{or_lt}
 use Rattle.qfs_base.specs.NumberSetLaws.{members_of_bits-set}
 use Rattle.qfs_base.proofs.server_set.ServerSet.insert.Goals as goal
 

@@ -1,0 +1,9 @@
+mod Dot
+mod Columns
+mod Spares
+mod Counts
+mod LeftOut
+mod Words
+mod WantedSlot
+mod Restoring
+mod Encoding

@@ -1,0 +1,138 @@
+//! The code of a block: six data slots, and three parity slots from which any three slots that are lost can be restored.
+//!
+//! A slot is a list of bytes. At each offset the nine bytes of the slots are a code word: with d0 to d5 the data bytes, the
+//! byte of parity slot 6 + e is the sum over i of 2^(e * i) times d_i, in the field of 256 elements. Neither call takes
+//! memory.
+#![tactic(auto)]
+
+ghost use Rattle.std.specs.Prelude.{◌≡◌, ℕ, ◌+◌, ◌*◌, ◌<◌, ◌≤◌, List, ◌++◌, length, true};
+ghost use Rattle.qfs_base.specs.Mask.{has_slot};
+ghost use Rattle.qfs_code.specs.Code.{AreCodeWords, parity_slots, slot_at, slots_of};
+ghost use Rattle.qfs_code.specs.Restored.{restored};
+
+use crate::combine::combine;
+use crate::equation::{parity_row, weights};
+use qfs_base::numbers::Slot;
+use qfs_base::mask::Mask;
+
+mod combine;
+mod equation;
+pub mod laws;
+
+/// Writes the three parity slots of six data slots.
+///
+/// `six` holds the data slots one after another, `size` bytes each, and `parity` takes the parity slots likewise.
+pub fn encode(six: &[u8], size: usize, parity: &mut [u8])
+    requires six { length six.now ≡ 6 * size }
+    requires parity { length parity.old ≡ 3 * size }
+    ensures parity { slots_of 3 size parity.new ≡ parity_slots size (slots_of 6 size six.now) }
+    ensures words { AreCodeWords size (slots_of 6 size six.now ++ slots_of 3 size parity.new) }
+{
+    let (first, rest) = parity.split_at_mut(size);
+    let (second, third) = rest.split_at_mut(size);
+    combine(six, size, &parity_row(0), first);
+    combine(six, size, &parity_row(1), second);
+    combine(six, size, &parity_row(2), third);
+}
+
+/// Writes slot `want` of a block of which at least six slots are at hand.
+///
+/// `nine` holds the slots one after another, `size` bytes each; what stands in the place of a slot outside `have` has no
+/// influence. A slot at hand is copied.
+pub fn restore(have: Mask, nine: &[u8], size: usize, want: Slot, out: &mut [u8])
+    requires nine { length nine.now ≡ 9 * size }
+    requires out { length out.old ≡ size }
+    requires enough { 6 ≤ length have }
+    requires want { want < 9 }
+    ensures restored { out.new ≡ restored have size (slots_of 9 size nine.now) want }
+    ensures completes { (slots : List (List ℕ)) → AreCodeWords size slots
+        → ((j : ℕ) → has_slot have j ≡ true → slot_at (slots_of 9 size nine.now) j ≡ slot_at slots j)
+        → out.new ≡ slot_at slots want }
+{
+    if have.contains(want) {
+        let start = want as usize * size;
+        out.copy_from_slice(&nine[start..start + size]);
+    } else {
+        combine(nine, size, &weights(have, want), out);
+    }
+}
+
+#[cfg(test)]
+mod tests {
+    use super::*;
+    use qfs_base::numbers::SLOTS;
+
+    /// The bytes of a slot in the test of all masks.
+    const SIZE: usize = 4;
+
+    #[test]
+    fn parity_of_one_byte(rt: HostRuntime) {
+        let mut six = [0; 96];
+        six[80] = 0x80;
+        let mut parity = [1; 48];
+        encode(&six, 16, &mut parity);
+        let mut expected = [0; 48];
+        expected[0] = 0x80;
+        expected[16] = 0xcd;
+        expected[32] = 0x98;
+        assert_eq!(rt; parity, expected);
+    }
+
+    #[test]
+    fn six_slots_give_each_slot(rt: HostRuntime) {
+        let whole = code_words();
+        for bits in 0..512u16 {
+            let have = mask_of(bits);
+            if have.count() == 6 {
+                let damaged = without(&whole, have);
+                for want in 0..SLOTS {
+                    let mut out = [0; SIZE];
+                    restore(have, &damaged, SIZE, want, &mut out);
+                    let start = want as usize * SIZE;
+                    assert_eq!(rt;
+                        out.as_slice(),
+                        &whole[start..start + SIZE],
+                        "slot {want} from masks {bits}"
+                    );
+                }
+            }
+        }
+    }
+
+    /// Nine slots: some bytes, and their parity.
+    fn code_words() -> [u8; 36] {
+        let mut whole = [0; 36];
+        let mut state = 1u32;
+        for i in 0..24usize {
+            state = state.wrapping_mul(1_664_525).wrapping_add(1_013_904_223);
+            whole[i] = (state >> 24) as u8;
+        }
+        let mut parity = [0; 12];
+        encode(&whole[..24], SIZE, &mut parity);
+        whole[24..].copy_from_slice(&parity);
+        whole
+    }
+
+    /// The set of the slots whose bits are set.
+    fn mask_of(bits: u16) -> Mask {
+        let mut mask = Mask::none();
+        for slot in 0..SLOTS {
+            if (bits >> slot) & 1 == 1 {
+                mask = mask.with(slot);
+            }
+        }
+        mask
+    }
+
+    /// The slots with other bytes in place of those outside the mask.
+    fn without(whole: &[u8; 36], have: Mask) -> [u8; 36] {
+        let mut damaged = *whole;
+        for slot in 0..SLOTS {
+            if !have.contains(slot) {
+                let start = slot as usize * SIZE;
+                damaged[start..start + SIZE].fill(0xee);
+            }
+        }
+        damaged
+    }
+}

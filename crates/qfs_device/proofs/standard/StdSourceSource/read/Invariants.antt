@@ -1,0 +1,6 @@
+-- The count hasn't fallen.
+use Rattle.std.proofs.Common.{◌≤◌}
+use Rattle.qfs_device.proofs.standard.StdSourceSource.read.Given as goal
+
+abbrev pub invariant-loop : goal.invariant-loop
+invariant-loop l = l.initial.self.faults ≤ l.self.faults

@@ -1,0 +1,4 @@
+pub mod Fault
+pub mod Held
+pub mod HeldLaws
+pub mod Stream

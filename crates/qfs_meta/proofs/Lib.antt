@@ -1,0 +1,11 @@
+pub mod CensusLaws
+pub mod GetLaws
+pub mod GrantLaws
+pub mod KeptLaws
+pub mod ListedLaws
+pub mod PutLaws
+pub mod RequestLaws
+pub mod ServerLaws
+pub mod StepLaws
+pub mod TableLaws
+pub mod TreeLaws

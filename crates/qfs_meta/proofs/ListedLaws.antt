@@ -1,0 +1,101 @@
+-- Lists that are walked, or built for one number after another.
+use Rattle.std.proofs.Common.{◌≡◌, ℕ, suc, ◌+◌, ◌-◌, ◌<◌, ◌≤◌, Bool, true, false, cond, find, Some, None, List, [], ◌∷◌, ◌++◌, length, drop, slice_index_or, map, refl, sym, ap, ◌∙◌, append_assoc, arith}
+use Rattle.std.proofs.lemmas.List.{drop_more}
+use Rattle.std.specs.List.{range_with_len, flat_map}
+use Rattle.std.specs.Option.{option_or}
+
+-- the item that was read stands before those that are left
+pub drop-read : {X : Type 0} (xs : List X) (at : ℕ) (x : X) → at < length xs → x ≡ slice_index_or xs at x → drop at xs ≡ x ∷ drop (at + 1) xs
+drop-read xs at x within read =
+    drop_more xs at x within ∙ ap (λ y. y ∷ drop (at + 1) xs) (sym read)
+
+-- the next number comes first, and then those behind it
+range-next : (at count : ℕ) → at < count → range_with_len at (count - at) ≡ at ∷ range_with_len (at + 1) (count - (at + 1))
+range-next at count within =
+    let e : count - at ≡ suc (count - (at + 1)) = omega arith in
+    ap (range_with_len at) e
+
+-- a list that is built for one number more
+pub built-next : {X : Type 0} (f : ℕ → X) (built longer whole : List X) (at count : ℕ) (x : X) → at < count →
+    built ++ map f (range_with_len at (count - at)) ≡ whole →
+    x ≡ f at →
+    longer ≡ built ++ x ∷ [] →
+    longer ++ map f (range_with_len (at + 1) (count - (at + 1))) ≡ whole
+built-next f built longer whole at count x within before made pushed =
+    ap (λ front. front ++ map f (range_with_len (at + 1) (count - (at + 1)))) pushed
+    ∙ append_assoc built (x ∷ []) (map f (range_with_len (at + 1) (count - (at + 1))))
+    ∙ ap (λ y. built ++ y ∷ map f (range_with_len (at + 1) (count - (at + 1)))) made
+    ∙ ap (λ numbers. built ++ map f numbers) (sym (range-next at count within))
+    ∙ before
+
+-- such a list at its start
+pub built-start : {X : Type 0} (f : ℕ → X) (built : List X) (count : ℕ) → built ≡ [] →
+    built ++ map f (range_with_len 0 (count - 0)) ≡ map f (range_with_len 0 count)
+built-start f built count empty =
+    let all : count - 0 ≡ count = omega arith in
+    ap (λ front. front ++ map f (range_with_len 0 (count - 0))) empty
+    ∙ ap (λ n. map f (range_with_len 0 n)) all
+
+-- the first number whose item passes is this one, or it is further on
+pub find-here : {X : Type 0} (test : X → Bool) (f : ℕ → X) (at count : ℕ) → at < count → test (f at) ≡ true →
+    find test (map f (range_with_len at (count - at))) ≡ Some (f at)
+find-here test f at count within passes =
+    ap (λ numbers. find test (map f numbers)) (range-next at count within)
+    ∙ ap (λ b. cond b (Some (f at)) (find test (map f (range_with_len (at + 1) (count - (at + 1)))))) passes
+
+pub find-next : {X : Type 0} (test : X → Bool) (f : ℕ → X) (at count : ℕ) → at < count → test (f at) ≡ false →
+    find test (map f (range_with_len at (count - at))) ≡ find test (map f (range_with_len (at + 1) (count - (at + 1))))
+find-next test f at count within fails =
+    ap (λ numbers. find test (map f numbers)) (range-next at count within)
+    ∙ ap (λ b. cond b (Some (f at)) (find test (map f (range_with_len (at + 1) (count - (at + 1)))))) fails
+
+-- what is found in two lists is found in the first or else in the second
+pub find_append : {X : Type 0} (test : X → Bool) (xs ys : List X) → find test (xs ++ ys) ≡ option_or (find test xs) (find test ys)
+find_append test [] ys = refl
+find_append test (x ∷ xs) ys =
+    elim (test x) as (λ b. cond b (Some x) (find test (xs ++ ys)) ≡ option_or (cond b (Some x) (find test xs)) (find test ys))
+    [ true ↦ refl | false ↦ find_append test xs ys ]
+
+-- what is found among the lists of numbers is in this one's list, or it is further on
+pub find_flat : {X : Type 0} (test : X → Bool) (f : ℕ → List X) (at count : ℕ) → at < count →
+    find test (flat_map f (range_with_len at (count - at)))
+    ≡ option_or (find test (f at)) (find test (flat_map f (range_with_len (at + 1) (count - (at + 1)))))
+find_flat test f at count within =
+    ap (λ numbers. find test (flat_map f numbers)) (range-next at count within)
+    ∙ find_append test (f at) (flat_map f (range_with_len (at + 1) (count - (at + 1))))
+
+pub find_flat-here : {X : Type 0} (test : X → Bool) (f : ℕ → List X) (at count : ℕ) (x : X) → at < count → find test (f at) ≡ Some x →
+    find test (flat_map f (range_with_len at (count - at))) ≡ Some x
+find_flat-here test f at count x within found =
+    find_flat test f at count within
+    ∙ ap (λ o. option_or o (find test (flat_map f (range_with_len (at + 1) (count - (at + 1)))))) found
+
+pub find_flat-next : {X : Type 0} (test : X → Bool) (f : ℕ → List X) (at count : ℕ) → at < count → find test (f at) ≡ None →
+    find test (flat_map f (range_with_len at (count - at))) ≡ find test (flat_map f (range_with_len (at + 1) (count - (at + 1))))
+find_flat-next test f at count within none =
+    find_flat test f at count within
+    ∙ ap (λ o. option_or o (find test (flat_map f (range_with_len (at + 1) (count - (at + 1)))))) none
+
+-- nothing is found beyond the last number
+pub find_flat-end : {X : Type 0} (test : X → Bool) (f : ℕ → List X) (at count : ℕ) → count ≤ at →
+    find test (flat_map f (range_with_len at (count - at))) ≡ None
+find_flat-end test f at count end =
+    let none : count - at ≡ 0 = omega arith in
+    ap (λ n. find test (flat_map f (range_with_len at n))) none
+
+pub find-end : {X : Type 0} (test : X → Bool) (f : ℕ → X) (at count : ℕ) → count ≤ at →
+    find test (map f (range_with_len at (count - at))) ≡ None
+find-end test f at count end =
+    let none : count - at ≡ 0 = omega arith in
+    ap (λ n. find test (map f (range_with_len at n))) none
+
+-- all numbers are those from 0 on
+pub find_flat-start : {X : Type 0} (test : X → Bool) (f : ℕ → List X) (count : ℕ) →
+    find test (flat_map f (range_with_len 0 (count - 0))) ≡ find test (flat_map f (range_with_len 0 count))
+find_flat-start test f count =
+    let all : count - 0 ≡ count = omega arith in
+    ap (λ n. find test (flat_map f (range_with_len 0 n))) all
+
+pub ruleset find_steps = (find-here, find-next, find-end)
+
+pub ruleset find_flat_steps = (find_flat-here, find_flat-next, find_flat-end, find_flat-start)

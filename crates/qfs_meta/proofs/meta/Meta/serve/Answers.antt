@@ -1,0 +1,34 @@
+use Rattle.std.proofs.Common.{ap, ◌∙◌, sym, subst}
+use Rattle.qfs_base.specs.declared.reply.MetaReply.TheVariants as Told
+use Rattle.qfs_model_meta.specs.Decide.{decide}
+use Rattle.qfs_model_meta.specs.Dropped.{dropped_at}
+use Rattle.qfs_meta.specs.Metaserver.{Metaserver}
+use Rattle.qfs_meta.specs.Serving.{Serves}
+use Rattle.qfs_meta.proofs.RequestLaws.{step-dropped, step-served}
+use Rattle.qfs_meta.proofs.StepLaws.{runs_out}
+use Rattle.qfs_meta.proofs.meta.Meta.serve.Goals as goal
+
+pub returns-in-Some-clause-step : goal.returns-in-Some-clause-step
+returns-in-Some-clause-step c =
+    step-dropped c.args.self.now.layout c.args.actor c.args.self.now.image c.args.request.now _ c.in-Some.turn
+    (ap (λ (meta : Metaserver). dropped_at c.args.actor meta.image.dropped) (sym c.self.view_is)
+    ∙ ap (dropped_at c.args.actor) (sym c.as_slice.ensures) ∙ sym c.dropped_at.ensures ∙ c.in-Some.is)
+
+pub returns-in_default-serve_request-clause-step : goal.returns-in_default-serve_request-clause-step
+returns-in_default-serve_request-clause-step c =
+    let m = c.args.self.now in
+    step-served m.layout c.args.actor m.image c.args.request.now _ Told.NoMemory
+    (ap (λ (meta : Metaserver). dropped_at c.args.actor meta.image.dropped) (sym c.self.view_is)
+    ∙ ap (dropped_at c.args.actor) (sym c.as_slice.ensures) ∙ sym c.dropped_at.ensures ∙ c.in_default.is)
+    (subst (λ new. Serves m.image (decide m.layout c.args.actor m.image c.args.request.now) new Told.NoMemory)
+    (sym (c.in_default-serve_request.ensures.err ∙ ap (λ (meta : Metaserver). meta.image) c.self.view_is))
+    (runs_out m.image _))
+
+pub returns-clause-step : goal.returns-clause-step
+returns-clause-step c =
+    let m = c.args.self.now in
+    step-served m.layout c.args.actor m.image c.args.request.now _ _
+    (ap (λ (meta : Metaserver). dropped_at c.args.actor meta.image.dropped) (sym c.self.view_is)
+    ∙ ap (dropped_at c.args.actor) (sym c.as_slice.ensures) ∙ sym c.dropped_at.ensures ∙ c.in_default.is)
+    (subst (λ (meta : Metaserver). Serves meta.image (decide meta.layout c.args.actor meta.image c.args.request.now) c.serve_request.new.image c.in-Ok.reply)
+    c.self.view_is c.in-Ok.ensures.ok)

@@ -1,0 +1,30 @@
+-- What stays true of the metaserver's state, whatever is asked of it.
+use Rattle.std.specs.Prelude.{ℕ, ◌<◌, ◌≤◌, ◌^◌, List, length, All, IfSome}
+use Rattle.qfs_base.specs.declared.image.Grant.{Grant}
+use Rattle.qfs_base.specs.declared.image.MetaImage.{MetaImage}
+use Rattle.qfs_base.specs.declared.image.SlotRow.{SlotRow}
+
+-- the most chunk servers
+abbrev pub most_servers : ℕ
+most_servers = 64
+
+-- a number that a server may have
+abbrev pub IsServerNumber : ℕ → Type 0
+IsServerNumber number = (1 ≤ number) × (number ≤ most_servers)
+
+-- a slot's grant, if one is pending, is on a server
+abbrev pub IsGrantedOnServer : SlotRow → Type 0
+IsGrantedOnServer row = IfSome row.state.grant (λ (grant : Grant). IsServerNumber grant.copy.server)
+
+abbrev pub AreGrantedOnServers : List SlotRow → Type 0
+AreGrantedOnServers slots = All IsGrantedOnServer slots
+
+-- no counter has passed its type's last value, a place can name each entry of the history, there are
+-- at most 64 servers, and grants are on servers
+pub record IsKept (m : MetaImage) : Type 0 where
+  pub files : m.next_file < 2 ^ 32
+  pub leases : m.next_lease < 2 ^ 64
+  pub condemned : m.next_condemned < 2 ^ 64
+  pub places : length m.history < 2 ^ 32
+  pub servers : length m.servers ≤ most_servers
+  pub grants : AreGrantedOnServers m.slots

@@ -1,0 +1,4 @@
+pub mod Candidates
+pub mod Kept
+pub mod Metaserver
+pub mod Serving

@@ -1,0 +1,77 @@
+//! The requests of a put: a file is created, its slots are granted one after another, and it is
+//! closed.
+ghost use Rattle.std.specs.Prelude.{◌≡◌, IfOk, OnErr};
+ghost use Rattle.qfs_base.specs.declared.chunk.BlockId.{BlockId};
+ghost use Rattle.qfs_model_meta.specs.PutRequests.{decide_create, decide_close};
+ghost use Rattle.qfs_meta.specs.Kept.{IsKept};
+ghost use Rattle.qfs_meta.specs.Serving.{Serves};
+
+use crate::closing::{close_file, first_ungranted};
+use crate::creating::add_file;
+use crate::names::{add_refusal, unclosed_file};
+use crate::turn::{next_place, raise_turn};
+use qfs_base::image::MetaImage;
+use qfs_base::numbers::{ActorId, FileId, Place};
+use qfs_base::path::Path;
+use qfs_base::reply::MetaReply;
+use qfs_stripe::{Layout, LayoutCalls};
+use std::alloc::{AllocError, Global};
+
+/// Makes a file that its actor has yet to write. On want of memory the state stays.
+pub fn create(
+    image: &mut MetaImage,
+    actor: ActorId,
+    path: &Path,
+    command: u16,
+    len: u32,
+) -> Result<MetaReply, AllocError>
+    requires { IsKept image.old }
+    ensures ok { IfOk result (λ reply. Serves image.old (decide_create actor path.now command len image.old) image.new reply) }
+    ensures err { OnErr result (image.new ≡ image.old) }
+    ensures kept { IsKept image.new }
+{
+    let place = next_place(image);
+    if let Some(refusal) = add_refusal(image.tree.as_slice(), path) {
+        return Ok(MetaReply::Refused { refusal, place });
+    }
+    let file = image.next_file;
+    if file == FileId::MAX || place == Place::MAX {
+        return Ok(MetaReply::NoMemory);
+    }
+    add_file(image, path, actor, command, len)?;
+    raise_turn(image);
+    Ok(MetaReply::Created { file, place })
+}
+
+/// Closes a file once all of its slots are granted. On want of memory the state stays.
+pub fn close(
+    alloc: Global,
+    layout: &Layout,
+    image: &mut MetaImage,
+    actor: ActorId,
+    file: FileId,
+) -> Result<MetaReply, AllocError>
+    requires { IsKept image.old }
+    ensures ok { IfOk result (λ reply. Serves image.old (decide_close layout.now actor file image.old) image.new reply) }
+    ensures err { OnErr result (image.new ≡ image.old) }
+    ensures kept { IsKept image.new }
+{
+    let Some(row) = unclosed_file(image.tree.as_slice(), actor, file) else {
+        return Ok(MetaReply::Gone);
+    };
+    let command = row.command;
+    let count = layout.blocks_of(row.len);
+    if let Some(id) = first_ungranted(image.slots.as_slice(), file, count) {
+        return Ok(MetaReply::Incomplete {
+            index: id.block.index,
+            slot: id.slot,
+        });
+    }
+    let place = next_place(image);
+    if place == Place::MAX {
+        return Ok(MetaReply::NoMemory);
+    }
+    close_file(alloc, image, file, actor, command)?;
+    raise_turn(image);
+    Ok(MetaReply::Done { place })
+}

@@ -1,0 +1,70 @@
+//! The requests that are served, each by what it asks.
+ghost use Rattle.std.specs.Prelude.{◌≡◌, true, IfOk, OnErr};
+ghost use Rattle.qfs_model_meta.specs.Decide.{decide};
+ghost use Rattle.qfs_meta.specs.Kept.{IsKept};
+ghost use Rattle.qfs_meta.specs.Metaserver.{is_built};
+ghost use Rattle.qfs_meta.specs.Serving.{Serves};
+
+use crate::gets::{open, release};
+use crate::granting::grant;
+use crate::listed::SLOTS;
+use crate::puts::{close, create};
+use qfs_base::chunk::BlockId;
+use qfs_base::image::MetaImage;
+use qfs_base::numbers::ActorId;
+use qfs_base::reply::MetaReply;
+use qfs_base::request::MetaRequest;
+use qfs_stripe::Layout;
+use std::alloc::{AllocError, Global};
+
+/// Whether a request is one of those that are served.
+pub fn is_built(request: &MetaRequest) -> bool
+    ensures { result ≡ is_built request.now }
+{
+    match request {
+        MetaRequest::Grant { again, .. } => !*again,
+        MetaRequest::Create { .. }
+        | MetaRequest::Close { .. }
+        | MetaRequest::OpenFile { .. }
+        | MetaRequest::Release { .. } => true,
+        _ => false,
+    }
+}
+
+/// Serves a request of an actor that wasn't dropped. On want of memory the state stays.
+pub fn serve_request(
+    alloc: Global,
+    layout: &Layout,
+    image: &mut MetaImage,
+    actor: ActorId,
+    request: &MetaRequest,
+) -> Result<MetaReply, AllocError>
+    requires kept { IsKept image.old }
+    requires built { is_built request.now ≡ true }
+    ensures ok { IfOk result (λ reply. Serves image.old (decide layout.now actor image.old request.now) image.new reply) }
+    ensures err { OnErr result (image.new ≡ image.old) }
+    ensures kept { IsKept image.new }
+{
+    match request {
+        MetaRequest::Create { path, command, len } => create(image, actor, path, *command, *len),
+        MetaRequest::Grant {
+            file,
+            index,
+            slot,
+            ..
+        } => {
+            if *slot >= SLOTS {
+                return Ok(MetaReply::Nothing);
+            }
+            let block = BlockId {
+                file: *file,
+                index: *index,
+            };
+            grant(alloc, layout, image, actor, block, *slot)
+        }
+        MetaRequest::Close { file } => close(alloc, layout, image, actor, *file),
+        MetaRequest::OpenFile { path } => open(alloc, layout, image, actor, path),
+        MetaRequest::Release { lease } => Ok(release(alloc, image, actor, *lease)),
+        _ => unreachable!("only requests that are served come here"),
+    }
+}

@@ -1,0 +1,3 @@
+pub mod Nodes
+pub mod Disks
+pub mod Faults

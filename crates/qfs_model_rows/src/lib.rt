@@ -1,0 +1,11 @@
+//! Worked runs: the definitions give exactly what was worked out by hand. Each run is a script with
+//! an order of steps, and a function that does nothing, whose contract says that the order fits the
+//! script and is whole, and what the run prints.
+#![tactic(auto)]
+
+mod audits;
+mod failures;
+mod plain_paths;
+mod refusals;
+mod repairs;
+mod restarts;

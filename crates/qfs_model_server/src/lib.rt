@@ -1,0 +1,2 @@
+//! A chunk server as definitions: its state and its step.
+#![tactic(auto)]

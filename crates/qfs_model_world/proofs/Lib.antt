@@ -1,0 +1,3 @@
+pub mod OneActor
+pub mod OnLiterals
+pub mod Orders

@@ -1,0 +1,46 @@
+-- The headline, as far as it speaks of a script and an order alone: what is printed, one file history, every get, no deletion,
+-- and the replayed metaserver.
+use Rattle.std.specs.Prelude.{◌≡◌, ℕ, ◌<◌, ◌+◌, ◌==◌, ◌&&◌, Bool, List, count_by, length, Option, IsTrue}
+use Rattle.qfs_base.specs.declared.history.Outcome.TheVariants as Ended
+use Rattle.qfs_base.specs.declared.history.Step.{Step}
+use Rattle.qfs_base.specs.declared.image.MetaImage.{MetaImage}
+use Rattle.qfs_base.specs.declared.script.Script.{Script}
+use Rattle.qfs_model_actor.specs.Work.{node_of_request}
+use Rattle.qfs_model_text.specs.Order.{same_outcome}
+use Rattle.qfs_model_world.specs.Deletion.{NoDeletion}
+use Rattle.qfs_model_world.specs.Drawn.{is_drawn}
+use Rattle.qfs_model_world.specs.Events.{Event}
+use Rattle.qfs_model_world.specs.EveryGet.{EveryGet}
+use Rattle.qfs_model_world.specs.Fits.{fits, is_whole}
+use Rattle.qfs_model_world.specs.Replayed.{Replayed}
+use Rattle.qfs_model_world.specs.Reports.{OneFileHistory}
+use Rattle.qfs_model_world.specs.Text.{text}
+
+-- an order fits its script and is whole, and its text was written
+pub record IsPrinted (script : Script) (order : List Step) (written : List ℕ) : Type 0 where
+  pub fitting : IsTrue (fits script order)
+  pub whole : IsTrue (is_whole script order)
+  pub text_is : written ≡ text script order
+
+-- the same of the order that is drawn from a number
+pub record IsPrintedDrawn (number : ℕ) (script : Script) (order : List Step) (written : List ℕ) : Type 0 where
+  pub printed : IsPrinted script order written
+  pub drawn : IsTrue (is_drawn number script order)
+
+-- an order is short: a version fits its 32 bits
+abbrev pub IsShort : List Step → Type 0
+IsShort order = length order < 4294967296
+
+-- what holds of every order that fits and is short, where the disks spell this in the end
+pub record HoldsOf (script : Script) (order : List Step) (spelled : Option MetaImage) : Type 0 where
+  pub one_history : OneFileHistory script order
+  pub every_get : EveryGet script order
+  pub no_deletion : NoDeletion script order
+  pub replayed : Replayed script order spelled
+
+-- how many steps failed at a node: 0 is the metaserver, s is server s
+unfoldable pub is_failed_at : ℕ → Event → Bool
+is_failed_at node event = (node_of_request event.request == node) && same_outcome event.outcome Ended.Failed
+
+unfoldable pub failed_at : ℕ → List Event → ℕ
+failed_at node steps = count_by (is_failed_at node) steps

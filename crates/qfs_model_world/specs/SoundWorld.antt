@@ -1,0 +1,244 @@
+-- The sound world: what holds after every order that fits, in nine parts. What the metaserver alone can tell of each part is
+-- a fact of its own; here stand what ties it to the chunk servers and to the actors.
+use Rattle.std.specs.Prelude.{◌≡◌, ℕ, ⊤, ◌<◌, ◌≤◌, ◌⊎◌, ◌==◌, ◌&&◌, Bool, false, List, [], ◌∷◌, map, flat_map, length, take, drop, slice_index, Option, Some, None, IfSome, is_some, IsTrue, find}
+use Rattle.std.specs.List.{list_any, IsDistinct, enumerate_from}
+use Rattle.qfs_base.specs.Files.{same_pair}
+use Rattle.qfs_base.specs.Key.{key_cmp}
+use Rattle.qfs_base.specs.KeyMap.{has_key}
+use Rattle.qfs_base.specs.Layout.{rows_of}
+use Rattle.qfs_base.specs.Shape.{Shape}
+use Rattle.qfs_base.specs.Table.{Each}
+use Rattle.qfs_base.specs.declared.chunk.BlockId.{BlockId}
+use Rattle.qfs_base.specs.declared.chunk.ChunkKey.{ChunkKey}
+use Rattle.qfs_base.specs.declared.chunk.Copy.{Copy}
+use Rattle.qfs_base.specs.declared.history.Entry.{Entry}
+use Rattle.qfs_base.specs.declared.history.Entry.TheVariants as Wrote
+use Rattle.qfs_base.specs.declared.history.Step.{Step}
+use Rattle.qfs_base.specs.declared.image.Grant.{Grant}
+use Rattle.qfs_base.specs.declared.image.Lease.{Lease}
+use Rattle.qfs_base.specs.declared.image.MetaImage.{MetaImage}
+use Rattle.qfs_base.specs.declared.image.SlotRow.{SlotRow}
+use Rattle.qfs_base.specs.declared.image.TreeRow.{TreeRow}
+use Rattle.qfs_base.specs.declared.reply.ChunkAnswer.{ChunkAnswer}
+use Rattle.qfs_base.specs.declared.reply.ChunkAnswer.TheVariants as Did
+use Rattle.qfs_base.specs.declared.reply.ChunkReply.{ChunkReply}
+use Rattle.qfs_base.specs.declared.reply.Condemned.{Condemned}
+use Rattle.qfs_base.specs.declared.reply.Granted.{Granted}
+use Rattle.qfs_base.specs.declared.reply.MetaReply.{MetaReply}
+use Rattle.qfs_base.specs.declared.reply.MetaReply.TheVariants as Told
+use Rattle.qfs_base.specs.declared.reply.NodeReply.{NodeReply}
+use Rattle.qfs_base.specs.declared.reply.NodeReply.TheVariants as From
+use Rattle.qfs_base.specs.declared.reply.Opened.{Opened}
+use Rattle.qfs_base.specs.declared.request.ChunkRequest.{ChunkRequest}
+use Rattle.qfs_base.specs.declared.request.ChunkRequest.TheVariants as Serve
+use Rattle.qfs_base.specs.declared.request.NodeRequest.{NodeRequest}
+use Rattle.qfs_base.specs.declared.request.NodeRequest.TheVariants as To
+use Rattle.qfs_base.specs.declared.script.Script.{Script}
+use Rattle.qfs_model_actor.specs.Actor.{Actor}
+use Rattle.qfs_model_meta.specs.Dropped.{dropped_at}
+use Rattle.qfs_model_meta.specs.Grammar.{IsImage}
+use Rattle.qfs_model_meta.specs.Past.{Past, SlotCopy, ListedCopy, was_granted}
+use Rattle.qfs_model_meta.specs.Servers.{server_at, is_live}
+use Rattle.qfs_model_meta.specs.Slots.{slot_at, same_block, granted_copy}
+use Rattle.qfs_model_meta.specs.Sound.{GrantedOnce, LivesRise, LeasesHold, IsLetGo, OneServerEach, TreeIsHistory, is_live_lease, same_lease}
+use Rattle.qfs_model_meta.specs.TreeRows.{file_stands, unclosed_file}
+use Rattle.qfs_model_server.specs.Server.{Server}
+use Rattle.qfs_model_world.specs.Audit.{key_at}
+use Rattle.qfs_model_world.specs.Events.{Event, events, past_of}
+use Rattle.qfs_model_world.specs.FileHistory.{IsHistoryOf}
+use Rattle.qfs_model_world.specs.Heard.{Exchange, Holding, Inventoried, exchanges_of, holding_of, inventories_of}
+use Rattle.qfs_model_world.specs.Made.{Creation, creations, creation_of, made, right_bytes}
+use Rattle.qfs_model_world.specs.Puts.{put_path, puts_of}
+use Rattle.qfs_model_world.specs.World.{World, numbered, after}
+
+-- the servers with their numbers, and all that actors were told in their present commands
+abbrev pub numbered_servers : World → List (ℕ × Server)
+numbered_servers world = enumerate_from 1 world.servers
+
+abbrev pub all_exchanges : World → List Exchange
+all_exchanges world = flat_map exchanges_of world.actors
+
+abbrev pub all_inventories : World → List Inventoried
+all_inventories world = flat_map inventories_of world.actors
+
+-- ---- right copies
+
+-- a Fetch of a copy that was answered with bytes got that part of the right ones
+abbrev pub IsRightFetch : Shape → (ℕ → List ℕ) → ChunkReply → ChunkAnswer → ChunkRequest → Type 0
+IsRightFetch layout bytes reply Did.Fetched (Serve.Fetch key life from room) =
+    reply.room ≡ take (length room) (drop from (right_bytes layout bytes key))
+IsRightFetch layout bytes reply answer request = ⊤
+
+abbrev pub FetchedRight : Shape → (ℕ → List ℕ) → NodeReply → NodeRequest → Type 0
+FetchedRight layout bytes (From.Chunk reply) (To.Chunk server request) =
+    IsRightFetch layout bytes reply reply.answer request
+FetchedRight layout bytes reply request = ⊤
+
+-- an opened file has the length of its bytes, and a granted block has their rows
+abbrev pub TellsLengths : Shape → (ℕ → List ℕ) → MetaReply → Type 0
+TellsLengths layout bytes (Told.Opened o) = o.len ≡ length (bytes o.file)
+TellsLengths layout bytes (Told.Granted g) =
+    g.rows ≡ rows_of layout.s layout.r (length (bytes g.block.file)) g.block.index
+TellsLengths layout bytes reply = ⊤
+
+abbrev pub ToldLengths : Shape → (ℕ → List ℕ) → NodeReply → Type 0
+ToldLengths layout bytes (From.Meta reply) = TellsLengths layout bytes reply
+ToldLengths layout bytes reply = ⊤
+
+-- every copy on a server is right, and so is what actors read of them; they are told the lengths of the files' bytes
+pub record RightCopies (world : World) (bytes : ℕ → List ℕ) : Type 0 where
+  pub stored : Each (λ (server : Server).
+      Each (λ (copy : ChunkKey × List ℕ). copy.1 ≡ right_bytes world.layout bytes copy.0) server.copies) world.servers
+  pub fetched : Each (λ (e : Exchange). FetchedRight world.layout bytes e.1 e.0) (all_exchanges world)
+  pub lengths : Each (λ (e : Exchange). ToldLengths world.layout bytes e.1) (all_exchanges world)
+
+-- ---- granted once
+
+-- the copy of a key on this server in this life was granted
+abbrev pub WasGrantedOn : Past → ℕ → ℕ → ChunkKey → Type 0
+WasGrantedOn past server life key =
+    IsTrue (was_granted past key.block key.slot (record { server = server; life = life; version = key.version }))
+
+-- each version of a slot was granted once, to one server and life; each copy on a server, and each key that a server told an
+-- actor, was granted to that server in that life
+pub record GrantedOnceIn (world : World) (past : Past) : Type 0 where
+  pub granted : GrantedOnce past world.meta
+  pub stored : Each (λ (s : ℕ × Server).
+      Each (λ (copy : ChunkKey × List ℕ). WasGrantedOn past s.0 s.1.life copy.0) s.1.copies) (numbered_servers world)
+  pub told : Each (λ (i : Inventoried). Each (WasGrantedOn past i.server i.life) i.keys) (all_inventories world)
+
+-- ---- lives
+
+-- an inventory's life is at most its server's
+abbrev pub IsPastLife : World → Inventoried → Type 0
+IsPastLife world i = IfSome (numbered world.servers i.server) (λ (server : Server). i.life ≤ server.life)
+
+-- a server's known life is at most its life; a granted or listed life is at most the known one
+pub record LivesAgree (world : World) (past : Past) : Type 0 where
+  pub known : Each (λ (s : ℕ × Server). (server_at world.meta.servers s.0).life ≤ s.1.life) (numbered_servers world)
+  pub granted : LivesRise past world.meta
+  pub listed : Each (λ (l : ListedCopy).
+      l.of_slot.copy.life ≤ (server_at world.meta.servers l.of_slot.copy.server).life) past.listed
+  pub told : Each (IsPastLife world) (all_inventories world)
+
+-- ---- copies stored
+
+-- a copy of a slot is on its server, unless the server was emptied since
+abbrev pub IsStored : World → SlotCopy → Type 0
+IsStored world c =
+    IfSome (numbered world.servers c.copy.server) (λ (server : Server).
+        server.life ≡ c.copy.life → IsTrue (has_key key_cmp server.copies (key_at c.block c.slot c.copy)))
+
+-- a slot's current copy, or its pending grant
+abbrev pub IsStoredOf : World → BlockId → ℕ → Option Copy → Type 0
+IsStoredOf world block slot copy =
+    IfSome copy (λ copy. IsStored world (record { block = block; slot = slot; copy = copy }))
+
+-- whether a step stored a copy
+unfoldable pub is_key : ChunkKey → ChunkKey → Bool
+is_key a b = same_block a.block b.block && (a.slot == b.slot) && (a.version == b.version)
+
+unfoldable pub puts_key : ChunkKey → ℕ → ChunkRequest → Bool
+puts_key key life (Serve.Put other asked bytes) = is_key other key && (asked == life)
+puts_key key life request = false
+
+unfoldable pub put_stored : ChunkKey → ℕ → ChunkRequest → ChunkAnswer → Bool
+put_stored key life request Did.Stored = puts_key key life request
+put_stored key life request answer = false
+
+unfoldable pub stores_copy : SlotCopy → NodeReply → NodeRequest → Bool
+stores_copy c (From.Chunk reply) (To.Chunk server request) =
+    (server == c.copy.server) && put_stored (key_at c.block c.slot c.copy) c.copy.life request reply.answer
+stores_copy c (From.Chunk reply) (To.Meta request) = false
+stores_copy c (From.Meta reply) request = false
+
+unfoldable pub was_stored : List Event → SlotCopy → Bool
+was_stored steps c = list_any (λ (event : Event). stores_copy c event.reply event.request) steps
+
+-- a current copy is on its server, and so is that of a pending grant once its Put was answered Stored
+pub record CopiesStored (world : World) (steps : List Event) : Type 0 where
+  pub current : Each (λ (row : SlotRow). IsStoredOf world row.block row.slot row.state.current) world.meta.slots
+  pub granted : Each (λ (row : SlotRow). IfSome (granted_copy row.state.grant) (λ copy.
+      IsTrue (was_stored steps (record { block = row.block; slot = row.slot; copy = copy }))
+      → IsStored world (record { block = row.block; slot = row.slot; copy = copy }))) world.meta.slots
+
+-- ---- leases
+
+-- a copy that a live lease lists is on its server, unless the server was emptied
+abbrev pub IsKeptStored : World → ListedCopy → Type 0
+IsKeptStored world listed =
+    IsTrue (is_live_lease listed.lease world.meta.leases && is_live world.meta.servers listed.of_slot.copy)
+    → IsStored world listed.of_slot
+
+-- each lease was given once, to one actor and file, and the copies that it lists stay readable
+pub record LeasesKeep (world : World) (past : Past) : Type 0 where
+  pub leases : LeasesHold past world.meta
+  pub stored : Each (IsKeptStored world) past.listed
+
+-- ---- held by its actor
+
+-- a pending grant is there and the actor's own
+abbrev pub HasGrant : MetaImage → ℕ → Granted → Type 0
+HasGrant m actor g =
+    (slot_at m.slots g.block g.slot).grant ≡ Some (record
+        { copy = record { server = g.server; life = g.life; version = g.version }
+        ; actor = actor
+        ; lease = g.lease
+        })
+
+-- only the file of a recovery or move may be removed, and its grant with it
+abbrev pub KeepsGrant : MetaImage → ℕ → Granted → Type 0
+KeepsGrant m actor g =
+    HasGrant m actor g
+    ⊎ ((0 < g.lease) × (file_stands g.block.file m.tree ≡ false))
+
+-- what a command got and hasn't given back is there and its actor's own
+pub record KeepsHolding (m : MetaImage) (actor : ℕ) (holding : Holding) : Type 0 where
+  pub file : IfSome holding.file (λ file. IsTrue (is_some (unclosed_file actor file m.tree)))
+  pub lease : IfSome holding.lease (λ lease. IsTrue (list_any (same_lease lease) m.leases))
+  pub grants : Each (KeepsGrant m actor) holding.grants
+
+abbrev pub HeldByActors : World → Type 0
+HeldByActors world =
+    Each (λ (actor : Actor). dropped_at actor.number world.meta.dropped ≡ None
+        → KeepsHolding world.meta actor.number (holding_of actor)) world.actors
+
+-- ---- the tree is the history
+
+-- an entry that created or closed a file is that of the command which made the file
+abbrev pub IsMadeBy : Script → List Event → Entry → Type 0
+IsMadeBy script steps (Wrote.Created file path) =
+    (c : Creation) × (creation_of file steps ≡ Some c) × (put_path script c.actor c.command ≡ Some path)
+IsMadeBy script steps (Wrote.Closed file actor command) =
+    creation_of file steps ≡ Some (record { file = file; actor = actor; command = command })
+IsMadeBy script steps entry = ⊤
+
+-- the metaserver keeps for a file the put that made it, and the length of its bytes
+abbrev pub KeepsMaker : Script → List Event → TreeRow → Type 0
+KeepsMaker script steps row =
+    (row.file ≡ 0)
+    ⊎ ((creation_of row.file steps ≡ Some (record { file = row.file; actor = row.actor; command = row.command }))
+        × (row.len ≡ length (puts_of script row.actor row.command)))
+
+-- the name tree is that of a legal history, in which each file was made by a put of its own
+pub record TreeTellsHistory (script : Script) (world : World) (steps : List Event) : Type 0 where
+  pub tree : TreeIsHistory world.meta
+  pub legal : IsHistoryOf script world.meta.history
+  pub made_once : IsDistinct same_pair (map (λ (c : Creation). (c.actor, c.command)) (creations steps))
+  pub makers : Each (IsMadeBy script steps) world.meta.history
+  pub kept : Each (KeepsMaker script steps) world.meta.tree
+
+-- ---- all parts
+
+-- the world after an order is sound. The first line is the grammar of the metaserver's state, on which the parts rest
+pub record IsSoundWorld (script : Script) (order : List Step) : Type 0 where
+  pub image : IsImage (after script order).meta
+  pub right_copies : RightCopies (after script order) (made script (events script order))
+  pub granted_once : GrantedOnceIn (after script order) (past_of (events script order))
+  pub lives : LivesAgree (after script order) (past_of (events script order))
+  pub copies_stored : CopiesStored (after script order) (events script order)
+  pub leases : LeasesKeep (after script order) (past_of (events script order))
+  pub ordered : Each (IsLetGo (past_of (events script order)) (after script order).meta) (past_of (events script order)).ordered
+  pub one_server : OneServerEach (after script order).meta
+  pub held_by_actors : HeldByActors (after script order)
+  pub tree : TreeTellsHistory script (after script order) (events script order)

@@ -1,0 +1,5 @@
+pub mod CommandLines
+pub mod CommandTexts
+pub mod NumberTexts
+pub mod OnLiterals
+pub mod Splits

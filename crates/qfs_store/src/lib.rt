@@ -1,0 +1,6 @@
+//! A chunk server: which copies it has, and how it serves requests for them on its device.
+#![tactic(auto)]
+
+mod shelf;
+
+pub use shelf::Shelf;
