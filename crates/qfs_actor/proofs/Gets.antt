@@ -1,13 +1,12 @@
 -- What is left of a get at its stages.
-use Rattle.std.proofs.Common.{◌≡◌, ◌≢◌, ◌∙◌, refl, sym, ap, arith, ℕ, zero, suc, ◌+◌, ◌-◌, ◌*◌, ◌<◌, ◌≤◌, ◌==◌, Bool, true, false, List, [], ◌∷◌, ◌++◌, length, min, map, nat_lt, replicate, Option, Some, None, Ok, Err, ◌⊎◌, inl, inr, append_assoc}
-use Rattle.std.specs.Prelude.{slice_get, slice_set, count_by, is_ok}
-use Rattle.std.specs.List.{All, range_with_len}
+use Rattle.std.proofs.Common.{◌≡◌, ◌≢◌, ◌∙◌, refl, sym, ap, arith, ℕ, suc, ◌+◌, ◌-◌, ◌*◌, ◌<◌, ◌≤◌, ◌==◌, true, false, List, [], ◌∷◌, ◌++◌, length, min, nat_lt, Option, Some, None, Ok, Err}
+use Rattle.std.specs.Prelude.{slice_get, slice_set}
+use Rattle.std.specs.List.{range_with_len}
 use Rattle.std.proofs.lemmas.Bool.Decides.{nat_tests}
 use Rattle.std.proofs.lemmas.List.FromFn.{get_or-range_with_len}
 use Rattle.std.proofs.lemmas.Option.{slice_get-map, slice_get_read}
 use Rattle.std.proofs.lemmas.List.Elements.{All-push, All-nil}
 use Rattle.std.proofs.lemmas.Grind.{common_steps}
-use Rattle.qfs_base.specs.Layout.{blocks_of}
 use Rattle.qfs_base.specs.Shape.{Shape}
 use Rattle.qfs_base.specs.declared.chunk.Copy.{Copy}
 use Rattle.qfs_base.specs.declared.command.Range.{Range}
@@ -18,16 +17,13 @@ use Rattle.qfs_base.specs.declared.reply.ChunkAnswer.TheVariants as Did
 use Rattle.qfs_base.specs.declared.reply.ChunkReply.{ChunkReply}
 use Rattle.qfs_base.specs.declared.reply.MetaReply.{MetaReply}
 use Rattle.qfs_base.specs.declared.reply.MetaReply.TheVariants as Said
-use Rattle.qfs_base.specs.declared.reply.NodeReply.TheVariants as From
 use Rattle.qfs_base.specs.declared.reply.Opened.{Opened}
 use Rattle.qfs_model_actor.specs.Ask.{on_served, on_chunk, after_fetch, filled, fetch}
 use Rattle.qfs_model_actor.specs.Get.{reading_of, read_blocks, listed_in, read_if_whole, read_range, read_if_any, range_of, was_opened}
 use Rattle.qfs_model_actor.specs.Hold.{opened, unnamed, end_with}
-use Rattle.qfs_model_actor.specs.Pieces.{Piece}
 use Rattle.qfs_model_actor.specs.Put.{slots_from}
 use Rattle.qfs_model_actor.specs.Read.{Source, source_of_listed, sources_of, are_too_few, with_enough, go_on_or_stop, at_source, read_slots, read_windows, read_block}
 use Rattle.qfs_model_actor.specs.Tree.{refused}
-use Rattle.qfs_model_actor.specs.Windows.{blocks_touched, windows_touched}
 use Rattle.qfs_model_actor.specs.Work.{Work, goes_on}
 use Rattle.qfs_actor.specs.declared.stage.OpenFile.{OpenFile}
 use Rattle.qfs_actor.specs.declared.stage.Held.TheVariants as Holds

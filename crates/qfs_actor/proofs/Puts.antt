@@ -1,6 +1,5 @@
 -- What is left of a put at its stages.
-use Rattle.std.proofs.Common.{inl, inr, ◌≡◌, ◌∙◌, refl, sym, ap, arith, ℕ, zero, suc, ◌+◌, ◌-◌, ◌*◌, ◌<◌, ◌≤◌, Bool, true, false, List, [], ◌∷◌, length, ◌⊎◌}
-use Rattle.std.specs.List.{range_with_len}
+use Rattle.std.proofs.Common.{inl, inr, ◌≡◌, refl, arith, ℕ, zero, suc, ◌+◌, ◌-◌, ◌<◌, ◌≤◌, Bool, true, false, List, length, ◌⊎◌}
 use Rattle.qfs_base.specs.Layout.{blocks_of}
 use Rattle.qfs_base.specs.Shape.{Shape}
 use Rattle.qfs_base.specs.declared.chunk.Copy.{Copy}
@@ -12,7 +11,7 @@ use Rattle.qfs_base.specs.declared.reply.MetaReply.TheVariants as Said
 use Rattle.qfs_model_actor.specs.Ask.{on_served, after_store}
 use Rattle.qfs_model_actor.specs.Grants.{is_grant_of, if_meant, with_grant_of}
 use Rattle.qfs_model_actor.specs.Hold.{unnamed}
-use Rattle.qfs_model_actor.specs.Put.{created, chosen, ask_grant, store, store_slot, store_slots, store_blocks, close_file, put_blocks_from, put_slots_from, slots_from, blocks_from}
+use Rattle.qfs_model_actor.specs.Put.{created, chosen, ask_grant, store, store_slot, store_slots, store_blocks, close_file, put_blocks_from, put_slots_from}
 use Rattle.qfs_model_actor.specs.Read.{Source}
 use Rattle.qfs_model_actor.specs.Tree.{refused}
 use Rattle.qfs_model_actor.specs.Work.{Work, for_each}

@@ -1,5 +1,5 @@
 -- What a command asks at each stage.
-use Rattle.std.proofs.Common.{◌≡◌, ◌∙◌, refl, sym, ap, arith, ℕ, ◌+◌, ◌*◌, ◌<◌, List, Option, Some, Ok, length, replicate}
+use Rattle.std.proofs.Common.{◌≡◌, refl, arith, ℕ, ◌*◌, ◌<◌, List, Option, Some, Ok, length, replicate}
 use Rattle.std.specs.Prelude.{slice_get}
 use Rattle.qfs_base.specs.Recipe.{bytes_of}
 use Rattle.qfs_base.specs.Shape.{Shape}

@@ -1,14 +1,13 @@
 -- The row of a get: which window it is, and the bytes that its six stripes give.
-use Rattle.std.proofs.Common.{inl, inr, ◌≡◌, ◌∙◌, refl, sym, ap, arith, ℕ, zero, suc, ◌+◌, ◌-◌, ◌*◌, ◌/◌, ◌%◌, ◌<◌, ◌≤◌, min, List, [], ◌∷◌, ◌++◌, length, take, drop, map}
+use Rattle.std.proofs.Common.{inl, inr, ◌≡◌, refl, arith, ℕ, suc, ◌+◌, ◌*◌, ◌/◌, ◌%◌, ◌<◌, ◌≤◌, min, List, [], ◌∷◌, length, take, drop}
 use Rattle.std.proofs.Math.Nat.{zero-mul, zero-div, sub-zero, div-eq_of_lt, mod-eq_of_lt, mod_self, div-eq_of_eq-mul_left, eq-or-lt_of_le}
 use Rattle.std.proofs.Math.Seq.{take-length}
 use Rattle.std.proofs.lemmas.List.{append-nil}
 use Rattle.std.specs.Int.{div_ceil}
-use Rattle.std.specs.List.{All, flat_map, range_with_len}
+use Rattle.std.specs.List.{All, flat_map}
 use Rattle.qfs_base.specs.Layout.{row_bytes, block_bytes}
 use Rattle.qfs_base.specs.Shape.{Shape}
-use Rattle.qfs_base.specs.declared.layout.Window.{Window}
-use Rattle.qfs_model_actor.specs.Pieces.{Piece, piece_of, given_or_restored, data_of, row_of, rows_of_file}
+use Rattle.qfs_model_actor.specs.Pieces.{piece_of, given_or_restored, data_of, row_of, rows_of_file}
 use Rattle.qfs_model_actor.specs.Windows.{window_at, windows_of_rows, blocks_touched, windows_touched, window_offset, cut_to_range}
 use Rattle.qfs_actor.specs.Rest.{first_row, pieces_from, row_read, HasStripes}
 

@@ -1,5 +1,5 @@
 -- The bytes of data slots and parity slots, one stripe and one slot after another.
-use Rattle.std.proofs.Common.{true, false, nat_lt, ◌≡◌, ◌∙◌, refl, sym, ap, arith, ℕ, suc, ◌+◌, ◌-◌, ◌*◌, ◌/◌, ◌%◌, ◌<◌, ◌≤◌, List, [], ◌∷◌, length, map, get_or, drop, bit_xor, inl, inr, rules}
+use Rattle.std.proofs.Common.{true, false, nat_lt, ◌≡◌, ◌∙◌, refl, sym, ap, arith, ℕ, ◌+◌, ◌-◌, ◌*◌, ◌<◌, ◌≤◌, List, length, map, get_or, drop, bit_xor, inl, inr, rules}
 use Rattle.std.proofs.lemmas.Nat.{div-mul-add, mod-mul-add, xor_comm}
 use Rattle.std.proofs.lemmas.Grind.{common_steps, same_number_lists}
 use Rattle.std.proofs.lemmas.List.{drop_more, places}
@@ -11,7 +11,7 @@ use Rattle.std.specs.List.{range_with_len}
 use Rattle.qfs_base.specs.Shape.{Shape}
 use Rattle.qfs_base.specs.Layout.{rows_of}
 use Rattle.qfs_galois.specs.Field.{product, power}
-use Rattle.qfs_model_slot.specs.CodeWord.{weighted_sum, parity, data_slots}
+use Rattle.qfs_model_slot.specs.CodeWord.{weighted_sum, parity}
 use Rattle.qfs_model_slot.specs.Slot.{data_byte, data_bytes, byte_of_kind, slot_byte, slot_of}
 
 -- a list is told by a function where each of its items is

@@ -1,5 +1,5 @@
 -- What becomes of a reply at each stage.
-use Rattle.std.proofs.Common.{◌≡◌, ◌∙◌, refl, sym, ap, ℕ, List, []}
+use Rattle.std.proofs.Common.{◌≡◌, refl, ℕ, List}
 use Rattle.qfs_base.specs.Shape.{Shape}
 use Rattle.qfs_base.specs.declared.chunk.Copy.{Copy}
 use Rattle.qfs_base.specs.declared.command.Command.{Command}
@@ -21,7 +21,7 @@ use Rattle.qfs_actor.specs.declared.stage.PutSlot.{PutSlot}
 use Rattle.qfs_actor.specs.declared.stage.Stage.{Stage}
 use Rattle.qfs_actor.specs.declared.stage.Stage.TheVariants as At
 use Rattle.qfs_actor.specs.Forms.{IsBuilt, on_first}
-use Rattle.qfs_actor.specs.Rest.{hold_of, hold_at, rest_of_grant, rest_at, grant_of, on_grant, on_store, on_fetch, on_return, on_answer_at, AsksMeta, IsAt}
+use Rattle.qfs_actor.specs.Rest.{hold_of, hold_at, rest_of_grant, rest_at, grant_of, on_grant, on_store, on_return, on_answer_at, AsksMeta, IsAt}
 use Rattle.qfs_actor.proofs.Puts.{rest_of_grant-asks}
 use Rattle.qfs_actor.proofs.Gets.{rest_of_row-fetch}
 

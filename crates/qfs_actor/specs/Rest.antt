@@ -1,6 +1,5 @@
 -- What is left of a command at each of its stages.
-use Rattle.std.specs.Prelude.{◌≡◌, ℕ, zero, suc, ◌+◌, ◌-◌, ◌*◌, ◌<◌, ◌≤◌, Bool, true, false, List, [], ◌∷◌, ◌++◌, map, length, All, Option, Some, None, Ok, slice_get, unwrap_or, ⊤, ◌⊎◌}
-use Rattle.std.specs.List.{enumerate_from}
+use Rattle.std.specs.Prelude.{◌≡◌, ℕ, zero, suc, ◌+◌, ◌-◌, ◌*◌, ◌<◌, ◌≤◌, Bool, true, List, [], ◌∷◌, ◌++◌, length, All, Option, Some, None, Ok, slice_get, unwrap_or, ⊤, ◌⊎◌}
 use Rattle.qfs_base.specs.Layout.{blocks_of}
 use Rattle.qfs_base.specs.Shape.{Shape}
 use Rattle.qfs_base.specs.declared.chunk.Copy.{Copy}

@@ -1,6 +1,4 @@
-use Rattle.std.proofs.Common.{◌≡◌, ◌+◌, ◌-◌, ◌*◌, ◌<◌, ◌∙◌, refl, sym, ap, arith, length, get_or, bit_xor}
-use Rattle.qfs_galois.specs.Field.{product, power}
-use Rattle.qfs_model_slot.specs.CodeWord.{weighted_sum}
+use Rattle.std.proofs.Common.{◌≡◌, ◌+◌, ◌-◌, ◌∙◌, refl, sym, arith}
 use Rattle.qfs_model_slot.specs.Slot.{data_bytes}
 use Rattle.qfs_actor.proofs.Stripes.{next_weight, no_slots-sum, all_slots-sum}
 use Rattle.qfs_actor.proofs.chunk.add_data.Goals as goal

@@ -1,4 +1,4 @@
-use Rattle.std.proofs.Common.{◌≡◌, take, List}
+use Rattle.std.proofs.Common.{◌≡◌, take}
 use Rattle.std.specs.List.{flat_map}
 use Rattle.qfs_actor.proofs.ending.joined.Given as goal
 

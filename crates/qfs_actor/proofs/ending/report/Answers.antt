@@ -1,6 +1,6 @@
-use Rattle.std.proofs.Common.{◌≡◌, ◌∙◌, sym, ap, ℕ, List}
+use Rattle.std.proofs.Common.{◌∙◌, sym, ap, ℕ, List}
 use Rattle.qfs_base.specs.declared.command.Reply.TheVariants as Report
-use Rattle.qfs_actor.specs.Rest.{report_of, IsEnding}
+use Rattle.qfs_actor.specs.Rest.{report_of}
 use Rattle.qfs_actor.proofs.Rows.{row_read-joined}
 use Rattle.qfs_actor.proofs.ending.report.Goals as goal
 

@@ -1,4 +1,4 @@
-use Rattle.std.proofs.Common.{◌≡◌, ◌≢◌, ◌∙◌, sym, ap, arith, length}
+use Rattle.std.proofs.Common.{◌≡◌, ◌≢◌, ◌∙◌, sym, ap, length}
 use Rattle.qfs_base.specs.Shape.{Shape}
 use Rattle.qfs_actor.specs.Rest.{rest_after, rest_at, hold_of, report_of, fault_report}
 use Rattle.qfs_actor.proofs.Gets.{on_fetch-fetched, on_fetch-short, on_fetch-no_memory, on_fetch-other, HasStripes-push}

@@ -1,4 +1,4 @@
-use Rattle.std.proofs.Common.{◌≡◌, ◌∙◌, sym, false, true, refl}
+use Rattle.std.proofs.Common.{◌≡◌, false, true, refl}
 use Rattle.qfs_model_actor.specs.Get.{is_whole, read_if_whole}
 use Rattle.qfs_actor.specs.Rest.{rest_after, rest_at, hold_of, report_of}
 use Rattle.qfs_actor.proofs.Gets.{read_if_whole-empty}

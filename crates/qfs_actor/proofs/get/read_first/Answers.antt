@@ -1,7 +1,6 @@
-use Rattle.std.proofs.Common.{◌≡◌, ◌≤◌, ◌*◌, ◌∙◌, sym, ap, arith, false, true}
+use Rattle.std.proofs.Common.{◌≡◌, ◌≤◌, ◌*◌, ap, arith}
 use Rattle.qfs_base.specs.Shape.{Shape}
 use Rattle.qfs_model_actor.specs.Get.{listed_in}
-use Rattle.qfs_model_actor.specs.Read.{sources_of}
 use Rattle.qfs_actor.specs.Rest.{rest_after, ListsData}
 use Rattle.qfs_actor.proofs.Gets.{HasData-listed, HasStripes-none, read_if_whole-row}
 use Rattle.qfs_actor.proofs.get.read_first.Goals as goal

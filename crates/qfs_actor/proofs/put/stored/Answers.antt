@@ -1,4 +1,3 @@
-use Rattle.std.proofs.Common.{◌∙◌}
 use Rattle.qfs_actor.specs.Rest.{rest_after, rest_at, rest_of_grant, behind}
 use Rattle.qfs_actor.proofs.Puts.{on_store-failed}
 use Rattle.qfs_actor.proofs.put.stored.Goals as goal

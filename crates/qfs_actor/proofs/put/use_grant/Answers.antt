@@ -1,4 +1,4 @@
-use Rattle.std.proofs.Common.{◌<◌, ◌≡◌, ◌∙◌, sym, false, true, arith}
+use Rattle.std.proofs.Common.{◌<◌, ◌≡◌, sym, false, true, arith}
 use Rattle.qfs_model_actor.specs.Grants.{is_grant_of}
 use Rattle.qfs_actor.specs.Rest.{rest_after}
 use Rattle.qfs_actor.proofs.Puts.{on_grant-used, on_grant-other, on_grant-none}

@@ -1,4 +1,3 @@
-use Rattle.std.proofs.Common.{◌∙◌}
 use Rattle.qfs_actor.proofs.turn.first_answered.Goals as goal
 
 pub returns-in-Put-clause-rest : goal.returns-in-Put-clause-rest
