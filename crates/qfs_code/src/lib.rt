@@ -12,8 +12,8 @@ ghost use Rattle.qfs_code.specs.Restored.{restored};
 
 use crate::combine::combine;
 use crate::equation::{parity_row, weights};
-use qfs_base::numbers::Slot;
 use qfs_base::mask::Mask;
+use qfs_base::numbers::Slot;
 
 mod combine;
 mod equation;

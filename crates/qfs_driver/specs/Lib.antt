@@ -1,4 +1,3 @@
 pub mod Reading
 pub mod Status
-pub mod Threes
 pub mod Words

@@ -2,10 +2,10 @@
 //! handed in, and what comes of it is written.
 #![tactic(auto)]
 
-mod halt;
 mod reading;
-mod serving;
 mod status;
 mod words;
 
+pub use reading::read_script;
 pub use status::Status;
+pub use words::seed_from;

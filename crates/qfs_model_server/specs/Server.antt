@@ -56,7 +56,7 @@ refuse test answer other = if test then Some answer else other
 unfoldable pub unless_away : Server → ℕ → Option ChunkAnswer → Option ChunkAnswer
 unless_away server life other =
     refuse (not server.up) Answer.Down
-        (refuse (not (life == server.life)) (Answer.Lost life server.life) other)
+    (refuse (not (life == server.life)) (Answer.Lost life server.life) other)
 
 -- the refusal that is due, if one is
 unfoldable pub chunk_refusal : Server → ChunkRequest → Option ChunkAnswer
@@ -92,26 +92,33 @@ start_reads server = if server.up then 0 else header_bytes * length server.copie
 -- what a request that succeeds does
 unfoldable pub chunk_served : Server → ChunkRequest → Answered
 chunk_served server (Ask.Put key life bytes) = record {
-    server = record server { copies = with_entry key_cmp server.copies key bytes };
-    reply = without_room Answer.Stored }
+  server = record server { copies = with_entry key_cmp server.copies key bytes };
+  reply = without_room Answer.Stored;
+}
 chunk_served server (Ask.Fetch key life from room) = record {
-    server = record server { handed_out = server.handed_out + length room };
-    reply = record { answer = Answer.Fetched; room = take (length room) (drop from (copy_bytes server.copies key)) } }
+  server = record server { handed_out = server.handed_out + length room };
+  reply = record { answer = Answer.Fetched; room = take (length room) (drop from (copy_bytes server.copies key)) };
+}
 chunk_served server (Ask.Erase key life) = record {
-    server = record server { copies = without_key key_cmp server.copies key };
-    reply = without_room Answer.Erased }
+  server = record server { copies = without_key key_cmp server.copies key };
+  reply = without_room Answer.Erased;
+}
 chunk_served server Ask.Stop = record {
-    server = record server { up = false };
-    reply = without_room Answer.Stopped }
+  server = record server { up = false };
+  reply = without_room Answer.Stopped;
+}
 chunk_served server Ask.Start = record {
-    server = record server { up = true; handed_out = server.handed_out + start_reads server };
-    reply = without_room (Answer.Started server.life) }
+  server = record server { up = true; handed_out = server.handed_out + start_reads server };
+  reply = without_room (Answer.Started server.life);
+}
 chunk_served server Ask.Wipe = record {
-    server = record server { life = next_life server.life; copies = [] };
-    reply = without_room (Answer.Wiped (next_life server.life)) }
+  server = record server { life = next_life server.life; copies = [] };
+  reply = without_room (Answer.Wiped (next_life server.life));
+}
 chunk_served server Ask.Inventory = record {
-    server = server;
-    reply = without_room (Answer.Inventory server.life (map (λ copy. copy.0) server.copies)) }
+  server = server;
+  reply = without_room (Answer.Inventory server.life (map (λ copy. copy.0) server.copies));
+}
 
 -- a server that stays as it was, with this answer and this room
 abbrev pub stays : Server → ChunkAnswer → List ℕ → Answered

@@ -84,8 +84,8 @@ pub may_come-one : (script : Script) (world : World) (commands : List Command) (
 unfolding may_come
 may_come-one script world commands actor request phases actors number asked done =
     let turns : turn script world ≡ actor.number ∷ [] =
-        turn-one script world commands actor phases actors
-        ∙ ap (λ finished. cond finished [] (actor.number ∷ [])) (finished-asks actor request asked) in
+    turn-one script world commands actor phases actors
+    ∙ ap (λ finished. cond finished [] (actor.number ∷ [])) (finished-asks actor request asked) in
     ap₂ (λ a b. a && b) (turn_has (turn script world) actor.number turns number) (possible-one world actor request actors asked done)
 
 -- nothing is left to do where the one actor has finished
@@ -101,7 +101,7 @@ pub move-meta : (world : World) (actor : Actor) (request : MetaRequest) (meta : 
     → world.actors ≡ actor ∷ [] → request_of actor ≡ Some (To.Meta request)
     → meta_step world.layout 1 request Ended.Done world.meta ≡ record { meta = meta; reply = reply }
     → move world done_step
-        ≡ record world { meta = meta; actors = after_reply actor (From.Meta reply) ∷ [] }
+    ≡ record world { meta = meta; actors = after_reply actor (From.Meta reply) ∷ [] }
 unfolding node_turn meta_turned handed_over renumbered
 move-meta world actor request meta reply actors asked served =
     move-one world actor (To.Meta request) actors asked
@@ -121,7 +121,7 @@ pub move-chunk : (world : World) (actor : Actor) (number : ℕ) (request : Chunk
     → numbered world.servers number ≡ Some before
     → server_step request Ended.Done before ≡ record { server = after; reply = reply }
     → move world done_step
-        ≡ record world { servers = renumbered world.servers number after; actors = after_reply actor (From.Chunk reply) ∷ [] }
+    ≡ record world { servers = renumbered world.servers number after; actors = after_reply actor (From.Chunk reply) ∷ [] }
 unfolding node_turn chunk_turn chunk_turned handed_over renumbered
 move-chunk world actor number request before after reply actors asked there served =
     move-one world actor (To.Chunk number request) actors asked

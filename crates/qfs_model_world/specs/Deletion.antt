@@ -27,11 +27,11 @@ ordered_copy reply = None
 
 -- the copy that a server erased
 unfoldable pub erased_if : ℕ → ℕ → ChunkKey → ChunkAnswer → Option SlotCopy
-erased_if server life key Did.Erased = Some (record
-    { block = key.block
-    ; slot = key.slot
-    ; copy = record { server = server; life = life; version = key.version }
-    })
+erased_if server life key Did.Erased = Some (record {
+  block = key.block;
+  slot = key.slot;
+  copy = record { server = server; life = life; version = key.version };
+})
 erased_if server life key answer = None
 
 unfoldable pub erased_copy : ℕ → ChunkAnswer → ChunkRequest → Option SlotCopy

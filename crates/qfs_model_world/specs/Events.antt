@@ -23,14 +23,14 @@ pub record Event : Type 0 where
 
 -- an actor's request, served so
 unfoldable pub event_asking : World → Step → Actor → NodeRequest → Event
-event_asking world step actor request = record
-    { before = world
-    ; actor = step.actor
-    ; command = command_number actor
-    ; outcome = step.outcome
-    ; request = request
-    ; reply = (node_turn world step.actor step.outcome request).reply
-    }
+event_asking world step actor request = record {
+  before = world;
+  actor = step.actor;
+  command = command_number actor;
+  outcome = step.outcome;
+  request = request;
+  reply = (node_turn world step.actor step.outcome request).reply;
+}
 
 unfoldable pub event_by : World → Step → Actor → Option NodeRequest → Option Event
 event_by world step actor None = None

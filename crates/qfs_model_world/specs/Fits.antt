@@ -73,7 +73,7 @@ may_end Ended.NoMemory request = may_want_memory request
 unfoldable pub is_possible : World → ℕ → Outcome → NodeRequest → Bool
 is_possible world actor outcome request =
     may_end outcome request
-        && same_outcome (outcome_of (node_turn world actor outcome request).reply) outcome
+    && same_outcome (outcome_of (node_turn world actor outcome request).reply) outcome
 
 unfoldable pub is_possible_for : World → ℕ → Outcome → Option NodeRequest → Bool
 is_possible_for world actor outcome None = false
@@ -87,7 +87,7 @@ is_possible_of world number outcome (Some actor) = is_possible_for world number 
 unfoldable pub may_come : Script → World → Step → Bool
 may_come script world step =
     list_any (λ number. number == step.actor) (turn script world)
-        && is_possible_of world step.actor step.outcome (numbered world.actors step.actor)
+    && is_possible_of world step.actor step.outcome (numbered world.actors step.actor)
 
 -- whether each of these steps may come in its turn, from a world on
 unfoldable pub fits_from : Script → World → List Step → Bool

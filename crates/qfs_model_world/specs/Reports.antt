@@ -27,7 +27,7 @@ EachReport world P =
 abbrev pub IsPlaced : List Event → ℕ → ℕ → Report → Type 0
 IsPlaced steps actor number report =
     IfSome (place_of_report report) (λ place.
-        IsTrue (list_any (λ (event : Event). place_before event == place) (steps_of actor number steps)))
+    IsTrue (list_any (λ (event : Event). place_before event == place) (steps_of actor number steps)))
 
 -- one file history: it is legal, every reply with a place agrees with it, and the place is a moment of the reply's command
 pub record OneFileHistory (script : Script) (order : List Step) : Type 0 where

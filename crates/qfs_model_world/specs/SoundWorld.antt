@@ -127,7 +127,7 @@ pub record LivesAgree (world : World) (past : Past) : Type 0 where
 abbrev pub IsStored : World → SlotCopy → Type 0
 IsStored world c =
     IfSome (numbered world.servers c.copy.server) (λ (server : Server).
-        server.life ≡ c.copy.life → IsTrue (has_key key_cmp server.copies (key_at c.block c.slot c.copy)))
+    server.life ≡ c.copy.life → IsTrue (has_key key_cmp server.copies (key_at c.block c.slot c.copy)))
 
 -- a slot's current copy, or its pending grant
 abbrev pub IsStoredOf : World → BlockId → ℕ → Option Copy → Type 0
@@ -180,11 +180,11 @@ pub record LeasesKeep (world : World) (past : Past) : Type 0 where
 -- a pending grant is there and the actor's own
 abbrev pub HasGrant : MetaImage → ℕ → Granted → Type 0
 HasGrant m actor g =
-    (slot_at m.slots g.block g.slot).grant ≡ Some (record
-        { copy = record { server = g.server; life = g.life; version = g.version }
-        ; actor = actor
-        ; lease = g.lease
-        })
+    (slot_at m.slots g.block g.slot).grant ≡ Some (record {
+      copy = record { server = g.server; life = g.life; version = g.version };
+      actor = actor;
+      lease = g.lease;
+    })
 
 -- only the file of a recovery or move may be removed, and its grant with it
 abbrev pub KeepsGrant : MetaImage → ℕ → Granted → Type 0
@@ -201,7 +201,7 @@ pub record KeepsHolding (m : MetaImage) (actor : ℕ) (holding : Holding) : Type
 abbrev pub HeldByActors : World → Type 0
 HeldByActors world =
     Each (λ (actor : Actor). dropped_at actor.number world.meta.dropped ≡ None
-        → KeepsHolding world.meta actor.number (holding_of actor)) world.actors
+    → KeepsHolding world.meta actor.number (holding_of actor)) world.actors
 
 -- ---- the tree is the history
 
@@ -218,7 +218,7 @@ abbrev pub KeepsMaker : Script → List Event → TreeRow → Type 0
 KeepsMaker script steps row =
     (row.file ≡ 0)
     ⊎ ((creation_of row.file steps ≡ Some (record { file = row.file; actor = row.actor; command = row.command }))
-        × (row.len ≡ length (puts_of script row.actor row.command)))
+    × (row.len ≡ length (puts_of script row.actor row.command)))
 
 -- the name tree is that of a legal history, in which each file was made by a put of its own
 pub record TreeTellsHistory (script : Script) (world : World) (steps : List Event) : Type 0 where

@@ -30,12 +30,12 @@ numbered_actors layout number (commands ∷ more) =
 
 -- the world in which a script starts: all servers up and empty in life 1, no files, all actors at their first command
 unfoldable pub start : Script → World
-start script = record
-    { layout = script.layout
-    ; meta = opening script.servers
-    ; servers = replicate script.servers fresh_server
-    ; actors = numbered_actors script.layout 1 (flat_map (λ phase. phase) script.phases)
-    }
+start script = record {
+  layout = script.layout;
+  meta = opening script.servers;
+  servers = replicate script.servers fresh_server;
+  actors = numbered_actors script.layout 1 (flat_map (λ phase. phase) script.phases);
+}
 
 -- what stands at a number, counted from 1
 unfoldable pub numbered : {X : Type 0} → List X → ℕ → Option X
@@ -59,10 +59,10 @@ meta_turned world served =
 
 -- a chunk server served a request
 unfoldable pub chunk_turned : World → ℕ → Answered → Turned
-chunk_turned world number answered = record
-    { world = record world { servers = renumbered world.servers number answered.server }
-    ; reply = From.Chunk answered.reply
-    }
+chunk_turned world number answered = record {
+  world = record world { servers = renumbered world.servers number answered.server };
+  reply = From.Chunk answered.reply;
+}
 
 -- a request to a chunk server; one that isn't there is down
 unfoldable pub chunk_turn : World → ℕ → ChunkRequest → Outcome → Option Server → Turned
