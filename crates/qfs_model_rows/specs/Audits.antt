@@ -14,10 +14,10 @@ AuditedWipe = Prints
     (record wiped_during_get { audit = true })
     (steps 1 21 ++ steps 2 3 ++ steps 1 8)
     (codes "1 1 at 1 stored 5"
-        ∷ codes "1 2 at 2 read 5 hex 0102030405"
-        ∷ codes "2 1 wiped 2"
-        ∷ history_of_put
-        ++ codes "audit /a 0 xrrrrrrrr"
-        ∷ codes "summary files 1 dirs 0 blocks 1 copies 9 condemned 0 steps 32"
-        ∷ codes "order 1x21 2x3 1x8"
-        ∷ [])
+    ∷ codes "1 2 at 2 read 5 hex 0102030405"
+    ∷ codes "2 1 wiped 2"
+    ∷ history_of_put
+    ++ codes "audit /a 0 xrrrrrrrr"
+    ∷ codes "summary files 1 dirs 0 blocks 1 copies 9 condemned 0 steps 32"
+    ∷ codes "order 1x21 2x3 1x8"
+    ∷ [])

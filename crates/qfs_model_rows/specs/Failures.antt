@@ -14,13 +14,13 @@ DegradedGet = Prints
     (small_script 9 ((put_five ∷ Does.Stop 1 ∷ Does.Stop 2 ∷ Does.Stop 3 ∷ get_all path_a ∷ []) ∷ []))
     (steps 1 34)
     (codes "1 1 at 1 stored 5"
-        ∷ codes "1 2 stopped"
-        ∷ codes "1 3 stopped"
-        ∷ codes "1 4 stopped"
-        ∷ codes "1 5 at 2 read 5 hex 0102030405"
-        ∷ history_of_put
-        ++ codes "order 1x34"
-        ∷ [])
+    ∷ codes "1 2 stopped"
+    ∷ codes "1 3 stopped"
+    ∷ codes "1 4 stopped"
+    ∷ codes "1 5 at 2 read 5 hex 0102030405"
+    ∷ history_of_put
+    ++ codes "order 1x34"
+    ∷ [])
 
 -- four servers are down before the file is opened
 abbrev pub stops : List Command
@@ -31,14 +31,14 @@ TooFewListed = Prints
     (small_script 9 ((put_one ∷ stops ++ get_all path_a ∷ []) ∷ []))
     (steps 1 30)
     (codes "1 1 at 1 stored 1"
-        ∷ codes "1 2 stopped"
-        ∷ codes "1 3 stopped"
-        ∷ codes "1 4 stopped"
-        ∷ codes "1 5 stopped"
-        ∷ codes "1 6 at 2 toofew 0 0:unlisted 3:unlisted 7:unlisted 8:unlisted"
-        ∷ history_of_put
-        ++ codes "order 1x30"
-        ∷ [])
+    ∷ codes "1 2 stopped"
+    ∷ codes "1 3 stopped"
+    ∷ codes "1 4 stopped"
+    ∷ codes "1 5 stopped"
+    ∷ codes "1 6 at 2 toofew 0 0:unlisted 3:unlisted 7:unlisted 8:unlisted"
+    ∷ history_of_put
+    ++ codes "order 1x30"
+    ∷ [])
 
 -- four servers go down after the file was opened
 abbrev pub TooFewAnswer : Type 0
@@ -46,14 +46,14 @@ TooFewAnswer = Prints
     (small_script 9 ((put_one ∷ get_all path_a ∷ []) ∷ stops ∷ []))
     (steps 1 21 ++ steps 2 8 ++ steps 1 10)
     (codes "1 1 at 1 stored 1"
-        ∷ codes "1 2 at 2 toofew 0 0:down 3:down 7:down 8:down"
-        ∷ codes "2 1 stopped"
-        ∷ codes "2 2 stopped"
-        ∷ codes "2 3 stopped"
-        ∷ codes "2 4 stopped"
-        ∷ history_of_put
-        ++ codes "order 1x21 2x8 1x10"
-        ∷ [])
+    ∷ codes "1 2 at 2 toofew 0 0:down 3:down 7:down 8:down"
+    ∷ codes "2 1 stopped"
+    ∷ codes "2 2 stopped"
+    ∷ codes "2 3 stopped"
+    ∷ codes "2 4 stopped"
+    ∷ history_of_put
+    ++ codes "order 1x21 2x8 1x10"
+    ∷ [])
 
 -- three devices fail in a get, and a fourth
 abbrev pub put_and_get : Script
@@ -64,20 +64,20 @@ ThreeFetchesFail = Prints
     put_and_get
     (steps 1 21 ++ failing_steps 1 3 ++ steps 1 7)
     (codes "1 1 at 1 stored 5"
-        ∷ codes "1 2 at 2 read 5 hex 0102030405"
-        ∷ history_of_put
-        ++ codes "order 1x21 1fx3 1x7"
-        ∷ [])
+    ∷ codes "1 2 at 2 read 5 hex 0102030405"
+    ∷ history_of_put
+    ++ codes "order 1x21 1fx3 1x7"
+    ∷ [])
 
 abbrev pub FourFetchesFail : Type 0
 FourFetchesFail = Prints
     put_and_get
     (steps 1 21 ++ failing_steps 1 1 ++ steps 1 2 ++ failing_steps 1 1 ++ steps 1 3 ++ failing_steps 1 2 ++ steps 1 1)
     (codes "1 1 at 1 stored 5"
-        ∷ codes "1 2 at 2 toofew 0 0:fault 3:fault 7:fault 8:fault"
-        ∷ history_of_put
-        ++ codes "order 1x21 1fx1 1x2 1fx1 1x3 1fx2 1x1"
-        ∷ [])
+    ∷ codes "1 2 at 2 toofew 0 0:fault 3:fault 7:fault 8:fault"
+    ∷ history_of_put
+    ++ codes "order 1x21 1fx1 1x2 1fx1 1x3 1fx2 1x1"
+    ∷ [])
 
 -- one of nine servers is down, so the last slot of a put finds none
 abbrev pub NoServerUp : Type 0
@@ -85,13 +85,13 @@ NoServerUp = Prints
     (small_script 9 ((Does.Stop 9 ∷ put_one ∷ Does.Start 9 ∷ get_all path_a ∷ []) ∷ []))
     (steps 1 25)
     (codes "1 1 stopped"
-        ∷ codes "1 2 at 1 noserver 0 8"
-        ∷ codes "1 3 started 1"
-        ∷ codes "1 4 at 2 missing"
-        ∷ codes "history 0 created 1 /a"
-        ∷ codes "history 1 aborted 1"
-        ∷ codes "order 1x25"
-        ∷ [])
+    ∷ codes "1 2 at 1 noserver 0 8"
+    ∷ codes "1 3 started 1"
+    ∷ codes "1 4 at 2 missing"
+    ∷ codes "history 0 created 1 /a"
+    ∷ codes "history 1 aborted 1"
+    ∷ codes "order 1x25"
+    ∷ [])
 
 -- a server is emptied: its slot is read from the others
 abbrev pub EmptiedServer : Type 0
@@ -99,11 +99,11 @@ EmptiedServer = Prints
     (small_script 9 ((put_one ∷ Does.Wipe 1 ∷ get_all path_a ∷ []) ∷ []))
     (steps 1 31)
     (codes "1 1 at 1 stored 1"
-        ∷ codes "1 2 wiped 2"
-        ∷ codes "1 3 at 2 read 1 hex 01"
-        ∷ history_of_put
-        ++ codes "order 1x31"
-        ∷ [])
+    ∷ codes "1 2 wiped 2"
+    ∷ codes "1 3 at 2 read 1 hex 01"
+    ∷ history_of_put
+    ++ codes "order 1x31"
+    ∷ [])
 
 -- the device of server 3 fails in a put: slot 2 goes to server 4 in its next version, and slot 3 to server 3. All data
 -- stand in slot 0, so the parity chunks are as it is
@@ -143,8 +143,8 @@ LastPutFails = Prints
     (small_script 9 ((put_one ∷ get_all path_a ∷ []) ∷ []))
     (steps 1 18 ++ failing_steps 1 1 ++ steps 1 3)
     (codes "1 1 at 1 noserver 0 8"
-        ∷ codes "1 2 at 2 missing"
-        ∷ codes "history 0 created 1 /a"
-        ∷ codes "history 1 aborted 1"
-        ∷ codes "order 1x18 1fx1 1x3"
-        ∷ [])
+    ∷ codes "1 2 at 2 missing"
+    ∷ codes "history 0 created 1 /a"
+    ∷ codes "history 1 aborted 1"
+    ∷ codes "order 1x18 1fx1 1x3"
+    ∷ [])

@@ -82,7 +82,7 @@ mkdirs first second = Does.File (File.Mkdir (path_of first)) ∷ Does.File (File
 abbrev pub three_actors : Script
 three_actors =
     small_script 1 (
-        mkdirs (codes "a") (codes "b") ∷ mkdirs (codes "c") (codes "d") ∷ mkdirs (codes "e") (codes "f") ∷ [])
+    mkdirs (codes "a") (codes "b") ∷ mkdirs (codes "c") (codes "d") ∷ mkdirs (codes "e") (codes "f") ∷ [])
 
 pub record DrawnOrders : Type 0 where
   pub three_actors_drawn : is_drawn 1 three_actors (steps 2 1 ++ steps 3 2 ++ steps 1 2 ++ steps 2 1) ≡ true
@@ -95,19 +95,19 @@ pub record DrawnOrders : Type 0 where
 abbrev pub moved_in_get : Script
 moved_in_get =
     small_script 10 (
-        (put_one ∷ get_all path_a ∷ [])
-        ∷ (Does.Move path_a 0 0 10 ∷ Does.Sweep 5 ∷ Does.Sweep 5 ∷ [])
-        ∷ [])
+    (put_one ∷ get_all path_a ∷ [])
+    ∷ (Does.Move path_a 0 0 10 ∷ Does.Sweep 5 ∷ Does.Sweep 5 ∷ [])
+    ∷ [])
 
 abbrev pub moving_order : List Step
 moving_order = steps 1 21 ++ steps 2 5 ++ steps 1 7 ++ steps 2 4
 
 abbrev pub first_copy : SlotCopy
-first_copy = record
-    { block = record { file = 1; index = 0 }
-    ; slot = 0
-    ; copy = record { server = 1; life = 1; version = 1 }
-    }
+first_copy = record {
+  block = record { file = 1; index = 0 };
+  slot = 0;
+  copy = record { server = 1; life = 1; version = 1 };
+}
 
 pub record Deletions : Type 0 where
   pub moved : filter_map deleted_in (events moved_in_get moving_order) ≡ first_copy ∷ first_copy ∷ []
@@ -118,7 +118,7 @@ pub record Deletions : Type 0 where
 abbrev pub put_anew : Script
 put_anew =
     small_script 9 (
-        (put_one ∷ get_all path_a ∷ []) ∷ (remove path_a ∷ put_hex path_a (2 ∷ []) ∷ get_all path_a ∷ []) ∷ [])
+    (put_one ∷ get_all path_a ∷ []) ∷ (remove path_a ∷ put_hex path_a (2 ∷ []) ∷ get_all path_a ∷ []) ∷ [])
 
 abbrev pub anew_order : List Step
 anew_order = steps 1 21 ++ steps 2 21 ++ steps 1 7 ++ steps 2 8
@@ -154,16 +154,16 @@ abbrev pub midst : List Step
 midst = steps 1 21 ++ steps 2 1 ++ steps 1 1
 
 abbrev pub moving_grant : Granted
-moving_grant = record
-    { block = record { file = 1; index = 0 }
-    ; slot = 0
-    ; version = 2
-    ; server = 10
-    ; life = 1
-    ; lease = 2
-    ; sources = Some (record { server = 1; life = 1; version = 1 }) ∷ replicate 8 None
-    ; rows = 1
-    }
+moving_grant = record {
+  block = record { file = 1; index = 0 };
+  slot = 0;
+  version = 2;
+  server = 10;
+  life = 1;
+  lease = 2;
+  sources = Some (record { server = 1; life = 1; version = 1 }) ∷ replicate 8 None;
+  rows = 1;
+}
 
 abbrev pub both_holdings : List Holding
 both_holdings =

@@ -12,11 +12,11 @@ PlainPath = Prints
     (small_script 9 ((put_five ∷ get_all path_a ∷ []) ∷ []))
     (steps 1 28)
     (codes "1 1 at 1 stored 5"
-        ∷ codes "1 2 at 2 read 5 hex 0102030405"
-        ∷ codes "history 0 created 1 /a"
-        ∷ codes "history 1 closed 1 by 1 1"
-        ∷ codes "order 1x28"
-        ∷ [])
+    ∷ codes "1 2 at 2 read 5 hex 0102030405"
+    ∷ codes "history 0 created 1 /a"
+    ∷ codes "history 1 closed 1 by 1 1"
+    ∷ codes "order 1x28"
+    ∷ [])
 
 -- a file without bytes has no block, so nothing is stored or fetched
 abbrev pub path_e : PathNames
@@ -27,11 +27,11 @@ EmptyFile = Prints
     (small_script 9 ((put_fill path_e 0 0 ∷ get_all path_e ∷ []) ∷ []))
     (steps 1 4)
     (codes "1 1 at 1 stored 0"
-        ∷ codes "1 2 at 2 read 0"
-        ∷ codes "history 0 created 1 /e"
-        ∷ codes "history 1 closed 1 by 1 1"
-        ∷ codes "order 1x4"
-        ∷ [])
+    ∷ codes "1 2 at 2 read 0"
+    ∷ codes "history 0 created 1 /e"
+    ∷ codes "history 1 closed 1 by 1 1"
+    ∷ codes "order 1x4"
+    ∷ [])
 
 -- one full row of ones: the parity slots hold the sums of the first six powers of 1, 2 and 4
 abbrev pub path_p : PathNames
@@ -56,10 +56,10 @@ one_row_copies =
 pub record OneRow : Type 0 where
   pub prints : Prints one_row (steps 1 20)
       (codes "1 1 at 1 stored 96"
-          ∷ codes "history 0 created 1 /p"
-          ∷ codes "history 1 closed 1 by 1 1"
-          ∷ codes "order 1x20"
-          ∷ [])
+      ∷ codes "history 0 created 1 /p"
+      ∷ codes "history 1 closed 1 by 1 1"
+      ∷ codes "order 1x20"
+      ∷ [])
   pub stores : Stores one_row (steps 1 20) one_row_copies
 
 -- one byte more: it begins a second row, which is filled with zeros
@@ -89,11 +89,11 @@ two_row_copies =
 pub record TwoRows : Type 0 where
   pub prints : Prints two_rows (steps 1 28)
       (codes "1 1 at 1 stored 97"
-          ∷ codes "1 2 at 2 read 2 hex 0101"
-          ∷ codes "history 0 created 1 /p"
-          ∷ codes "history 1 closed 1 by 1 1"
-          ∷ codes "order 1x28"
-          ∷ [])
+      ∷ codes "1 2 at 2 read 2 hex 0101"
+      ∷ codes "history 0 created 1 /p"
+      ∷ codes "history 1 closed 1 by 1 1"
+      ∷ codes "order 1x28"
+      ∷ [])
   pub stores : Stores two_rows (steps 1 28) two_row_copies
 
 -- a file of one block and one of two: the get reads the last byte of the first block and the first of the second
@@ -108,14 +108,14 @@ TwoBlocks = Prints
     (small_script 9 ((put_fill path_b 7 192 ∷ put_fill path_c 7 193 ∷ get_range path_c 191 2 ∷ []) ∷ []))
     (steps 1 72)
     (codes "1 1 at 1 stored 192"
-        ∷ codes "1 2 at 3 stored 193"
-        ∷ codes "1 3 at 4 read 2 hex 0707"
-        ∷ codes "history 0 created 1 /b"
-        ∷ codes "history 1 closed 1 by 1 1"
-        ∷ codes "history 2 created 2 /c"
-        ∷ codes "history 3 closed 2 by 1 2"
-        ∷ codes "order 1x72"
-        ∷ [])
+    ∷ codes "1 2 at 3 stored 193"
+    ∷ codes "1 3 at 4 read 2 hex 0707"
+    ∷ codes "history 0 created 1 /b"
+    ∷ codes "history 1 closed 1 by 1 1"
+    ∷ codes "history 2 created 2 /c"
+    ∷ codes "history 3 closed 2 by 1 2"
+    ∷ codes "order 1x72"
+    ∷ [])
 
 -- a range is cut at the file's end, and where nothing is left nothing is fetched
 abbrev pub PastTheEnd : Type 0
@@ -123,11 +123,11 @@ PastTheEnd = Prints
     (small_script 9 ((put_five ∷ get_range path_a 5 1 ∷ get_range path_a 3 100 ∷ []) ∷ []))
     (steps 1 30)
     (codes "1 1 at 1 stored 5"
-        ∷ codes "1 2 at 2 read 0"
-        ∷ codes "1 3 at 2 read 2 hex 0405"
-        ∷ history_of_put
-        ++ codes "order 1x30"
-        ∷ [])
+    ∷ codes "1 2 at 2 read 0"
+    ∷ codes "1 3 at 2 read 2 hex 0405"
+    ∷ history_of_put
+    ++ codes "order 1x30"
+    ∷ [])
 
 -- a range over the end of one window of 16 rows and the beginning of the next
 abbrev pub path_w : PathNames
@@ -138,11 +138,11 @@ TwoWindows = Prints
     (script_of (record { s = 16; r = 20 }) 9 ((put_fill path_w 9 1920 ∷ get_range path_w 1530 10 ∷ []) ∷ []))
     (steps 1 34)
     (codes "1 1 at 1 stored 1920"
-        ∷ codes "1 2 at 2 read 10 hex 09090909090909090909"
-        ∷ codes "history 0 created 1 /w"
-        ∷ codes "history 1 closed 1 by 1 1"
-        ∷ codes "order 1x34"
-        ∷ [])
+    ∷ codes "1 2 at 2 read 10 hex 09090909090909090909"
+    ∷ codes "history 0 created 1 /w"
+    ∷ codes "history 1 closed 1 by 1 1"
+    ∷ codes "order 1x34"
+    ∷ [])
 
 -- a second put of a path is refused, and so is a get of what isn't there
 abbrev pub TakenAndMissing : Type 0
@@ -150,9 +150,9 @@ TakenAndMissing = Prints
     (small_script 10 ((put_one ∷ put_hex path_a (2 ∷ []) ∷ get_all path_b ∷ get_all path_a ∷ []) ∷ []))
     (steps 1 30)
     (codes "1 1 at 1 stored 1"
-        ∷ codes "1 2 at 2 exists"
-        ∷ codes "1 3 at 2 missing"
-        ∷ codes "1 4 at 2 read 1 hex 01"
-        ∷ history_of_put
-        ++ codes "order 1x30"
-        ∷ [])
+    ∷ codes "1 2 at 2 exists"
+    ∷ codes "1 3 at 2 missing"
+    ∷ codes "1 4 at 2 read 1 hex 01"
+    ∷ history_of_put
+    ++ codes "order 1x30"
+    ∷ [])

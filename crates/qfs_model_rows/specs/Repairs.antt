@@ -22,49 +22,49 @@ no_byte = replicate 16 0
 abbrev pub MovedDuringGet : Type 0
 MovedDuringGet = Prints
     (small_script 10 (
-        (put_one ∷ get_all path_a ∷ [])
-        ∷ (Does.Move path_a 0 0 10 ∷ Does.Sweep 5 ∷ Does.Sweep 5 ∷ [])
-        ∷ []))
+    (put_one ∷ get_all path_a ∷ [])
+    ∷ (Does.Move path_a 0 0 10 ∷ Does.Sweep 5 ∷ Does.Sweep 5 ∷ [])
+    ∷ []))
     (steps 1 21 ++ steps 2 5 ++ steps 1 7 ++ steps 2 4)
     (codes "1 1 at 1 stored 1"
-        ∷ codes "1 2 at 2 read 1 hex 01"
-        ∷ codes "2 1 moved 1 0 0 from 1 to 10 version 2"
-        ∷ codes "2 2 swept 0"
-        ∷ codes "2 3 swept 1"
-        ∷ codes "history 0 created 1 /a"
-        ∷ codes "history 1 closed 1 by 1 1"
-        ∷ codes "order 1x21 2x5 1x7 2x4"
-        ∷ [])
+    ∷ codes "1 2 at 2 read 1 hex 01"
+    ∷ codes "2 1 moved 1 0 0 from 1 to 10 version 2"
+    ∷ codes "2 2 swept 0"
+    ∷ codes "2 3 swept 1"
+    ∷ codes "history 0 created 1 /a"
+    ∷ codes "history 1 closed 1 by 1 1"
+    ∷ codes "order 1x21 2x5 1x7 2x4"
+    ∷ [])
 
 -- a slot is recovered while its server is down, and what the server comes back with is swept
 abbrev pub RecoveredThenBack : Type 0
 RecoveredThenBack = Prints
     (small_script 10 ((
-        put_one ∷ Does.Stop 1 ∷ Does.Recover path_a 0 0 ∷ Does.Start 1 ∷ Does.Sweep 5 ∷ get_all path_a ∷ []) ∷ []))
+    put_one ∷ Does.Stop 1 ∷ Does.Recover path_a 0 0 ∷ Does.Start 1 ∷ Does.Sweep 5 ∷ get_all path_a ∷ []) ∷ []))
     (steps 1 46)
     (codes "1 1 at 1 stored 1"
-        ∷ codes "1 2 stopped"
-        ∷ codes "1 3 recovered 1 0 0 on 10 version 2"
-        ∷ codes "1 4 started 1"
-        ∷ codes "1 5 swept 1"
-        ∷ codes "1 6 at 2 read 1 hex 01"
-        ∷ history_of_put
-        ++ codes "order 1x46"
-        ∷ [])
+    ∷ codes "1 2 stopped"
+    ∷ codes "1 3 recovered 1 0 0 on 10 version 2"
+    ∷ codes "1 4 started 1"
+    ∷ codes "1 5 swept 1"
+    ∷ codes "1 6 at 2 read 1 hex 01"
+    ∷ history_of_put
+    ++ codes "order 1x46"
+    ∷ [])
 
 -- a second recovery of a slot is refused while the first one runs
 abbrev pub TwoRecoveries : Type 0
 TwoRecoveries = Prints
     (small_script 10 (
-        (put_one ∷ Does.Stop 1 ∷ Does.Recover path_a 0 0 ∷ []) ∷ (Does.Recover path_a 0 0 ∷ []) ∷ []))
+    (put_one ∷ Does.Stop 1 ∷ Does.Recover path_a 0 0 ∷ []) ∷ (Does.Recover path_a 0 0 ∷ []) ∷ []))
     (steps 1 23 ++ steps 2 1 ++ steps 1 8)
     (codes "1 1 at 1 stored 1"
-        ∷ codes "1 2 stopped"
-        ∷ codes "1 3 recovered 1 0 0 on 10 version 2"
-        ∷ codes "2 1 taken 2"
-        ∷ history_of_put
-        ++ codes "order 1x23 2x1 1x8"
-        ∷ [])
+    ∷ codes "1 2 stopped"
+    ∷ codes "1 3 recovered 1 0 0 on 10 version 2"
+    ∷ codes "2 1 taken 2"
+    ∷ history_of_put
+    ++ codes "order 1x23 2x1 1x8"
+    ∷ [])
 
 -- a server is evacuated: with nine servers there is no other, with ten there is
 abbrev pub put_and_evacuate : List Command
@@ -73,43 +73,43 @@ put_and_evacuate = put_one ∷ Does.Evacuate 1 10 ∷ []
 pub record Evacuations : Type 0 where
   pub nine_servers : Prints (small_script 9 (put_and_evacuate ∷ [])) (steps 1 22)
       (codes "1 1 at 1 stored 1"
-          ∷ codes "1 2 evacuated 0 failed 0 noserver 1 0 0"
-          ∷ history_of_put
-          ++ codes "order 1x22"
-          ∷ [])
+      ∷ codes "1 2 evacuated 0 failed 0 noserver 1 0 0"
+      ∷ history_of_put
+      ++ codes "order 1x22"
+      ∷ [])
   pub ten_servers : Prints (small_script 10 (put_and_evacuate ∷ [])) (steps 1 27)
       (codes "1 1 at 1 stored 1"
-          ∷ codes "1 2 evacuated 1 failed 0 left 0"
-          ∷ history_of_put
-          ++ codes "order 1x27"
-          ∷ [])
+      ∷ codes "1 2 evacuated 1 failed 0 left 0"
+      ∷ history_of_put
+      ++ codes "order 1x27"
+      ∷ [])
 
 -- the copies of a server that hibernates aren't missing before its reading of the clock
 abbrev pub HealedAfterSleep : Type 0
 HealedAfterSleep = Prints
     (small_script 10 ((
-        put_one ∷ Does.Hibernate 1 2 ∷ Does.Heal 9 ∷ Does.Tick ∷ Does.Tick ∷ Does.Heal 9 ∷ []) ∷ []))
+    put_one ∷ Does.Hibernate 1 2 ∷ Does.Heal 9 ∷ Does.Tick ∷ Does.Tick ∷ Does.Heal 9 ∷ []) ∷ []))
     (steps 1 35)
     (codes "1 1 at 1 stored 1"
-        ∷ codes "1 2 hibernating until 2"
-        ∷ codes "1 3 healed 0 failed 0"
-        ∷ codes "1 4 clock 1"
-        ∷ codes "1 5 clock 2"
-        ∷ codes "1 6 healed 1 failed 0"
-        ∷ history_of_put
-        ++ codes "order 1x35"
-        ∷ [])
+    ∷ codes "1 2 hibernating until 2"
+    ∷ codes "1 3 healed 0 failed 0"
+    ∷ codes "1 4 clock 1"
+    ∷ codes "1 5 clock 2"
+    ∷ codes "1 6 healed 1 failed 0"
+    ∷ history_of_put
+    ++ codes "order 1x35"
+    ∷ [])
 
 -- a server that was down during two puts is given one of their copies
 abbrev pub balanced : Script
 balanced =
     small_script 10 ((
-        Does.Stop 10
-        ∷ put_one
-        ∷ put_hex (path_of (codes "b")) (2 ∷ [])
-        ∷ Does.Start 10
-        ∷ Does.Rebalance 9
-        ∷ []) ∷ [])
+    Does.Stop 10
+    ∷ put_one
+    ∷ put_hex (path_of (codes "b")) (2 ∷ [])
+    ∷ Does.Start 10
+    ∷ Does.Rebalance 9
+    ∷ []) ∷ [])
 
 abbrev pub copy_on_ten : Copy
 copy_on_ten = record { server = 10; life = 1; version = 2 }
@@ -117,16 +117,16 @@ copy_on_ten = record { server = 10; life = 1; version = 2 }
 pub record Balanced : Type 0 where
   pub prints : Prints balanced (steps 1 50)
       (codes "1 1 stopped"
-          ∷ codes "1 2 at 1 stored 1"
-          ∷ codes "1 3 at 3 stored 1"
-          ∷ codes "1 4 started 1"
-          ∷ codes "1 5 rebalanced 1 failed 0"
-          ∷ codes "history 0 created 1 /a"
-          ∷ codes "history 1 closed 1 by 1 2"
-          ∷ codes "history 2 created 2 /b"
-          ∷ codes "history 3 closed 2 by 1 3"
-          ∷ codes "order 1x50"
-          ∷ [])
+      ∷ codes "1 2 at 1 stored 1"
+      ∷ codes "1 3 at 3 stored 1"
+      ∷ codes "1 4 started 1"
+      ∷ codes "1 5 rebalanced 1 failed 0"
+      ∷ codes "history 0 created 1 /a"
+      ∷ codes "history 1 closed 1 by 1 2"
+      ∷ codes "history 2 created 2 /b"
+      ∷ codes "history 3 closed 2 by 1 3"
+      ∷ codes "order 1x50"
+      ∷ [])
   pub moved : (slot_at (after balanced (steps 1 50)).meta.slots (record { file = 1; index = 0 }) 0).current
       ≡ Some copy_on_ten
 
@@ -134,7 +134,7 @@ pub record Balanced : Type 0 where
 abbrev pub removed_during_get : Script
 removed_during_get =
     small_script 9 (
-        (put_one ∷ get_all path_a ∷ []) ∷ (remove path_a ∷ Does.Sweep 20 ∷ Does.Sweep 20 ∷ []) ∷ [])
+    (put_one ∷ get_all path_a ∷ []) ∷ (remove path_a ∷ Does.Sweep 20 ∷ Does.Sweep 20 ∷ []) ∷ [])
 
 abbrev pub removing_order : List Step
 removing_order = steps 1 21 ++ steps 2 2 ++ steps 1 7 ++ steps 2 28
@@ -142,14 +142,14 @@ removing_order = steps 1 21 ++ steps 2 2 ++ steps 1 7 ++ steps 2 28
 pub record RemovedDuringGet : Type 0 where
   pub prints : Prints removed_during_get removing_order
       (codes "1 1 at 1 stored 1"
-          ∷ codes "1 2 at 2 read 1 hex 01"
-          ∷ codes "2 1 at 2 done"
-          ∷ codes "2 2 swept 0"
-          ∷ codes "2 3 swept 9"
-          ∷ history_of_put
-          ++ codes "history 2 removed /a"
-          ∷ codes "order 1x21 2x2 1x7 2x28"
-          ∷ [])
+      ∷ codes "1 2 at 2 read 1 hex 01"
+      ∷ codes "2 1 at 2 done"
+      ∷ codes "2 2 swept 0"
+      ∷ codes "2 3 swept 9"
+      ∷ history_of_put
+      ++ codes "history 2 removed /a"
+      ∷ codes "order 1x21 2x2 1x7 2x28"
+      ∷ [])
   pub stores : Stores removed_during_get removing_order (replicate 9 [])
 
 -- a server was emptied, and holds the slot anew once it is healed
@@ -172,12 +172,12 @@ healed_copies =
 pub record Healed : Type 0 where
   pub prints : Prints healed (steps 1 41)
       (codes "1 1 at 1 stored 1"
-          ∷ codes "1 2 wiped 2"
-          ∷ codes "1 3 healed 1 failed 0"
-          ∷ codes "1 4 at 2 read 1 hex 01"
-          ∷ history_of_put
-          ++ codes "order 1x41"
-          ∷ [])
+      ∷ codes "1 2 wiped 2"
+      ∷ codes "1 3 healed 1 failed 0"
+      ∷ codes "1 4 at 2 read 1 hex 01"
+      ∷ history_of_put
+      ++ codes "order 1x41"
+      ∷ [])
   pub stores : Stores healed (steps 1 41) healed_copies
 
 -- no copy is moved to a server that is down, or that has a copy of its block
@@ -186,9 +186,9 @@ BarredMoves = Prints
     (small_script 10 ((put_one ∷ Does.Stop 10 ∷ Does.Move path_a 0 0 10 ∷ Does.Move path_a 0 0 2 ∷ []) ∷ []))
     (steps 1 24)
     (codes "1 1 at 1 stored 1"
-        ∷ codes "1 2 stopped"
-        ∷ codes "1 3 barred 10"
-        ∷ codes "1 4 barred 2"
-        ∷ history_of_put
-        ++ codes "order 1x24"
-        ∷ [])
+    ∷ codes "1 2 stopped"
+    ∷ codes "1 3 barred 10"
+    ∷ codes "1 4 barred 2"
+    ∷ history_of_put
+    ++ codes "order 1x24"
+    ∷ [])

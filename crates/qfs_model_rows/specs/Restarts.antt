@@ -30,19 +30,19 @@ SavedAndRestarted = Prints
     saving
     (steps 1 34)
     (codes "1 1 at 1 stored 1"
-        ∷ codes "1 2 saved 11"
-        ∷ codes "1 3 at 2 done"
-        ∷ codes "1 4 at 3 done"
-        ∷ codes "1 5 at 4 done"
-        ∷ codes "1 6 restarted 14"
-        ∷ codes "1 7 at 5 read 1 hex 01"
-        ∷ codes "1 8 at 5 list 4 a d/ e/ f/"
-        ∷ history_of_put
-        ++ codes "history 2 mkdir /d"
-        ∷ codes "history 3 mkdir /e"
-        ∷ codes "history 4 mkdir /f"
-        ∷ codes "order 1x34"
-        ∷ [])
+    ∷ codes "1 2 saved 11"
+    ∷ codes "1 3 at 2 done"
+    ∷ codes "1 4 at 3 done"
+    ∷ codes "1 5 at 4 done"
+    ∷ codes "1 6 restarted 14"
+    ∷ codes "1 7 at 5 read 1 hex 01"
+    ∷ codes "1 8 at 5 list 4 a d/ e/ f/"
+    ∷ history_of_put
+    ++ codes "history 2 mkdir /d"
+    ∷ codes "history 3 mkdir /e"
+    ∷ codes "history 4 mkdir /f"
+    ∷ codes "order 1x34"
+    ∷ [])
 
 -- a restart behind the first request, and one whose disk fails
 abbrev pub mkdir_and_restart : Script

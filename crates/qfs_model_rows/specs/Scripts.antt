@@ -47,13 +47,13 @@ put_five = put_hex path_a (1 ∷ 2 ∷ 3 ∷ 4 ∷ 5 ∷ [])
 
 -- one phase of actors with these commands, on so many servers
 abbrev pub script_of : Shape → ℕ → List (List Command) → Script
-script_of layout servers actors = record
-    { layout = layout
-    ; servers = servers
-    ; audit = false
-    ; phases = actors ∷ []
-    ; order = None
-    }
+script_of layout servers actors = record {
+  layout = layout;
+  servers = servers;
+  audit = false;
+  phases = actors ∷ [];
+  order = None;
+}
 
 -- the same in stripes of 16 bytes and chunks of at most 2 rows
 abbrev pub small_script : ℕ → List (List Command) → Script

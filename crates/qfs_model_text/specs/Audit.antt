@@ -37,13 +37,13 @@ audit_line a = line (codes "audit") (path_text a.path ∷ decimal a.index ∷ fl
 abbrev pub summary_line : Summary → List ℕ
 summary_line s =
     line (codes "summary") (
-        codes "files" ∷ decimal s.files
-        ∷ codes "dirs" ∷ decimal s.dirs
-        ∷ codes "blocks" ∷ decimal s.blocks
-        ∷ codes "copies" ∷ decimal s.copies
-        ∷ codes "condemned" ∷ decimal s.condemned
-        ∷ codes "steps" ∷ decimal s.steps
-        ∷ [])
+    codes "files" ∷ decimal s.files
+    ∷ codes "dirs" ∷ decimal s.dirs
+    ∷ codes "blocks" ∷ decimal s.blocks
+    ∷ codes "copies" ∷ decimal s.copies
+    ∷ codes "condemned" ∷ decimal s.condemned
+    ∷ codes "steps" ∷ decimal s.steps
+    ∷ [])
 
 -- all of them
 abbrev pub audit_lines : Audit → List ℕ

@@ -1,5 +1,5 @@
 -- The order line: the steps as runs of equal ones.
-use Rattle.std.specs.Prelude.{ℕ, ◌+◌, ◌-◌, ◌^◌, ◌==◌, ◌&&◌, nat_lt, Bool, true, false, if◌then◌else◌, List, [], ◌∷◌, ◌++◌, codes, decimal, map}
+use Rattle.std.specs.Prelude.{ℕ, ◌+◌, ◌==◌, ◌&&◌, nat_lt, Bool, true, false, if◌then◌else◌, List, [], ◌∷◌, ◌++◌, codes, decimal}
 use Rattle.qfs_base.specs.declared.history.Step.{Step}
 use Rattle.qfs_base.specs.declared.history.Outcome.{Outcome}
 use Rattle.qfs_base.specs.declared.history.Outcome.TheVariants as Ended
@@ -46,7 +46,7 @@ runs_after of_run count [] = run_word of_run count ∷ []
 runs_after of_run count (step ∷ steps) =
     let more = goes_on_run of_run count step in
     ends_run more (run_word of_run count)
-        (runs_after (if more then of_run else step) (if more then count + 1 else 1) steps)
+    (runs_after (if more then of_run else step) (if more then count + 1 else 1) steps)
 
 -- the runs of an order
 unfoldable pub runs : List Step → Words

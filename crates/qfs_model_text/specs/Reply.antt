@@ -1,5 +1,5 @@
 -- The reply lines: what each command of each actor reports.
-use Rattle.std.specs.Prelude.{ℕ, ◌+◌, List, [], ◌∷◌, ◌++◌, codes, decimal, map, flat_map, length, Bool, true, false}
+use Rattle.std.specs.Prelude.{ℕ, List, [], ◌∷◌, ◌++◌, codes, decimal, map, flat_map, length, Bool, true, false}
 use Rattle.hex.specs.Hex.{encode_lower}
 use Rattle.qfs_base.specs.declared.chunk.BlockId.{BlockId}
 use Rattle.qfs_base.specs.declared.command.Reply.{Reply}
@@ -96,10 +96,10 @@ reply_words (Says.ReadTooFew place index causes) = at_place place (too_few index
 reply_words (Says.Refused place refusal) = at_place place (refusal_word refusal ∷ [])
 reply_words (Says.Recovered block slot server version) =
     codes "recovered" ∷ slot_words block slot
-        ++ codes "on" ∷ decimal server ∷ codes "version" ∷ decimal version ∷ []
+    ++ codes "on" ∷ decimal server ∷ codes "version" ∷ decimal version ∷ []
 reply_words (Says.Moved block slot from to version) =
     codes "moved" ∷ slot_words block slot
-        ++ codes "from" ∷ decimal from ∷ codes "to" ∷ decimal to ∷ codes "version" ∷ decimal version ∷ []
+    ++ codes "from" ∷ decimal from ∷ codes "to" ∷ decimal to ∷ codes "version" ∷ decimal version ∷ []
 reply_words (Says.TooFew index causes) = too_few index causes
 reply_words (Says.DestFailed server cause) = codes "destfailed" ∷ decimal server ∷ cause_word cause ∷ []
 reply_words (Says.SourceFailed server cause) = codes "sourcefailed" ∷ decimal server ∷ cause_word cause ∷ []

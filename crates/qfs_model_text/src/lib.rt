@@ -9,5 +9,4 @@ ghost use Rattle.qfs_model_text.specs.Reply.{reply_lines};
 /// The replies of a put and a get of five bytes are printed so.
 pub fn prints_first_replies()
     ensures { reply_lines first_replies ≡ first_lines }
-{
-}
+{}

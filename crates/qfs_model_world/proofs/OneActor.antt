@@ -1,5 +1,5 @@
 -- The steps of a script whose one phase has one actor.
-use Rattle.std.proofs.Common.{◌≡◌, ℕ, ◌+◌, Bool, true, false, cond, List, [], ◌∷◌, ◌++◌, length, Option, Some, None, refl, sym, ◌∙◌, ap, ap₂, subst, eq-eqb}
+use Rattle.std.proofs.Common.{◌≡◌, ℕ, Bool, true, false, cond, List, [], ◌∷◌, Option, Some, refl, ◌∙◌, ap, ap₂}
 use Rattle.std.specs.Prelude.{◌&&◌, ◌==◌, is_none, slice_get}
 use Rattle.std.specs.List.{list_any}
 use Rattle.qfs_base.specs.Outcome.{outcome_of}
@@ -7,12 +7,11 @@ use Rattle.qfs_base.specs.declared.command.Command.{Command}
 use Rattle.qfs_base.specs.declared.history.Outcome.{Outcome}
 use Rattle.qfs_base.specs.declared.history.Outcome.TheVariants as Ended
 use Rattle.qfs_base.specs.declared.history.Step.{Step}
-use Rattle.qfs_base.specs.declared.reply.NodeReply.{NodeReply}
 use Rattle.qfs_base.specs.declared.request.NodeRequest.{NodeRequest}
 use Rattle.qfs_base.specs.declared.script.Script.{Script}
-use Rattle.qfs_model_actor.specs.Actor.{Actor, request_of, has_finished, after_reply}
+use Rattle.qfs_model_actor.specs.Actor.{Actor, request_of, has_finished}
 use Rattle.qfs_model_text.specs.Order.{same_outcome}
-use Rattle.qfs_model_world.specs.World.{World, Turned, numbered, renumbered, node_turn, handed_over, move_asking, move_actor, move}
+use Rattle.qfs_model_world.specs.World.{World, numbered, node_turn, handed_over, move_asking, move_actor, move}
 use Rattle.qfs_model_world.specs.Fits.{unfinished, by_phase, first_filled, turn, may_end, is_possible, is_possible_for, is_possible_of, may_come, is_over}
 
 -- a step of the one actor that came out done
@@ -76,8 +75,8 @@ pub may_come-one : (script : Script) (world : World) (commands : List Command) (
 unfolding may_come
 may_come-one script world commands actor request phases actors number asked done =
     let turns : turn script world ≡ actor.number ∷ [] =
-        turn-one script world commands actor phases actors
-        ∙ ap (λ finished. cond finished [] (actor.number ∷ [])) (finished-asks actor request asked) in
+    turn-one script world commands actor phases actors
+    ∙ ap (λ finished. cond finished [] (actor.number ∷ [])) (finished-asks actor request asked) in
     ap₂ (λ a b. a && b) (turn_has (turn script world) actor.number turns number) (possible-one world actor request actors asked done)
 
 -- nothing is left to do where the one actor has finished

@@ -79,21 +79,21 @@ current_copies m block = count_by (λ slot. is_some (slot_at m.slots block slot)
 
 -- the summary of a world after so many steps
 unfoldable pub summary_of : World → ℕ → Summary
-summary_of world steps = record
-    { files = count_by is_closed_row world.meta.tree
-    ; dirs = count_by (λ (row : TreeRow). row.file == 0) world.meta.tree
-    ; blocks = length (standing_blocks world)
-    ; copies = sum_by (current_copies world.meta) (standing_blocks world)
-    ; condemned = length world.meta.condemned
-    ; steps = steps
-    }
+summary_of world steps = record {
+  files = count_by is_closed_row world.meta.tree;
+  dirs = count_by (λ (row : TreeRow). row.file == 0) world.meta.tree;
+  blocks = length (standing_blocks world);
+  copies = sum_by (current_copies world.meta) (standing_blocks world);
+  condemned = length world.meta.condemned;
+  steps = steps;
+}
 
 -- the audit of a world after so many steps, where the files have these bytes
 unfoldable pub audit_of : World → (ℕ → List ℕ) → ℕ → Audit
-audit_of world bytes steps = record
-    { lines = flat_map (audit_of_file world bytes) (closed_rows world.meta.tree)
-    ; summary = summary_of world steps
-    }
+audit_of world bytes steps = record {
+  lines = flat_map (audit_of_file world bytes) (closed_rows world.meta.tree);
+  summary = summary_of world steps;
+}
 
 -- the audit of the world after an order, if it is asked for
 unfoldable pub audit_if : Script → List Step → World → Bool → Option Audit

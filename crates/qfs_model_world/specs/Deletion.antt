@@ -5,7 +5,6 @@ use Rattle.qfs_base.specs.declared.chunk.Copy.{Copy}
 use Rattle.qfs_base.specs.declared.history.Step.{Step}
 use Rattle.qfs_base.specs.declared.reply.ChunkAnswer.{ChunkAnswer}
 use Rattle.qfs_base.specs.declared.reply.ChunkAnswer.TheVariants as Did
-use Rattle.qfs_base.specs.declared.reply.Condemned.{Condemned}
 use Rattle.qfs_base.specs.declared.reply.MetaReply.{MetaReply}
 use Rattle.qfs_base.specs.declared.reply.MetaReply.TheVariants as Told
 use Rattle.qfs_base.specs.declared.reply.NodeReply.{NodeReply}
@@ -27,11 +26,11 @@ ordered_copy reply = None
 
 -- the copy that a server erased
 unfoldable pub erased_if : ℕ → ℕ → ChunkKey → ChunkAnswer → Option SlotCopy
-erased_if server life key Did.Erased = Some (record
-    { block = key.block
-    ; slot = key.slot
-    ; copy = record { server = server; life = life; version = key.version }
-    })
+erased_if server life key Did.Erased = Some (record {
+  block = key.block;
+  slot = key.slot;
+  copy = record { server = server; life = life; version = key.version };
+})
 erased_if server life key answer = None
 
 unfoldable pub erased_copy : ℕ → ChunkAnswer → ChunkRequest → Option SlotCopy

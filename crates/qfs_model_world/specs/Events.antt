@@ -10,7 +10,7 @@ use Rattle.qfs_base.specs.declared.request.NodeRequest.{NodeRequest}
 use Rattle.qfs_base.specs.declared.script.Script.{Script}
 use Rattle.qfs_model_actor.specs.Actor.{Actor, command_number, request_of}
 use Rattle.qfs_model_meta.specs.Past.{Past, no_past, remember}
-use Rattle.qfs_model_world.specs.World.{World, Turned, start, numbered, node_turn, move}
+use Rattle.qfs_model_world.specs.World.{World, start, numbered, node_turn, move}
 
 -- a step in a world: an actor asked a node a request in one of its commands, and was answered
 pub record Event : Type 0 where
@@ -23,14 +23,14 @@ pub record Event : Type 0 where
 
 -- an actor's request, served so
 unfoldable pub event_asking : World → Step → Actor → NodeRequest → Event
-event_asking world step actor request = record
-    { before = world
-    ; actor = step.actor
-    ; command = command_number actor
-    ; outcome = step.outcome
-    ; request = request
-    ; reply = (node_turn world step.actor step.outcome request).reply
-    }
+event_asking world step actor request = record {
+  before = world;
+  actor = step.actor;
+  command = command_number actor;
+  outcome = step.outcome;
+  request = request;
+  reply = (node_turn world step.actor step.outcome request).reply;
+}
 
 unfoldable pub event_by : World → Step → Actor → Option NodeRequest → Option Event
 event_by world step actor None = None

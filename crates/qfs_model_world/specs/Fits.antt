@@ -15,7 +15,7 @@ use Rattle.qfs_base.specs.declared.request.NodeRequest.TheVariants as To
 use Rattle.qfs_base.specs.declared.script.Script.{Script}
 use Rattle.qfs_model_actor.specs.Actor.{Actor, request_of, has_finished}
 use Rattle.qfs_model_text.specs.Order.{same_outcome}
-use Rattle.qfs_model_world.specs.World.{World, Turned, start, numbered, node_turn, move, after}
+use Rattle.qfs_model_world.specs.World.{World, start, numbered, node_turn, move, after}
 
 -- the numbers of the actors that have something left to do
 unfoldable pub unfinished : List Actor → List ℕ
@@ -73,7 +73,7 @@ may_end Ended.NoMemory request = may_want_memory request
 unfoldable pub is_possible : World → ℕ → Outcome → NodeRequest → Bool
 is_possible world actor outcome request =
     may_end outcome request
-        && same_outcome (outcome_of (node_turn world actor outcome request).reply) outcome
+    && same_outcome (outcome_of (node_turn world actor outcome request).reply) outcome
 
 unfoldable pub is_possible_for : World → ℕ → Outcome → Option NodeRequest → Bool
 is_possible_for world actor outcome None = false
@@ -87,7 +87,7 @@ is_possible_of world number outcome (Some actor) = is_possible_for world number 
 unfoldable pub may_come : Script → World → Step → Bool
 may_come script world step =
     list_any (λ number. number == step.actor) (turn script world)
-        && is_possible_of world step.actor step.outcome (numbered world.actors step.actor)
+    && is_possible_of world step.actor step.outcome (numbered world.actors step.actor)
 
 -- whether each of these steps may come in its turn, from a world on
 unfoldable pub fits_from : Script → World → List Step → Bool

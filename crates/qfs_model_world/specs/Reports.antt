@@ -1,5 +1,5 @@
 -- The replies of a world's commands, and whether the file history bears them out.
-use Rattle.std.specs.Prelude.{ℕ, ⊤, ◌==◌, List, length, Option, Some, None, IfSome, IsTrue}
+use Rattle.std.specs.Prelude.{ℕ, ◌==◌, List, Option, IfSome, IsTrue}
 use Rattle.std.specs.Option.{option_and_then}
 use Rattle.std.specs.List.{list_any, enumerate_from}
 use Rattle.qfs_base.specs.Table.{Each}
@@ -27,7 +27,7 @@ EachReport world P =
 abbrev pub IsPlaced : List Event → ℕ → ℕ → Report → Type 0
 IsPlaced steps actor number report =
     IfSome (place_of_report report) (λ place.
-        IsTrue (list_any (λ (event : Event). place_before event == place) (steps_of actor number steps)))
+    IsTrue (list_any (λ (event : Event). place_before event == place) (steps_of actor number steps)))
 
 -- one file history: it is legal, every reply with a place agrees with it, and the place is a moment of the reply's command
 pub record OneFileHistory (script : Script) (order : List Step) : Type 0 where

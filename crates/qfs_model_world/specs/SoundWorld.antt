@@ -1,6 +1,6 @@
 -- The sound world: what holds after every order that fits, in nine parts. What the metaserver alone can tell of each part is
 -- a fact of its own; here stand what ties it to the chunk servers and to the actors.
-use Rattle.std.specs.Prelude.{◌≡◌, ℕ, ⊤, ◌<◌, ◌≤◌, ◌⊎◌, ◌==◌, ◌&&◌, Bool, false, List, [], ◌∷◌, map, flat_map, length, take, drop, slice_index, Option, Some, None, IfSome, is_some, IsTrue, find}
+use Rattle.std.specs.Prelude.{◌≡◌, ℕ, ⊤, ◌<◌, ◌≤◌, ◌⊎◌, ◌==◌, ◌&&◌, Bool, false, List, map, flat_map, length, take, drop, Option, Some, None, IfSome, is_some, IsTrue}
 use Rattle.std.specs.List.{list_any, IsDistinct, enumerate_from}
 use Rattle.qfs_base.specs.Files.{same_pair}
 use Rattle.qfs_base.specs.Key.{key_cmp}
@@ -14,21 +14,17 @@ use Rattle.qfs_base.specs.declared.chunk.Copy.{Copy}
 use Rattle.qfs_base.specs.declared.history.Entry.{Entry}
 use Rattle.qfs_base.specs.declared.history.Entry.TheVariants as Wrote
 use Rattle.qfs_base.specs.declared.history.Step.{Step}
-use Rattle.qfs_base.specs.declared.image.Grant.{Grant}
-use Rattle.qfs_base.specs.declared.image.Lease.{Lease}
 use Rattle.qfs_base.specs.declared.image.MetaImage.{MetaImage}
 use Rattle.qfs_base.specs.declared.image.SlotRow.{SlotRow}
 use Rattle.qfs_base.specs.declared.image.TreeRow.{TreeRow}
 use Rattle.qfs_base.specs.declared.reply.ChunkAnswer.{ChunkAnswer}
 use Rattle.qfs_base.specs.declared.reply.ChunkAnswer.TheVariants as Did
 use Rattle.qfs_base.specs.declared.reply.ChunkReply.{ChunkReply}
-use Rattle.qfs_base.specs.declared.reply.Condemned.{Condemned}
 use Rattle.qfs_base.specs.declared.reply.Granted.{Granted}
 use Rattle.qfs_base.specs.declared.reply.MetaReply.{MetaReply}
 use Rattle.qfs_base.specs.declared.reply.MetaReply.TheVariants as Told
 use Rattle.qfs_base.specs.declared.reply.NodeReply.{NodeReply}
 use Rattle.qfs_base.specs.declared.reply.NodeReply.TheVariants as From
-use Rattle.qfs_base.specs.declared.reply.Opened.{Opened}
 use Rattle.qfs_base.specs.declared.request.ChunkRequest.{ChunkRequest}
 use Rattle.qfs_base.specs.declared.request.ChunkRequest.TheVariants as Serve
 use Rattle.qfs_base.specs.declared.request.NodeRequest.{NodeRequest}
@@ -127,7 +123,7 @@ pub record LivesAgree (world : World) (past : Past) : Type 0 where
 abbrev pub IsStored : World → SlotCopy → Type 0
 IsStored world c =
     IfSome (numbered world.servers c.copy.server) (λ (server : Server).
-        server.life ≡ c.copy.life → IsTrue (has_key key_cmp server.copies (key_at c.block c.slot c.copy)))
+    server.life ≡ c.copy.life → IsTrue (has_key key_cmp server.copies (key_at c.block c.slot c.copy)))
 
 -- a slot's current copy, or its pending grant
 abbrev pub IsStoredOf : World → BlockId → ℕ → Option Copy → Type 0
@@ -180,11 +176,11 @@ pub record LeasesKeep (world : World) (past : Past) : Type 0 where
 -- a pending grant is there and the actor's own
 abbrev pub HasGrant : MetaImage → ℕ → Granted → Type 0
 HasGrant m actor g =
-    (slot_at m.slots g.block g.slot).grant ≡ Some (record
-        { copy = record { server = g.server; life = g.life; version = g.version }
-        ; actor = actor
-        ; lease = g.lease
-        })
+    (slot_at m.slots g.block g.slot).grant ≡ Some (record {
+      copy = record { server = g.server; life = g.life; version = g.version };
+      actor = actor;
+      lease = g.lease;
+    })
 
 -- only the file of a recovery or move may be removed, and its grant with it
 abbrev pub KeepsGrant : MetaImage → ℕ → Granted → Type 0
@@ -201,7 +197,7 @@ pub record KeepsHolding (m : MetaImage) (actor : ℕ) (holding : Holding) : Type
 abbrev pub HeldByActors : World → Type 0
 HeldByActors world =
     Each (λ (actor : Actor). dropped_at actor.number world.meta.dropped ≡ None
-        → KeepsHolding world.meta actor.number (holding_of actor)) world.actors
+    → KeepsHolding world.meta actor.number (holding_of actor)) world.actors
 
 -- ---- the tree is the history
 
@@ -218,7 +214,7 @@ abbrev pub KeepsMaker : Script → List Event → TreeRow → Type 0
 KeepsMaker script steps row =
     (row.file ≡ 0)
     ⊎ ((creation_of row.file steps ≡ Some (record { file = row.file; actor = row.actor; command = row.command }))
-        × (row.len ≡ length (puts_of script row.actor row.command)))
+    × (row.len ≡ length (puts_of script row.actor row.command)))
 
 -- the name tree is that of a legal history, in which each file was made by a put of its own
 pub record TreeTellsHistory (script : Script) (world : World) (steps : List Event) : Type 0 where

@@ -1,5 +1,5 @@
 -- The world of a script: one metaserver, the chunk servers and the actors by number, and how a step moves it.
-use Rattle.std.specs.Prelude.{ℕ, zero, suc, ◌+◌, ◌-◌, List, [], ◌∷◌, ◌++◌, length, take, drop, slice_get, slice_set, slice_index, replicate, filter, map, flat_map, fold, not, Option, Some, None, Bool, true, false}
+use Rattle.std.specs.Prelude.{ℕ, zero, suc, ◌+◌, List, [], ◌∷◌, slice_get, slice_set, replicate, flat_map, fold, Option, Some, None}
 use Rattle.qfs_base.specs.Shape.{Shape}
 use Rattle.qfs_base.specs.declared.command.Command.{Command}
 use Rattle.qfs_base.specs.declared.history.Outcome.{Outcome}
@@ -12,7 +12,7 @@ use Rattle.qfs_base.specs.declared.request.ChunkRequest.{ChunkRequest}
 use Rattle.qfs_base.specs.declared.request.NodeRequest.{NodeRequest}
 use Rattle.qfs_base.specs.declared.request.NodeRequest.TheVariants as To
 use Rattle.qfs_base.specs.declared.script.Script.{Script}
-use Rattle.qfs_model_actor.specs.Actor.{Actor, starting, request_of, has_finished, after_reply}
+use Rattle.qfs_model_actor.specs.Actor.{Actor, starting, request_of, after_reply}
 use Rattle.qfs_model_meta.specs.Step.{Served, opening, meta_step}
 use Rattle.qfs_model_server.specs.Server.{Server, Answered, fresh_server, server_step, without_room}
 
@@ -30,12 +30,12 @@ numbered_actors layout number (commands ∷ more) =
 
 -- the world in which a script starts: all servers up and empty in life 1, no files, all actors at their first command
 unfoldable pub start : Script → World
-start script = record
-    { layout = script.layout
-    ; meta = opening script.servers
-    ; servers = replicate script.servers fresh_server
-    ; actors = numbered_actors script.layout 1 (flat_map (λ phase. phase) script.phases)
-    }
+start script = record {
+  layout = script.layout;
+  meta = opening script.servers;
+  servers = replicate script.servers fresh_server;
+  actors = numbered_actors script.layout 1 (flat_map (λ phase. phase) script.phases);
+}
 
 -- what stands at a number, counted from 1
 unfoldable pub numbered : {X : Type 0} → List X → ℕ → Option X
@@ -59,10 +59,10 @@ meta_turned world served =
 
 -- a chunk server served a request
 unfoldable pub chunk_turned : World → ℕ → Answered → Turned
-chunk_turned world number answered = record
-    { world = record world { servers = renumbered world.servers number answered.server }
-    ; reply = From.Chunk answered.reply
-    }
+chunk_turned world number answered = record {
+  world = record world { servers = renumbered world.servers number answered.server };
+  reply = From.Chunk answered.reply;
+}
 
 -- a request to a chunk server; one that isn't there is down
 unfoldable pub chunk_turn : World → ℕ → ChunkRequest → Outcome → Option Server → Turned
