@@ -6,3 +6,4 @@ pub mod Repairs
 pub mod Refusals
 pub mod Restarts
 pub mod Audits
+pub mod Meanings

@@ -1,5 +1,5 @@
 -- The reply lines: what each command of each actor reports.
-use Rattle.std.specs.Prelude.{ℕ, ◌+◌, List, [], ◌∷◌, ◌++◌, codes, decimal, map, flat_map, length, Bool, true, false}
+use Rattle.std.specs.Prelude.{ℕ, List, [], ◌∷◌, ◌++◌, codes, decimal, map, flat_map, length, Bool, true, false}
 use Rattle.hex.specs.Hex.{encode_lower}
 use Rattle.qfs_base.specs.declared.chunk.BlockId.{BlockId}
 use Rattle.qfs_base.specs.declared.command.Reply.{Reply}

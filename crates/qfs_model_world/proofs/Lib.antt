@@ -1,3 +1,4 @@
 pub mod OneActor
+pub mod Texts
 pub mod OnLiterals
 pub mod Orders

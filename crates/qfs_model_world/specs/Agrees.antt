@@ -1,8 +1,8 @@
 -- When a reply with a place agrees with the file history.
-use Rattle.std.specs.Prelude.{◌≡◌, ℕ, ⊤, ◌+◌, ◌==◌, ◌&&◌, ◌<◌, min, Bool, List, [], ◌∷◌, length, take, find, slice_get, Option, Some, None, IsTrue}
+use Rattle.std.specs.Prelude.{◌≡◌, ℕ, ⊤, ◌+◌, ◌==◌, ◌&&◌, ◌<◌, min, Bool, List, length, take, find, slice_get, Option, Some, None, IsTrue}
 use Rattle.std.specs.Option.{option_map}
 use Rattle.std.specs.List.{list_any}
-use Rattle.qfs_base.specs.FileReplies.{reply_at, bytes_at}
+use Rattle.qfs_base.specs.FileReplies.{reply_at}
 use Rattle.qfs_base.specs.Files.{Content, FileEntry, IsClosed, entry_path}
 use Rattle.qfs_base.specs.NameTree.{PathNames, stands_at}
 use Rattle.qfs_base.specs.declared.command.Command.{Command}
@@ -13,7 +13,6 @@ use Rattle.qfs_base.specs.declared.command.Range.{Range}
 use Rattle.qfs_base.specs.declared.command.Reply.TheVariants as Says
 use Rattle.qfs_base.specs.declared.history.Entry.{Entry}
 use Rattle.qfs_base.specs.declared.history.Entry.TheVariants as Wrote
-use Rattle.qfs_base.specs.declared.history.FileReply.{FileReply}
 use Rattle.qfs_base.specs.declared.history.FileReply.TheVariants as Told
 use Rattle.qfs_base.specs.declared.script.Script.{Script}
 use Rattle.qfs_model_actor.specs.Get.{range_of}

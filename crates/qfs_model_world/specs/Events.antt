@@ -10,7 +10,7 @@ use Rattle.qfs_base.specs.declared.request.NodeRequest.{NodeRequest}
 use Rattle.qfs_base.specs.declared.script.Script.{Script}
 use Rattle.qfs_model_actor.specs.Actor.{Actor, command_number, request_of}
 use Rattle.qfs_model_meta.specs.Past.{Past, no_past, remember}
-use Rattle.qfs_model_world.specs.World.{World, Turned, start, numbered, node_turn, move}
+use Rattle.qfs_model_world.specs.World.{World, start, numbered, node_turn, move}
 
 -- a step in a world: an actor asked a node a request in one of its commands, and was answered
 pub record Event : Type 0 where

@@ -1,5 +1,5 @@
 -- Every get reads the bytes of its file, as long as six copies of each of its blocks stay readable.
-use Rattle.std.specs.Prelude.{◌≡◌, ℕ, ◌==◌, ◌&&◌, nat_lt, min, not, Bool, true, false, List, [], take, slice_get, Option, Some, None, IsTrue}
+use Rattle.std.specs.Prelude.{◌≡◌, ℕ, ◌==◌, ◌&&◌, nat_lt, not, Bool, true, false, List, [], take, slice_get, Option, Some, IsTrue}
 use Rattle.std.specs.List.{list_all, list_any}
 use Rattle.qfs_base.specs.FileReplies.{reply_at}
 use Rattle.qfs_base.specs.NameTree.{PathNames}
@@ -14,7 +14,6 @@ use Rattle.qfs_base.specs.declared.history.Step.{Step}
 use Rattle.qfs_base.specs.declared.reply.MetaReply.TheVariants as Meta
 use Rattle.qfs_base.specs.declared.reply.NodeReply.TheVariants as From
 use Rattle.qfs_base.specs.declared.reply.Opened.{Opened}
-use Rattle.qfs_base.specs.declared.request.MetaRequest.{MetaRequest}
 use Rattle.qfs_base.specs.declared.request.MetaRequest.TheVariants as Ask
 use Rattle.qfs_base.specs.declared.request.NodeRequest.{NodeRequest}
 use Rattle.qfs_base.specs.declared.request.NodeRequest.TheVariants as To

@@ -15,7 +15,7 @@ use Rattle.qfs_base.specs.declared.request.NodeRequest.TheVariants as To
 use Rattle.qfs_base.specs.declared.script.Script.{Script}
 use Rattle.qfs_model_actor.specs.Actor.{Actor, request_of, has_finished}
 use Rattle.qfs_model_text.specs.Order.{same_outcome}
-use Rattle.qfs_model_world.specs.World.{World, Turned, start, numbered, node_turn, move, after}
+use Rattle.qfs_model_world.specs.World.{World, start, numbered, node_turn, move, after}
 
 -- the numbers of the actors that have something left to do
 unfoldable pub unfinished : List Actor → List ℕ

@@ -1,8 +1,7 @@
 -- When a get can read a block: six of its nine copies stay readable from its opening to its release.
-use Rattle.std.specs.Prelude.{ℕ, ◌-◌, ◌+◌, ◌==◌, ◌&&◌, nat_le, not, Bool, true, false, List, [], take, drop, count_by, Option, Some, None, unwrap_or, slice_get}
+use Rattle.std.specs.Prelude.{ℕ, ◌-◌, ◌+◌, ◌==◌, ◌&&◌, nat_le, not, Bool, false, List, [], take, drop, count_by, Option, Some, None, unwrap_or, slice_get}
 use Rattle.std.specs.List.{list_all, list_any}
 use Rattle.qfs_base.specs.declared.chunk.BlockId.{BlockId}
-use Rattle.qfs_base.specs.declared.chunk.ChunkKey.{ChunkKey}
 use Rattle.qfs_base.specs.declared.chunk.Copy.{Copy}
 use Rattle.qfs_base.specs.declared.history.Outcome.TheVariants as Ended
 use Rattle.qfs_base.specs.declared.reply.Opened.{Opened}

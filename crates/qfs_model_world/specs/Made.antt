@@ -1,5 +1,5 @@
 -- What a file's bytes are, and when a copy of one of its chunks is right.
-use Rattle.std.specs.Prelude.{◌≡◌, ℕ, ◌==◌, List, [], find, filter_map, Option, Some, None, unwrap_or}
+use Rattle.std.specs.Prelude.{ℕ, ◌==◌, List, [], find, filter_map, Option, Some, None, unwrap_or}
 use Rattle.std.specs.Option.{option_map}
 use Rattle.qfs_base.specs.Shape.{Shape}
 use Rattle.qfs_base.specs.declared.chunk.ChunkKey.{ChunkKey}

@@ -7,7 +7,6 @@ use Rattle.qfs_base.specs.Recipe.{bytes_of}
 use Rattle.qfs_base.specs.declared.command.Command.{Command}
 use Rattle.qfs_base.specs.declared.command.Command.TheVariants as Does
 use Rattle.qfs_base.specs.declared.command.FileCommand.TheVariants as File
-use Rattle.qfs_base.specs.declared.recipe.Form.{Form}
 use Rattle.qfs_base.specs.declared.script.Script.{Script}
 use Rattle.qfs_model_world.specs.World.{numbered}
 

@@ -1,5 +1,5 @@
 -- The metaserver after a restart, and what its two disks spell at the end of a run.
-use Rattle.std.specs.Prelude.{◌≡◌, ℕ, ⊤, ◌⊎◌, ◌&&◌, ◌||◌, nat_lt, not, Bool, true, false, List, [], ◌∷◌, ◌++◌, filter, filter_map, fold, Option, Some, None}
+use Rattle.std.specs.Prelude.{◌≡◌, ℕ, ◌⊎◌, ◌||◌, nat_lt, not, Bool, true, false, List, [], ◌∷◌, ◌++◌, filter, filter_map, fold, Option, Some, None}
 use Rattle.qfs_base.specs.Shape.{Shape}
 use Rattle.qfs_base.specs.Table.{Each}
 use Rattle.qfs_base.specs.declared.history.Outcome.TheVariants as Ended

@@ -1,5 +1,5 @@
 -- The replies of a world's commands, and whether the file history bears them out.
-use Rattle.std.specs.Prelude.{ℕ, ⊤, ◌==◌, List, length, Option, Some, None, IfSome, IsTrue}
+use Rattle.std.specs.Prelude.{ℕ, ◌==◌, List, Option, IfSome, IsTrue}
 use Rattle.std.specs.Option.{option_and_then}
 use Rattle.std.specs.List.{list_any, enumerate_from}
 use Rattle.qfs_base.specs.Table.{Each}

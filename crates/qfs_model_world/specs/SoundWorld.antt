@@ -1,6 +1,6 @@
 -- The sound world: what holds after every order that fits, in nine parts. What the metaserver alone can tell of each part is
 -- a fact of its own; here stand what ties it to the chunk servers and to the actors.
-use Rattle.std.specs.Prelude.{◌≡◌, ℕ, ⊤, ◌<◌, ◌≤◌, ◌⊎◌, ◌==◌, ◌&&◌, Bool, false, List, [], ◌∷◌, map, flat_map, length, take, drop, slice_index, Option, Some, None, IfSome, is_some, IsTrue, find}
+use Rattle.std.specs.Prelude.{◌≡◌, ℕ, ⊤, ◌<◌, ◌≤◌, ◌⊎◌, ◌==◌, ◌&&◌, Bool, false, List, map, flat_map, length, take, drop, Option, Some, None, IfSome, is_some, IsTrue}
 use Rattle.std.specs.List.{list_any, IsDistinct, enumerate_from}
 use Rattle.qfs_base.specs.Files.{same_pair}
 use Rattle.qfs_base.specs.Key.{key_cmp}
@@ -14,21 +14,17 @@ use Rattle.qfs_base.specs.declared.chunk.Copy.{Copy}
 use Rattle.qfs_base.specs.declared.history.Entry.{Entry}
 use Rattle.qfs_base.specs.declared.history.Entry.TheVariants as Wrote
 use Rattle.qfs_base.specs.declared.history.Step.{Step}
-use Rattle.qfs_base.specs.declared.image.Grant.{Grant}
-use Rattle.qfs_base.specs.declared.image.Lease.{Lease}
 use Rattle.qfs_base.specs.declared.image.MetaImage.{MetaImage}
 use Rattle.qfs_base.specs.declared.image.SlotRow.{SlotRow}
 use Rattle.qfs_base.specs.declared.image.TreeRow.{TreeRow}
 use Rattle.qfs_base.specs.declared.reply.ChunkAnswer.{ChunkAnswer}
 use Rattle.qfs_base.specs.declared.reply.ChunkAnswer.TheVariants as Did
 use Rattle.qfs_base.specs.declared.reply.ChunkReply.{ChunkReply}
-use Rattle.qfs_base.specs.declared.reply.Condemned.{Condemned}
 use Rattle.qfs_base.specs.declared.reply.Granted.{Granted}
 use Rattle.qfs_base.specs.declared.reply.MetaReply.{MetaReply}
 use Rattle.qfs_base.specs.declared.reply.MetaReply.TheVariants as Told
 use Rattle.qfs_base.specs.declared.reply.NodeReply.{NodeReply}
 use Rattle.qfs_base.specs.declared.reply.NodeReply.TheVariants as From
-use Rattle.qfs_base.specs.declared.reply.Opened.{Opened}
 use Rattle.qfs_base.specs.declared.request.ChunkRequest.{ChunkRequest}
 use Rattle.qfs_base.specs.declared.request.ChunkRequest.TheVariants as Serve
 use Rattle.qfs_base.specs.declared.request.NodeRequest.{NodeRequest}

@@ -1,5 +1,5 @@
 -- What a script and an order print.
-use Rattle.std.specs.Prelude.{ℕ, ◌+◌, Bool, true, false, nat_le, List, [], ◌∷◌, ◌++◌, length, flat_map}
+use Rattle.std.specs.Prelude.{ℕ, ◌+◌, Bool, true, false, nat_le, List, [], ◌∷◌, length, flat_map}
 use Rattle.sha2.specs.Sha256.{sha256}
 use Rattle.qfs_base.specs.declared.command.Excerpt.{Excerpt}
 use Rattle.qfs_base.specs.declared.command.Reply.{Reply}

@@ -1,5 +1,5 @@
 -- The world of a script: one metaserver, the chunk servers and the actors by number, and how a step moves it.
-use Rattle.std.specs.Prelude.{ℕ, zero, suc, ◌+◌, ◌-◌, List, [], ◌∷◌, ◌++◌, length, take, drop, slice_get, slice_set, slice_index, replicate, filter, map, flat_map, fold, not, Option, Some, None, Bool, true, false}
+use Rattle.std.specs.Prelude.{ℕ, zero, suc, ◌+◌, List, [], ◌∷◌, slice_get, slice_set, replicate, flat_map, fold, Option, Some, None}
 use Rattle.qfs_base.specs.Shape.{Shape}
 use Rattle.qfs_base.specs.declared.command.Command.{Command}
 use Rattle.qfs_base.specs.declared.history.Outcome.{Outcome}
@@ -12,7 +12,7 @@ use Rattle.qfs_base.specs.declared.request.ChunkRequest.{ChunkRequest}
 use Rattle.qfs_base.specs.declared.request.NodeRequest.{NodeRequest}
 use Rattle.qfs_base.specs.declared.request.NodeRequest.TheVariants as To
 use Rattle.qfs_base.specs.declared.script.Script.{Script}
-use Rattle.qfs_model_actor.specs.Actor.{Actor, starting, request_of, has_finished, after_reply}
+use Rattle.qfs_model_actor.specs.Actor.{Actor, starting, request_of, after_reply}
 use Rattle.qfs_model_meta.specs.Step.{Served, opening, meta_step}
 use Rattle.qfs_model_server.specs.Server.{Server, Answered, fresh_server, server_step, without_room}
 
