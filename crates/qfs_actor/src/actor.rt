@@ -9,8 +9,9 @@ ghost use Rattle.qfs_actor.specs.Rest.{IsUnbuilt};
 use crate::progress::Progress;
 use crate::stage::Stopped;
 use crate::step::{next_move, next_request};
-use qfs_base::command::Command;
+use qfs_base::command::{Command, Reply};
 use qfs_base::listing::Listing;
+use qfs_base::lists::Bytes;
 use qfs_base::numbers::ActorId;
 use qfs_base::reply::NodeReply;
 use qfs_base::request::NodeRequest;
@@ -57,6 +58,20 @@ impl Actor {
             commands,
             progress,
         }
+    }
+
+    /// The actor's number.
+    pub fn number(&self) -> ActorId
+        ensures { result ≡ self.now.number }
+    {
+        self.number
+    }
+
+    /// The reports of the commands that have ended.
+    pub fn ended(&self) -> &[Reply<Bytes>]
+        ensures { result.now ≡ self.now.ended }
+    {
+        self.progress.ended.as_slice()
     }
 
     /// Whether all commands have ended.

@@ -10,6 +10,8 @@ mod put;
 mod request;
 mod stage;
 mod step;
+#[cfg(test)]
+mod tests;
 mod turn;
 
 pub use actor::Actor;
