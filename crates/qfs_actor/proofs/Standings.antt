@@ -1,8 +1,9 @@
 -- How an actor stands before and after each move.
-use Rattle.std.proofs.Common.{◌≡◌, ◌∙◌, refl, sym, ap, subst, arith, inl, inr, ℕ, ◌<◌, ◌^◌, true, false, List, [], ◌∷◌, ◌++◌, length, nat_le, Option, Some, None}
+use Rattle.std.proofs.Common.{◌≤◌, ◌≡◌, ◌∙◌, refl, sym, ap, subst, arith, inl, inr, ℕ, ◌<◌, ◌^◌, true, false, List, [], ◌∷◌, ◌++◌, length, nat_le, Option, Some, None}
 use Rattle.std.specs.Prelude.{slice_get, All, is_none}
 use Rattle.std.proofs.lemmas.Bool.Decides.{nat_tests}
-use Rattle.std.proofs.lemmas.Option.{slice_get_cases, same_Some}
+use Rattle.std.proofs.lemmas.Option.{slice_get_cases, slice_get_within, same_Some}
+use Rattle.std.proofs.lemmas.Grind.{common_steps}
 use Rattle.qfs_base.specs.Shape.{Shape}
 use Rattle.qfs_base.specs.declared.command.Command.{Command}
 use Rattle.qfs_base.specs.declared.command.Command.TheVariants as Does
@@ -16,7 +17,7 @@ use Rattle.qfs_model_actor.specs.Get.{get_work}
 use Rattle.qfs_model_actor.specs.Hold.{ask_or, give_back, end_with}
 use Rattle.qfs_model_actor.specs.Put.{ask_grant, store, close_file, put_work}
 use Rattle.qfs_model_actor.specs.Read.{Source}
-use Rattle.qfs_model_actor.specs.Work.{Work, ends, asks, goes_on, follow, request_in}
+use Rattle.qfs_model_actor.specs.Work.{Report, Work, ends, asks, goes_on, follow, request_in}
 use Rattle.qfs_actor.specs.declared.progress.Progress.{Progress}
 use Rattle.qfs_actor.specs.declared.stage.Held.TheVariants as Holds
 use Rattle.qfs_actor.specs.declared.stage.Move.{Move}
@@ -68,7 +69,7 @@ rest_of-asks layout number command sources pieces (Some stage) built holds = res
 pub new-stands : (layout : Shape) (commands : List Command) → length commands < 2 ^ 16 → All IsBuilt commands → IsStanding layout commands fresh
 unfolding follow rest_of
 new-stands layout commands few built =
-    record { few = few; built = built; present = λ command is. record { rest = refl; holds = tt } }
+    record { few = few; built = built; within = omega arith; present = λ command is. record { rest = refl; holds = tt } }
 
 -- one of the commands is built for
 pub built_at : (commands : List Command) (n : ℕ) (command : Command) → All IsBuilt commands → slice_get commands n ≡ Some command → IsBuilt command
@@ -152,11 +153,19 @@ asks-follows number layout commands progress command reply sources pieces stage 
       stands = record {
         few = stands.few;
         built = stands.built;
+        within = stands.within;
         present = λ other there. subst (IsPresent layout next) (same_Some command other (sym is ∙ there)) here;
       };
       is_after = sym (after_reply-present number layout commands progress command reply _ stands is goes
           ∙ moved_on-asks (standing number layout commands progress) reply _ (rest_at-asks layout (bytes_put command) sources pieces stage holds));
     }
+
+-- one command more has ended
+more_ended : (commands : List Command) (ended : List Report) (command : Command) (report : Report) → length ended ≤ length commands
+    → slice_get commands (length ended) ≡ Some command → length (ended ++ report ∷ []) ≤ length commands
+more_ended commands ended command report within is =
+    let inside : length ended < length commands = slice_get_within commands (length ended) command is in
+    grind (arith, common_steps)
 
 -- the actor after a move of its present command
 pub moved-follows : (number : ℕ) (layout : Shape) (commands : List Command) (progress : Progress) (command : Command) (step : Move) (reply : NodeReply)
@@ -168,7 +177,12 @@ pub moved-follows : (number : ℕ) (layout : Shape) (commands : List Command) (p
 unfolding rest_after rest_at rest_of moved_on follow
 moved-follows number layout commands progress command (Then.Ends report) reply stands is goes holds =
     record {
-      stands = record { few = stands.few; built = stands.built; present = λ other there. record { rest = refl; holds = tt } };
+      stands = record {
+        few = stands.few;
+        built = stands.built;
+        within = more_ended commands progress.ended command report stands.within is;
+        present = λ other there. record { rest = refl; holds = tt };
+      };
       is_after = sym (after_reply-present number layout commands progress command reply (ends report) stands is goes);
     }
 moved-follows number layout commands progress command (Then.Asks stage) reply stands is goes holds =

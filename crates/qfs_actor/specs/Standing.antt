@@ -1,5 +1,5 @@
 -- How an actor stands: what is left of its present command is what its stage says.
-use Rattle.std.specs.Prelude.{◌≡◌, ℕ, ◌+◌, ◌<◌, ◌^◌, List, length, All, Some, slice_get}
+use Rattle.std.specs.Prelude.{◌≡◌, ℕ, ◌+◌, ◌<◌, ◌≤◌, ◌^◌, List, length, All, Some, slice_get}
 use Rattle.qfs_base.specs.Shape.{Shape}
 use Rattle.qfs_base.specs.declared.command.Command.{Command}
 use Rattle.qfs_model_actor.specs.Actor.{Actor}
@@ -23,6 +23,7 @@ pub record IsPresent (layout : Shape) (progress : Progress) (command : Command) 
 pub record IsStanding (layout : Shape) (commands : List Command) (progress : Progress) : Type 0 where
   pub few : length commands < 2 ^ 16
   pub built : All IsBuilt commands
+  pub within : length progress.ended ≤ length commands
   pub present : (command : Command) → slice_get commands (length progress.ended) ≡ Some command → IsPresent layout progress command
 
 -- an actor of these parts

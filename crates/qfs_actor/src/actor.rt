@@ -69,9 +69,26 @@ impl Actor {
 
     /// The reports of the commands that have ended.
     pub fn ended(&self) -> &[Reply<Bytes>]
-        ensures { result.now ≡ self.now.ended }
+        ensures ended { result.now ≡ self.now.ended }
+        ensures few { length result.now < 2 ^ 16 }
     {
         self.progress.ended.as_slice()
+    }
+
+    /// The reports of the commands that have ended, once the actor isn't wanted any more.
+    pub fn into_ended(self) -> Listing<Reply<Bytes>>
+        ensures ended { result ≡ self.ended }
+        ensures few { length result < 2 ^ 16 }
+    {
+        let Actor {
+            alloc: _,
+            number: _,
+            layout: _,
+            commands: _,
+            progress,
+        } = self;
+        let Progress { ended, .. } = progress;
+        ended
     }
 
     /// Whether all commands have ended.
