@@ -40,7 +40,7 @@ pub erase_absent : (key : ChunkKey) (life : ℕ) (told : Option Held) (shelf : K
     IsAway told shelf life None → has_key key_cmp shelf.lengths key ≡ false → IsStep (Ask.Erase key life) told shelf (without_room Answer.Absent) told shelf
 erase_absent key life told shelf away apart =
     erase_refused key life told shelf Answer.Absent (λ server held told_is stands.
-      away server held _ told_is stands ∙ absent_due _ (sym (known_is_there held shelf server key stands) ∙ apart))
+    away server held _ told_is stands ∙ absent_due _ (sym (known_is_there held shelf server key stands) ∙ apart))
 
 erase_attempt : (key : ChunkKey) (life : ℕ) (told told' : Option Held) (shelf shelf' : Known) (answer : ChunkAnswer) →
     IsAway told shelf life None → has_key key_cmp shelf.lengths key ≡ true →
@@ -61,10 +61,10 @@ erase_stands held shelf server key stands = record {
   life = stands.life;
   lengths = ap (λ (lengths : Lengths). without_key key_cmp lengths key) stands.lengths ∙ sym (lengths_without server.copies key);
   keys = λ q.
-    keeps_along q _ _ _ _
-    (sym (value_at-without_key key_cmp_total held.contents key q))
-    (sym (value_at-without_key key_cmp_total server.copies key q))
-    (keeps_one key q None _ None _ (same_key q key) (same_key-is q key) (nothing_named key) (stands.keys q));
+      keeps_along q _ _ _ _
+      (sym (value_at-without_key key_cmp_total held.contents key q))
+      (sym (value_at-without_key key_cmp_total server.copies key q))
+      (keeps_one key q None _ None _ (same_key q key) (same_key-is q key) (nothing_named key) (stands.keys q));
 }
 
 erased : (key : ChunkKey) (life : ℕ) (told told' : Option Held) (shelf : Known) → told' ≡ option_map (lacking key) told →

@@ -46,8 +46,7 @@ wipe_attempt : (told told' : Option Held) (shelf : Known) (life : ℕ) → told'
     IsAttempt Ask.Wipe told shelf (without_room (Answer.Wiped life)) told' (record shelf { lengths = [] })
 unfolding chunk_attempted chunk_outcome chunk_served
 wipe_attempt told told' shelf life wiped life_is server before told_is stands =
-    let told'_is = wiped ∙ ap (option_map emptied) told_is in
-    (
+    let told'_is = wiped ∙ ap (option_map emptied) told_is in (
       emptied before,
       told'_is,
       record {
@@ -95,8 +94,7 @@ inventory_attempt : (told : Option Held) (shelf : Known) (life : ℕ) (keys : Li
 unfolding chunk_attempted chunk_outcome chunk_served
 inventory_attempt told shelf life keys life_is keys_are server before told_is stands =
     let same_life = life_is before told_is ∙ stands.life in
-    let same_keys = keys_are ∙ ap (λ (lengths : Lengths). keys_of lengths) stands.lengths ∙ keys_of-map_values length server.copies in
-    (
+    let same_keys = keys_are ∙ ap (λ (lengths : Lengths). keys_of lengths) stands.lengths ∙ keys_of-map_values length server.copies in (
       before,
       told_is,
       record {

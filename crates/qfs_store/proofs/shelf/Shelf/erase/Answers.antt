@@ -25,8 +25,8 @@ pub returns-in-Ok-clause-step : goal.returns-in-Ok-clause-step
 returns-in-Ok-clause-step g c =
     rw c.forget.ensures
     (erase_done _ _ _ _ _ (subst (IsAway _ _ _) c.in_default.is c.away.ensures.refusal)
-      (sym (ap (λ (s : Known). has_key key_cmp s.lengths c.args.key) c.self.view_is) ∙ sym c.contains.ensures ∙ c.if-not-contains.false)
-      c.in-Ok.ensures.removed)
+    (sym (ap (λ (s : Known). has_key key_cmp s.lengths c.args.key) c.self.view_is) ∙ sym c.contains.ensures ∙ c.if-not-contains.false)
+    c.in-Ok.ensures.removed)
 
 pub returns-in-Err-clause-step : goal.returns-in-Err-clause-step
 returns-in-Err-clause-step g c =
