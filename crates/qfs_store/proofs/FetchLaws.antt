@@ -33,7 +33,7 @@ known_has_range held shelf server key from count stands =
     ∙ ap (reaches (from + count)) (length_at server.copies key)
     ∙ range_of (value_at key_cmp server.copies key) (from + count)
 
-size_reached : (end size : ℕ) → nat_le end size ≡ true → end ≤ size
+pub size_reached : (end size : ℕ) → nat_le end size ≡ true → end ≤ size
 size_reached end size met = grind (arith, nat_tests)
 
 -- the copy that such a range lies in

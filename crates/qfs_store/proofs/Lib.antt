@@ -4,3 +4,6 @@ pub mod PutLaws
 pub mod FetchLaws
 pub mod EraseLaws
 pub mod ServerLaws
+pub mod StartLaws
+pub mod ReadLaws
+pub mod StartStepLaws

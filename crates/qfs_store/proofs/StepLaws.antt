@@ -94,3 +94,10 @@ quiet_is_no_fault _ fact quiet = tt
 pub quiet_has_memory : (answer : ChunkAnswer) → IsQuiet answer → TakesNoMemory answer
 quiet_has_memory Answer.NoMemory quiet = absurd quiet
 quiet_has_memory _ quiet = tt
+
+-- ---- requests that are passed on
+
+-- a request that was served as another name for it
+pub passed_on : (request asked : ChunkRequest) (told told' : Option Held) (shelf shelf' : Known) (reply said : ChunkReply) → request ≡ asked → reply ≡ said → IsStep asked told shelf said told' shelf' → IsStep request told shelf reply told' shelf'
+passed_on request asked told told' shelf shelf' reply said one two step =
+    subst (λ (t : ChunkRequest × ChunkReply). IsStep t.0 told shelf t.1 told' shelf') (λ i. (sym one i, sym two i)) step

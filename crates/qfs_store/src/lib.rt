@@ -2,5 +2,6 @@
 #![tactic(auto)]
 
 mod shelf;
+mod starting;
 
 pub use shelf::Shelf;

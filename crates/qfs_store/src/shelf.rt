@@ -9,13 +9,15 @@ ghost use Rattle.qfs_device.specs.Fault.{Rose};
 ghost use Rattle.qfs_device.specs.Held.{Held};
 ghost use Rattle.qfs_model_server.specs.Server.{without_room};
 ghost use Rattle.qfs_record.specs.ChunkRecord.{chunk_record};
-ghost use Rattle.qfs_store.specs.Stands.{no_copies, knowing, forgetting, reaches, HoldsRange, IsFill, IsGrounded, IsStep, IsAttempt, IsAway, failure, OnFault, IsQuiet, TakesNoMemory};
+ghost use Rattle.qfs_store.specs.Stands.{no_copies, knowing, forgetting, reaches, HoldsRange, IsFill, IsGrounded, IsStep, IsAttempt, IsAway, failure, OnFault, IsQuiet, TakesNoMemory, MemoryFor, IsBuilt};
 
+use crate::starting::copies_on;
 use qfs_base::chunk::ChunkKey;
 use qfs_base::key_map::KeyMap;
-use qfs_base::lists::KeyList;
+use qfs_base::lists::{Bytes, KeyList};
 use qfs_base::numbers::Life;
-use qfs_base::reply::ChunkAnswer;
+use qfs_base::reply::{ChunkAnswer, ChunkReply};
+use qfs_base::request::ChunkRequest;
 use qfs_device::{ChunkDevice, DeviceError};
 use qfs_record::write_chunk;
 use std::alloc::{AllocError, Global};
@@ -39,6 +41,12 @@ impl Model for Shelf {
     ghost Value = { Known };
 
     ghost view = { λ s. record { up = s.up; lengths = s.lengths } };
+
+    ghost use Rattle.std.specs.List.Sorted.{IsStrictlySortedBy};
+    ghost use Rattle.std.specs.Map.{keys_of};
+    ghost use Rattle.qfs_base.specs.Key.{key_cmp};
+
+    ghost invariant = { λ s. IsStrictlySortedBy key_cmp (keys_of s.lengths) };
 }
 
 impl Shelf {
@@ -50,6 +58,39 @@ impl Shelf {
             up: true,
             lengths: KeyMap::new(alloc),
             alloc,
+        }
+    }
+
+    /// Serves a request. What comes of it is the server's step: its answer and, for a Fetch, the room
+    /// that the request handed over; every other answer has an empty room. It answers Fault only
+    /// where the device failed in this call, and want of memory never at a Fetch, Erase, Stop or Wipe.
+    pub fn serve<D: ChunkDevice>(&mut self, device: &mut D, request: ChunkRequest) -> ChunkReply
+        requires built { IsBuilt request }
+        requires grounded { IsGrounded (D.told device.old) self.old }
+        ensures step { IsStep request (D.told device.old) self.old result (D.told device.new) self.new }
+        ensures tells { is_some (D.told device.new) ≡ is_some (D.told device.old) }
+        ensures never_falls { D.faults device.old ≤ D.faults device.new }
+        ensures cause { OnFault result.answer (Rose (D.faults device.old) (D.faults device.new)) }
+        ensures memory { MemoryFor request result.answer }
+    {
+        let alloc = self.alloc;
+        match request {
+            ChunkRequest::Put { key, life, bytes } => {
+                without_room(alloc, self.put(device, key, life, bytes.as_slice()))
+            }
+            ChunkRequest::Fetch {
+                key,
+                life,
+                from,
+                room,
+            } => self.fetch_into(device, key, life, from, room),
+            ChunkRequest::Erase { key, life } => {
+                without_room(alloc, self.erase(device, key, life))
+            }
+            ChunkRequest::Stop => without_room(alloc, self.stop()),
+            ChunkRequest::Start => without_room(alloc, self.start(device)),
+            ChunkRequest::Wipe => without_room(alloc, self.wipe(device)),
+            ChunkRequest::Inventory => without_room(alloc, self.inventory(device)),
         }
     }
 
@@ -188,6 +229,31 @@ impl Shelf {
         ChunkAnswer::Stopped
     }
 
+    /// Brings the server up, with the copies that its device holds: NoMemory or Fault where finding
+    /// them comes to that, and then the server stays down. On a server that is up it does nothing.
+    pub fn start<D: ChunkDevice>(&mut self, device: &mut D) -> ChunkAnswer
+        ensures step { IsStep Ask.Start (D.told device.old) self.old (without_room result) (D.told device.new) self.new }
+        ensures tells { is_some (D.told device.new) ≡ is_some (D.told device.old) }
+        ensures never_falls { D.faults device.old ≤ D.faults device.new }
+        ensures cause { OnFault result (Rose (D.faults device.old) (D.faults device.new)) }
+    {
+        if self.up {
+            return ChunkAnswer::Started {
+                life: device.life(),
+            };
+        }
+        match copies_on(self.alloc, device) {
+            Ok(lengths) => {
+                self.up = true;
+                self.lengths = lengths;
+                ChunkAnswer::Started {
+                    life: device.life(),
+                }
+            }
+            Err(error) => failed(error),
+        }
+    }
+
     /// Empties the server, up or not, and begins its next life, or Fault where the device fails.
     /// It takes no memory.
     pub fn wipe<D: ChunkDevice>(&mut self, device: &mut D) -> ChunkAnswer
@@ -226,6 +292,30 @@ impl Shelf {
         }
     }
 
+    /// Serves a Fetch into the room that it hands over, which comes back with the answer.
+    fn fetch_into<D: ChunkDevice>(
+        &self,
+        device: &mut D,
+        key: ChunkKey,
+        life: Life,
+        from: u32,
+        room: Bytes,
+    ) -> ChunkReply
+        requires grounded { IsGrounded (D.told device.old) self.now }
+        ensures step { IsStep (Ask.Fetch key life from room) (D.told device.old) self.now result (D.told device.new) self.now }
+        ensures tells { is_some (D.told device.new) ≡ is_some (D.told device.old) }
+        ensures never_falls { D.faults device.old ≤ D.faults device.new }
+        ensures cause { OnFault result.answer (Rose (D.faults device.old) (D.faults device.new)) }
+        ensures memory { TakesNoMemory result.answer }
+    {
+        let mut room = room.into_vec();
+        let answer = self.fetch(device, key, life, from, &mut room);
+        ChunkReply {
+            answer,
+            room: Bytes::from_vec(room),
+        }
+    }
+
     /// Whether so many bytes from `from` on lie in a copy that is there.
     fn has_range(&self, key: &ChunkKey, from: u32, count: usize) -> bool
         ensures { result ≡ reaches (from + count) (value_at key_cmp self.now.lengths key.now) }
@@ -253,6 +343,16 @@ impl Shelf {
             return Some(ChunkAnswer::Lost { asked: life, now });
         }
         None
+    }
+}
+
+/// An answer with an empty room.
+fn without_room(alloc: Global, answer: ChunkAnswer) -> ChunkReply
+    ensures { result ≡ without_room answer }
+{
+    ChunkReply {
+        answer,
+        room: Bytes::new(alloc),
     }
 }
 

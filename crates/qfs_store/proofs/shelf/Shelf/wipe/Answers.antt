@@ -1,5 +1,6 @@
 -- The device is empty, or as it was.
 use Rattle.std.proofs.Common.{◌≡◌, Some}
+use Rattle.std.specs.List.Sorted.{IsStrictlySortedBy}
 use Rattle.qfs_device.specs.Held.{Held}
 use Rattle.qfs_store.proofs.StepLaws.{if_some_at}
 use Rattle.qfs_store.proofs.ServerLaws.{wipe_done, wipe_fault}
@@ -12,3 +13,7 @@ returns-in-Ok-clause-step g c =
 
 pub returns-in-Err-clause-step : goal.returns-in-Err-clause-step
 returns-in-Err-clause-step g c = wipe_fault _ _ _ c.in-Err.ensures.emptied
+
+pub invariant_of-self : goal.invariant_of-self
+unfolding IsStrictlySortedBy
+invariant_of-self g c = rw c.clear.ensures tt
