@@ -10,8 +10,6 @@ mod put;
 mod request;
 mod stage;
 mod step;
-#[cfg(test)]
-mod tests;
 mod turn;
 
 pub use actor::Actor;
