@@ -23,7 +23,7 @@ use Rattle.qfs_base.specs.Layout.{blocks_touched}
 use Rattle.qfs_model_text.specs.Order.{same_outcome}
 use Rattle.qfs_model_world.specs.Agrees.{end_of_range}
 use Rattle.qfs_model_world.specs.Events.{Event, events, is_step_of, steps_of}
-use Rattle.qfs_model_world.specs.Held.{is_held}
+use Rattle.qfs_model_world.specs.HeldBlock.{is_held}
 use Rattle.qfs_model_world.specs.Puts.{command_of, puts_of}
 use Rattle.qfs_model_world.specs.Reports.{report_of}
 use Rattle.qfs_model_world.specs.World.{after}
