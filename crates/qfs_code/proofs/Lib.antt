@@ -6,5 +6,5 @@ mod Counts
 mod LeftOut
 mod Words
 mod WantedSlot
-mod Restoring
+pub mod Restoring
 mod Encoding

@@ -5,7 +5,7 @@ use Rattle.std.specs.List.{list_all}
 use Rattle.qfs_base.specs.Mask.{all_slots}
 use Rattle.qfs_galois.specs.Field.{polynomial_product, remainder, product, power}
 use Rattle.qfs_galois.proofs.FieldLaws.{one-product, zero-product, product-zero}
-use Rattle.qfs_model_slot.specs.CodeWord.{parity, IsCodeWord}
+use Rattle.qfs_model_slot.specs.CodeWord.{IsCodeWord}
 use Rattle.qfs_model_slot.specs.Restored.{dot, counts, counts_of}
 use Rattle.qfs_code.specs.Code.{parity_row}
 use Rattle.qfs_code.proofs.Parity.{parity_by_row}

@@ -9,7 +9,6 @@ use Rattle.qfs_base.specs.declared.command.FileCommand.TheVariants as File
 use Rattle.qfs_base.specs.declared.command.Range.{Range}
 use Rattle.qfs_base.specs.declared.history.Step.{Step}
 use Rattle.qfs_base.specs.declared.recipe.Form.{Form}
-use Rattle.qfs_base.specs.declared.recipe.Form.TheVariants as Form
 use Rattle.qfs_base.specs.declared.script.Script.{Script}
 use Rattle.qfs_model_text.specs.Line.{Words, line}
 use Rattle.qfs_model_text.specs.Order.{order_line}

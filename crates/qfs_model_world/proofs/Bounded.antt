@@ -1,6 +1,5 @@
 -- The actors of a script start with a bounded number of steps.
-use Rattle.std.proofs.Common.{◌≡◌, ℕ, zero, suc, ◌+◌, ◌<◌, ◌≤◌, ◌^◌, List, [], ◌∷◌, length, refl, arith, All}
-use Rattle.std.specs.Prelude.{flat_map}
+use Rattle.std.proofs.Common.{ℕ, zero, suc, ◌+◌, ◌<◌, ◌≤◌, ◌^◌, List, [], ◌∷◌, length, arith, All}
 use Rattle.qfs_base.specs.Shape.{Shape, IsRowCount}
 use Rattle.qfs_base.specs.Table.{Each}
 use Rattle.qfs_base.specs.declared.command.Command.{Command}
@@ -8,7 +7,7 @@ use Rattle.qfs_base.specs.declared.command.Command.TheVariants as Does
 use Rattle.qfs_base.specs.declared.command.FileCommand.{FileCommand}
 use Rattle.qfs_base.specs.declared.command.FileCommand.TheVariants as File
 use Rattle.qfs_base.specs.declared.script.Script.{Script}
-use Rattle.qfs_model_actor.specs.Actor.{Actor, starting}
+use Rattle.qfs_model_actor.specs.Actor.{Actor}
 use Rattle.qfs_model_actor.specs.Steps.{IsFileInRange, IsInRange, left}
 use Rattle.qfs_model_actor.proofs.Left.{left-starting}
 use Rattle.qfs_model_script.specs.InScript.{IsFileCommand, IsCommand, IsScript, actors_of}
@@ -59,9 +58,10 @@ actors_bounded : (layout : Shape) (servers number : ℕ) (actors : List (List Co
     → Each IsBounded (numbered_actors layout number actors)
 unfolding numbered_actors
 actors_bounded layout servers number [] rows short each = tt
-actors_bounded layout servers number (commands ∷ more) rows short each =
-    (left-starting layout number commands rows short.0 (all_in_range servers commands each.0),
-    actors_bounded layout servers (number + 1) more rows short.1 each.1)
+actors_bounded layout servers number (commands ∷ more) rows short each = (
+  left-starting layout number commands rows short.0 (all_in_range servers commands each.0),
+  actors_bounded layout servers (number + 1) more rows short.1 each.1,
+)
 
 pub start_bounded : (script : Script) → IsScript script → Each IsBounded (start script).actors
 unfolding start

@@ -1,5 +1,5 @@
 -- Where an order that a script gives can be followed, and where it can't.
-use Rattle.std.proofs.Common.{◌≡◌, ℕ, zero, suc, ◌+◌, Bool, true, false, cond, List, [], ◌∷◌, take, Option, Some, None, refl, sym, ◌∙◌, ap, subst, arith, true≢false}
+use Rattle.std.proofs.Common.{◌≡◌, ℕ, suc, ◌+◌, Bool, true, false, cond, List, [], ◌∷◌, take, Option, Some, refl, sym, ap, subst, arith, true≢false}
 use Rattle.std.specs.Prelude.{◌&&◌, fold, is_none, unwrap_or, slice_get, IsTrue}
 use Rattle.std.specs.List.{list_all}
 use Rattle.qfs_base.specs.declared.history.Step.{Step}
@@ -85,12 +85,15 @@ bad_at_step script step steps world index i more true is bad =
     let rest = more bad in
     let found : IsBadFrom script (move world step) steps rest.0 = rest.2 in
     let may : may_come script world step ≡ true = first_of (may_come script world step) (is_done step) is in
-    let done : is_done step ≡ true = second_of (may_come script world step) (is_done step) is in
-    (suc rest.0, omega (arith, rest.1), record {
-      fitting = both (may_come script world step) (fits_from script (move world step) (take rest.0 steps)) may found.fitting;
-      done = both (is_done step) (list_all is_done (take rest.0 steps)) done found.done;
-      stuck = found.stuck;
-    })
+    let done : is_done step ≡ true = second_of (may_come script world step) (is_done step) is in (
+      suc rest.0,
+      omega (arith, rest.1),
+      record {
+        fitting = both (may_come script world step) (fits_from script (move world step) (take rest.0 steps)) may found.fitting;
+        done = both (is_done step) (list_all is_done (take rest.0 steps)) done found.done;
+        stuck = found.stuck;
+      },
+    )
 
 bad_from_at : (script : Script) (steps : List Step) (world : World) (index i : ℕ)
     → bad_from script world index steps ≡ Some i → (count : ℕ) × (i ≡ index + count) × IsBadFrom script world steps count

@@ -1,4 +1,4 @@
-use Rattle.std.proofs.Common.{refl, arith, ap, ◌≡◌, zero, suc, [], ◌∷◌, List, ℕ, length, get_or, codes, All}
+use Rattle.std.proofs.Common.{refl, arith, ap, zero, suc, [], ◌∷◌, length, get_or, codes, All}
 use lib.Count.{ones}
 use Rattle.qfs_base.specs.Path.{IsName, IsNameByte, IsPath}
 use Rattle.qfs_base.specs.Table.{Each}
