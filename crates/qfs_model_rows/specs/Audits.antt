@@ -1,5 +1,5 @@
 -- A run that is audited.
-use Rattle.std.specs.Prelude.{ℕ, true, List, [], ◌∷◌, ◌++◌, codes}
+use Rattle.std.specs.Prelude.{true, [], ◌∷◌, ◌++◌, codes}
 use Rattle.qfs_base.specs.declared.command.Command.TheVariants as Does
 use Rattle.qfs_base.specs.declared.script.Script.{Script}
 use Rattle.qfs_model_rows.specs.Prints.{Prints}

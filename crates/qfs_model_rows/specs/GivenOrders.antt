@@ -1,6 +1,5 @@
 -- Orders that a script gives, and where they can't be followed any further.
-use Rattle.std.specs.Prelude.{◌≡◌, List, [], ◌∷◌, ◌++◌, Option, Some, None}
-use Rattle.qfs_base.specs.declared.history.Step.{Step}
+use Rattle.std.specs.Prelude.{◌≡◌, ◌++◌, Some, None}
 use Rattle.qfs_model_world.specs.GivenOrder.{bad_place}
 use Rattle.qfs_model_rows.specs.Failures.{put_and_get}
 use Rattle.qfs_model_rows.specs.Scripts.{steps, failing_steps}

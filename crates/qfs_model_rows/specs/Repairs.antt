@@ -8,7 +8,7 @@ use Rattle.qfs_base.specs.declared.script.Script.{Script}
 use Rattle.qfs_model_meta.specs.Slots.{slot_at}
 use Rattle.qfs_model_server.specs.Server.{Copies}
 use Rattle.qfs_model_world.specs.World.{after}
-use Rattle.qfs_model_rows.specs.Prints.{Prints, Stores, one_copy, first_key}
+use Rattle.qfs_model_rows.specs.Prints.{Prints, Stores, one_copy}
 use Rattle.qfs_model_rows.specs.Scripts.{path_of, path_a, put_hex, get_all, remove, put_one, small_script, steps, history_of_put}
 
 -- the chunks of a file of the one byte 01: in slot 0, and the parity slots are as it is

@@ -1,6 +1,5 @@
 -- Checkpoints and restarts of the metaserver.
 use Rattle.std.specs.Prelude.{ℕ, List, [], ◌∷◌, ◌++◌, codes}
-use Rattle.qfs_base.specs.NameTree.{PathNames}
 use Rattle.qfs_base.specs.declared.command.Command.{Command}
 use Rattle.qfs_base.specs.declared.command.Command.TheVariants as Does
 use Rattle.qfs_base.specs.declared.command.FileCommand.TheVariants as File

@@ -1,5 +1,5 @@
 -- Short forms for scripts, orders and texts.
-use Rattle.std.specs.Prelude.{ℕ, List, [], ◌∷◌, ◌++◌, codes, replicate, flat_map, Option, Some, None, false}
+use Rattle.std.specs.Prelude.{ℕ, List, [], ◌∷◌, ◌++◌, codes, replicate, flat_map, Some, None, false}
 use Rattle.qfs_base.specs.NameTree.{PathNames}
 use Rattle.qfs_base.specs.Shape.{Shape}
 use Rattle.qfs_base.specs.declared.command.Command.{Command}
@@ -9,7 +9,6 @@ use Rattle.qfs_base.specs.declared.history.Outcome.{Outcome}
 use Rattle.qfs_base.specs.declared.history.Outcome.TheVariants as Ended
 use Rattle.qfs_base.specs.declared.history.Step.{Step}
 use Rattle.qfs_base.specs.declared.recipe.Form.{Form}
-use Rattle.qfs_base.specs.declared.recipe.Form.TheVariants as Form
 use Rattle.qfs_base.specs.declared.script.Script.{Script}
 
 -- the path of one name in the root
