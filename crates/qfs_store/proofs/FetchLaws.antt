@@ -17,7 +17,7 @@ use Rattle.qfs_record.specs.ChunkRecord.{chunk_record}
 use Rattle.qfs_model_server.specs.Server.{Server, chunk_attempted, chunk_served, chunk_refusal, copy_bytes, has_range, room_of, refuse, unless_away}
 use Rattle.qfs_store.specs.Stands.{Known, Lengths, Keeps, StandsOn, IsStep, IsAttempt, IsAway, IsGrounded, IsFill, HoldsRange, kept, reaches}
 use Rattle.qfs_store.proofs.StandsLaws.{length_at, record_length, behind_head}
-use Rattle.qfs_store.proofs.StepLaws.{refused_is_step, attempt_is_step, none_handed}
+use Rattle.qfs_store.proofs.StepLaws.{refused_is_step, attempt_is_step, none_handed, none_more}
 
 -- ---- the range
 
@@ -126,6 +126,7 @@ fetch_attempt key life from room room' told told' shelf Answer.Fetched met fille
             (filled.1 before told_is copy.range ∙ ap (λ (bytes : List ℕ). take (length room) (drop from bytes)) (sym (copy_bytes_is server key copy.range.bytes copy.copy_is)));
         stands = record { up = stands.up; life = stands.life; lengths = stands.lengths; keys = stands.keys };
         handed = handed_is before.handed_out server.handed_out (length room);
+        exact = λ _. handed_is before.handed_out server.handed_out (length room);
       },
     )
 fetch_attempt key life from room room' told told' shelf Answer.Fault met filled server before told_is stands = (
@@ -134,7 +135,7 @@ fetch_attempt key life from room room' told told' shelf Answer.Fault met filled 
   record {
     reply_is = ap (λ (bytes : List ℕ). record { answer = Answer.Fault; room = bytes }) filled.1;
     stands = stands;
-    handed = none_handed (Ask.Fetch key life from room) before.handed_out server.handed_out;
+    handed = none_handed (Ask.Fetch key life from room) before.handed_out server.handed_out; exact = λ _. none_more before.handed_out server.handed_out;
   },
 )
 fetch_attempt key life from room room' told told' shelf _ met filled server before told_is stands = absurd filled

@@ -8,3 +8,4 @@ pub mod ServerLaws
 pub mod StartLaws
 pub mod ReadLaws
 pub mod StartStepLaws
+pub mod ChunkLaws

@@ -13,7 +13,7 @@ use Rattle.qfs_device.specs.Held.{Held, emptied}
 use Rattle.qfs_model_server.specs.Server.{Server, chunk_attempted, chunk_served, chunk_refusal, room_of, refuse, next_life, stays, without_room}
 use Rattle.qfs_store.specs.Stands.{Known, Lengths, StandsOn, IsStep, IsAttempt}
 use Rattle.qfs_store.proofs.StandsLaws.{nothing_named}
-use Rattle.qfs_store.proofs.StepLaws.{refused_is_step, attempt_is_step, serves_along, unmoved, none_handed}
+use Rattle.qfs_store.proofs.StepLaws.{refused_is_step, attempt_is_step, serves_along, unmoved, none_handed, none_more}
 
 -- ---- Stop
 
@@ -25,7 +25,7 @@ stop_attempt told shelf server before told_is stands = (
   record {
     reply_is = refl;
     stands = record { up = refl; life = stands.life; lengths = stands.lengths; keys = stands.keys };
-    handed = none_handed Ask.Stop before.handed_out server.handed_out;
+    handed = none_handed Ask.Stop before.handed_out server.handed_out; exact = λ _. none_more before.handed_out server.handed_out;
   },
 )
 
@@ -52,7 +52,7 @@ wipe_attempt told told' shelf life wiped life_is server before told_is stands =
       record {
         reply_is = ap (λ (life : ℕ). without_room (Answer.Wiped life)) (life_told before server life stands.life (life_is (emptied before) told'_is));
         stands = wipe_stands before shelf server stands;
-        handed = none_handed Ask.Wipe before.handed_out server.handed_out;
+        handed = none_handed Ask.Wipe before.handed_out server.handed_out; exact = λ _. none_more before.handed_out server.handed_out;
       },
     )
 
@@ -100,7 +100,7 @@ inventory_attempt told shelf life keys life_is keys_are server before told_is st
       record {
         reply_is = λ i. without_room (Answer.Inventory (same_life i) (same_keys i));
         stands = stands;
-        handed = none_handed Ask.Inventory before.handed_out server.handed_out;
+        handed = none_handed Ask.Inventory before.handed_out server.handed_out; exact = λ _. none_more before.handed_out server.handed_out;
       },
     )
 

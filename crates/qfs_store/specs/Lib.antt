@@ -1,3 +1,4 @@
+pub mod Chunks
 pub mod Fresh
 pub mod Stands
 pub mod Start

@@ -3,7 +3,7 @@
 use Rattle.std.specs.Prelude.{◌≡◌, ℕ, ◌+◌, ◌-◌, ◌<◌, ◌≤◌, min, nat_le, Bool, true, false, List, [], length, map, take, drop, replicate, Option, Some, None, ⊤}
 use Rattle.std.specs.Option.{ForSome, option_map}
 use Rattle.qfs_base.specs.Key.{key_cmp}
-use Rattle.qfs_base.specs.KeyMap.{value_at, with_entry, without_key}
+use Rattle.qfs_base.specs.KeyMap.{value_at, has_key, with_entry, without_key}
 use Rattle.qfs_base.specs.Outcome.{chunk_outcome}
 use Rattle.qfs_base.specs.declared.chunk.ChunkKey.{ChunkKey}
 use Rattle.qfs_base.specs.declared.reply.ChunkAnswer.{ChunkAnswer}
@@ -80,12 +80,27 @@ abbrev pub HandsOut : ChunkRequest → ℕ → ℕ → ℕ → Type 0
 HandsOut Ask.Start count old new = kept (old + count) ≤ kept new
 HandsOut _ count old new = kept new ≡ kept (old + count)
 
+-- every key on a device is that of a copy
+abbrev pub HasNoStrays : Held → Server → Type 0
+HasNoStrays held server = (key : ChunkKey) → has_key key_cmp held.contents key ≡ true → has_key key_cmp server.copies key ≡ true
+
+-- a start read the headers of copies alone: it didn't fail, and there were no other keys
+abbrev pub IsCleanStart : ChunkAnswer → Held → Server → Type 0
+IsCleanStart Answer.Fault held server = ⊥
+IsCleanStart _ held server = HasNoStrays held server
+
+-- a step hands out exactly what the server does
+abbrev pub IsExact : ChunkRequest → ChunkAnswer → Held → Server → Type 0
+IsExact Ask.Start answer held server = IsCleanStart answer held server
+IsExact _ answer held server = ⊤
+
 -- it stands, over a device that holds this, for the server where a step on this request led, and gave that step's
--- reply; the device handed out what the server did
+-- reply; the device handed out what the server did, and after a start that wasn't clean at least that
 pub record Serves (request : ChunkRequest) (before after : Held) (shelf : Known) (reply : ChunkReply) (server : Server) (step : Answered) : Type 0 where
   pub reply_is : reply ≡ step.reply
   pub stands : StandsOn after shelf step.server
   pub handed : HandsOut request (step.server.handed_out - server.handed_out) before.handed_out after.handed_out
+  pub exact : IsExact request reply.answer before server → kept after.handed_out ≡ kept (before.handed_out + (step.server.handed_out - server.handed_out))
 
 -- whichever server it stood for, it now stands for that server after this action, and gave that action's reply
 abbrev pub Follows : ChunkRequest → (Server → Answered) → Option Held → Known → ChunkReply → Option Held → Known → Type 0
@@ -152,6 +167,14 @@ abbrev pub IsQuiet : ChunkAnswer → Type 0
 IsQuiet Answer.Fault = ⊥
 IsQuiet Answer.NoMemory = ⊥
 IsQuiet _ = ⊤
+
+-- the answer refuses the request
+abbrev pub IsRefusal : ChunkAnswer → Type 0
+IsRefusal Answer.Down = ⊤
+IsRefusal (Answer.Lost asked now) = ⊤
+IsRefusal Answer.Held = ⊤
+IsRefusal Answer.Absent = ⊤
+IsRefusal _ = ⊥
 
 -- the answer isn't want of memory
 abbrev pub TakesNoMemory : ChunkAnswer → Type 0

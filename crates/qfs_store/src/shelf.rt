@@ -9,7 +9,8 @@ ghost use Rattle.qfs_device.specs.Fault.{Rose};
 ghost use Rattle.qfs_device.specs.Held.{Held};
 ghost use Rattle.qfs_model_server.specs.Server.{without_room};
 ghost use Rattle.qfs_record.specs.ChunkRecord.{chunk_record};
-ghost use Rattle.qfs_store.specs.Stands.{no_copies, knowing, forgetting, reaches, HoldsRange, IsFill, IsGrounded, IsStep, IsAttempt, IsAway, failure, OnFault, IsQuiet, TakesNoMemory, MemoryFor, IsBuilt};
+ghost use Rattle.qfs_store.specs.Chunks.{LeavesChunks};
+ghost use Rattle.qfs_store.specs.Stands.{no_copies, knowing, forgetting, reaches, HoldsRange, IsFill, IsGrounded, IsStep, IsAttempt, IsAway, failure, OnFault, IsRefusal, IsQuiet, TakesNoMemory, MemoryFor, IsBuilt};
 
 use crate::starting::copies_on;
 use qfs_base::chunk::ChunkKey;
@@ -64,10 +65,12 @@ impl Shelf {
     /// Serves a request. What comes of it is the server's step: its answer and, for a Fetch, the room
     /// that the request handed over; every other answer has an empty room. It answers Fault only
     /// where the device failed in this call, and want of memory never at a Fetch, Erase, Stop or Wipe.
+    /// `chunks` says what becomes of each key on the device, also where it is no copy's.
     pub fn serve<D: ChunkDevice>(&mut self, device: &mut D, request: ChunkRequest) -> ChunkReply
         requires built { IsBuilt request }
         requires grounded { IsGrounded (D.told device.old) self.old }
         ensures step { IsStep request (D.told device.old) self.old result (D.told device.new) self.new }
+        ensures chunks { LeavesChunks request (D.told device.old) self.old result.answer (D.told device.new) }
         ensures tells { is_some (D.told device.new) ≡ is_some (D.told device.old) }
         ensures never_falls { D.faults device.old ≤ D.faults device.new }
         ensures cause { OnFault result.answer (Rose (D.faults device.old) (D.faults device.new)) }
@@ -106,6 +109,7 @@ impl Shelf {
         requires slot { key.slot < 9 }
         requires size { length bytes.now ≤ 67108864 }
         ensures step { IsStep (Ask.Put key life bytes.now) (D.told device.old) self.old (without_room result) (D.told device.new) self.new }
+        ensures chunks { LeavesChunks (Ask.Put key life bytes.now) (D.told device.old) self.old result (D.told device.new) }
         ensures tells { is_some (D.told device.new) ≡ is_some (D.told device.old) }
         ensures never_falls { D.faults device.old ≤ D.faults device.new }
         ensures cause { OnFault result (Rose (D.faults device.old) (D.faults device.new)) }
@@ -125,6 +129,7 @@ impl Shelf {
         requires size { length bytes.now ≤ 67108864 }
         requires absent { has_key key_cmp self.old.lengths key ≡ false }
         ensures step { (life : ℕ) → IsAttempt (Ask.Put key life bytes.now) (D.told device.old) self.old (without_room result) (D.told device.new) self.new }
+        ensures chunks { (life : ℕ) → LeavesChunks (Ask.Put key life bytes.now) (D.told device.old) self.old result (D.told device.new) }
         ensures tells { is_some (D.told device.new) ≡ is_some (D.told device.old) }
         ensures never_falls { D.faults device.old ≤ D.faults device.new }
         ensures cause { OnFault result (Rose (D.faults device.old) (D.faults device.new)) }
@@ -177,6 +182,7 @@ impl Shelf {
     ) -> ChunkAnswer
         requires grounded { IsGrounded (D.told device.old) self.now }
         ensures step { IsStep (Ask.Fetch key life from room.old) (D.told device.old) self.now (record { answer = result; room = room.new }) (D.told device.new) self.now }
+        ensures chunks { LeavesChunks (Ask.Fetch key life from room.old) (D.told device.old) self.now result (D.told device.new) }
         ensures tells { is_some (D.told device.new) ≡ is_some (D.told device.old) }
         ensures never_falls { D.faults device.old ≤ D.faults device.new }
         ensures cause { OnFault result (Rose (D.faults device.old) (D.faults device.new)) }
@@ -200,6 +206,7 @@ impl Shelf {
         life: Life,
     ) -> ChunkAnswer
         ensures step { IsStep (Ask.Erase key life) (D.told device.old) self.old (without_room result) (D.told device.new) self.new }
+        ensures chunks { LeavesChunks (Ask.Erase key life) (D.told device.old) self.old result (D.told device.new) }
         ensures tells { is_some (D.told device.new) ≡ is_some (D.told device.old) }
         ensures never_falls { D.faults device.old ≤ D.faults device.new }
         ensures cause { OnFault result (Rose (D.faults device.old) (D.faults device.new)) }
@@ -233,6 +240,7 @@ impl Shelf {
     /// them comes to that, and then the server stays down. On a server that is up it does nothing.
     pub fn start<D: ChunkDevice>(&mut self, device: &mut D) -> ChunkAnswer
         ensures step { IsStep Ask.Start (D.told device.old) self.old (without_room result) (D.told device.new) self.new }
+        ensures chunks { LeavesChunks Ask.Start (D.told device.old) self.old result (D.told device.new) }
         ensures tells { is_some (D.told device.new) ≡ is_some (D.told device.old) }
         ensures never_falls { D.faults device.old ≤ D.faults device.new }
         ensures cause { OnFault result (Rose (D.faults device.old) (D.faults device.new)) }
@@ -258,6 +266,7 @@ impl Shelf {
     /// It takes no memory.
     pub fn wipe<D: ChunkDevice>(&mut self, device: &mut D) -> ChunkAnswer
         ensures step { IsStep Ask.Wipe (D.told device.old) self.old (without_room result) (D.told device.new) self.new }
+        ensures chunks { LeavesChunks Ask.Wipe (D.told device.old) self.old result (D.told device.new) }
         ensures tells { is_some (D.told device.new) ≡ is_some (D.told device.old) }
         ensures never_falls { D.faults device.old ≤ D.faults device.new }
         ensures cause { OnFault result (Rose (D.faults device.old) (D.faults device.new)) }
@@ -303,6 +312,7 @@ impl Shelf {
     ) -> ChunkReply
         requires grounded { IsGrounded (D.told device.old) self.now }
         ensures step { IsStep (Ask.Fetch key life from room) (D.told device.old) self.now result (D.told device.new) self.now }
+        ensures chunks { LeavesChunks (Ask.Fetch key life from room) (D.told device.old) self.now result.answer (D.told device.new) }
         ensures tells { is_some (D.told device.new) ≡ is_some (D.told device.old) }
         ensures never_falls { D.faults device.old ≤ D.faults device.new }
         ensures cause { OnFault result.answer (Rose (D.faults device.old) (D.faults device.new)) }
@@ -333,6 +343,7 @@ impl Shelf {
     /// is another.
     fn away<D: ChunkDevice>(&self, device: &D, life: Life) -> Option<ChunkAnswer>
         ensures refusal { IsAway (D.told device.now) self.now life result }
+        ensures refuses { IfSome result IsRefusal }
         ensures quiet { IfSome result IsQuiet }
     {
         if !self.up {

@@ -4,6 +4,7 @@ ghost use Rattle.std.specs.Option.{ForSome};
 ghost use Rattle.qfs_device.specs.Fault.{Rose};
 ghost use Rattle.qfs_device.specs.Held.{Held, new_device};
 ghost use Rattle.qfs_model_server.specs.Server.{fresh_server};
+ghost use Rattle.qfs_store.specs.Chunks.{LeavesChunks, KeepsStrays};
 ghost use Rattle.qfs_store.specs.Stands.{no_copies, StandsOn, IsGrounded, IsStep, OnFault, MemoryFor, IsBuilt};
 
 use crate::shelf::Shelf;
@@ -52,9 +53,15 @@ impl<D: ChunkDevice> Store<D> {
     /// Serves a request. What comes of it is the server's step: its answer and, for a Fetch, the room
     /// that the request handed over; every other answer has an empty room. It answers Fault only
     /// where the device failed in this call, and want of memory never at a Fetch, Erase, Stop or Wipe.
+    ///
+    /// A key of no copy changes only in a Put of that key and in a Wipe: a Put that answers Fault
+    /// leaves it absent or holding a proper prefix of its record. The device hands out what the
+    /// server does; a Start that answers Fault or finds a key of no copy may hand out more.
     pub fn serve(&mut self, request: ChunkRequest) -> ChunkReply
         requires built { IsBuilt request }
         ensures step { IsStep request self.old.told self.old.known result self.new.told self.new.known }
+        ensures chunks { LeavesChunks request self.old.told self.old.known result.answer self.new.told }
+        ensures strays { KeepsStrays request self.old.told self.old.known self.new.told }
         ensures tells { is_some self.new.told ≡ is_some self.old.told }
         ensures never_falls { self.old.faults ≤ self.new.faults }
         ensures cause { OnFault result.answer (Rose self.old.faults self.new.faults) }
