@@ -135,7 +135,8 @@ fetch_attempt key life from room room' told told' shelf Answer.Fault met filled 
   record {
     reply_is = ap (λ (bytes : List ℕ). record { answer = Answer.Fault; room = bytes }) filled.1;
     stands = stands;
-    handed = none_handed (Ask.Fetch key life from room) before.handed_out server.handed_out; exact = λ _. none_more before.handed_out server.handed_out;
+    handed = none_handed (Ask.Fetch key life from room) before.handed_out server.handed_out;
+    exact = λ _. none_more before.handed_out server.handed_out;
   },
 )
 fetch_attempt key life from room room' told told' shelf _ met filled server before told_is stands = absurd filled

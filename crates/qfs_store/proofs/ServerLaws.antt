@@ -25,7 +25,8 @@ stop_attempt told shelf server before told_is stands = (
   record {
     reply_is = refl;
     stands = record { up = refl; life = stands.life; lengths = stands.lengths; keys = stands.keys };
-    handed = none_handed Ask.Stop before.handed_out server.handed_out; exact = λ _. none_more before.handed_out server.handed_out;
+    handed = none_handed Ask.Stop before.handed_out server.handed_out;
+    exact = λ _. none_more before.handed_out server.handed_out;
   },
 )
 
@@ -52,7 +53,8 @@ wipe_attempt told told' shelf life wiped life_is server before told_is stands =
       record {
         reply_is = ap (λ (life : ℕ). without_room (Answer.Wiped life)) (life_told before server life stands.life (life_is (emptied before) told'_is));
         stands = wipe_stands before shelf server stands;
-        handed = none_handed Ask.Wipe before.handed_out server.handed_out; exact = λ _. none_more before.handed_out server.handed_out;
+        handed = none_handed Ask.Wipe before.handed_out server.handed_out;
+        exact = λ _. none_more before.handed_out server.handed_out;
       },
     )
 
@@ -100,7 +102,8 @@ inventory_attempt told shelf life keys life_is keys_are server before told_is st
       record {
         reply_is = λ i. without_room (Answer.Inventory (same_life i) (same_keys i));
         stands = stands;
-        handed = none_handed Ask.Inventory before.handed_out server.handed_out; exact = λ _. none_more before.handed_out server.handed_out;
+        handed = none_handed Ask.Inventory before.handed_out server.handed_out;
+        exact = λ _. none_more before.handed_out server.handed_out;
       },
     )
 

@@ -1,5 +1,5 @@
 -- What a server's step makes of the chunks on its device, those of no copy too.
-use Rattle.std.specs.Prelude.{◌≡◌, ℕ, true, false, List, [], Option, Some, None, ⊤}
+use Rattle.std.specs.Prelude.{◌≡◌, ℕ, true, false, List, [], Option, Some, ⊤}
 use Rattle.qfs_base.specs.Key.{key_cmp}
 use Rattle.qfs_base.specs.KeyMap.{has_key, with_entry, without_key}
 use Rattle.qfs_base.specs.declared.chunk.ChunkKey.{ChunkKey}

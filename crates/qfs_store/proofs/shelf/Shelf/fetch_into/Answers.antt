@@ -3,7 +3,6 @@ use Rattle.std.proofs.Common.{◌≡◌, List, ℕ, length, sym, subst, ◌∙�
 use Rattle.std.proofs.lemmas.List.{take_at}
 use Rattle.qfs_base.specs.declared.request.ChunkRequest.TheVariants as Ask
 use Rattle.qfs_store.specs.Stands.{IsStep}
-
 use Rattle.qfs_store.proofs.shelf.Shelf.fetch_into.Goals as goal
 
 pub returns-clause-step : goal.returns-clause-step
