@@ -187,3 +187,29 @@ MemoryFor (Ask.Put key life bytes) answer = ⊤
 MemoryFor Ask.Start answer = ⊤
 MemoryFor Ask.Inventory answer = ⊤
 MemoryFor _ answer = TakesNoMemory answer
+
+-- ---- over any device, told or not
+
+-- the answer that the server isn't up
+abbrev pub is_down : ChunkAnswer → Bool
+is_down Answer.Down = true
+is_down _ = false
+
+-- a request that only a server that is up serves
+abbrev pub asks_up : ChunkRequest → Bool
+asks_up (Ask.Put key life bytes) = true
+asks_up (Ask.Fetch key life from room) = true
+asks_up (Ask.Erase key life) = true
+asks_up Ask.Inventory = true
+asks_up _ = false
+
+-- a start that was answered so brought the server up, or left it as it was
+abbrev pub up_started : ChunkAnswer → Bool → Bool
+up_started (Answer.Started life) up = true
+up_started _ up = up
+
+-- whether a server is up after a step on this request that was answered so
+abbrev pub up_after : ChunkRequest → ChunkAnswer → Bool → Bool
+up_after Ask.Stop answer up = false
+up_after Ask.Start answer up = up_started answer up
+up_after _ answer up = up

@@ -1,5 +1,5 @@
 //! What a chunk server knows of the copies on its device, and how it serves requests.
-ghost use Rattle.std.specs.Prelude.{◌≡◌, ℕ, ◌+◌, ◌<◌, ◌≤◌, List, length, Option, None, Some, false, is_some, IfSome, IfOk, OnOk, OnErr};
+ghost use Rattle.std.specs.Prelude.{◌≡◌, ℕ, ◌+◌, ◌<◌, ◌≤◌, ◌&&◌, not, List, length, Option, None, Some, true, false, is_some, IfSome, MatchOption, IfOk, OnOk, OnErr};
 ghost use Rattle.std.specs.Option.{ForSome};
 ghost use Rattle.qfs_base.specs.Key.{key_cmp};
 ghost use Rattle.qfs_base.specs.KeyMap.{value_at, has_key};
@@ -10,7 +10,7 @@ ghost use Rattle.qfs_device.specs.Held.{Held};
 ghost use Rattle.qfs_model_server.specs.Server.{without_room};
 ghost use Rattle.qfs_record.specs.ChunkRecord.{chunk_record};
 ghost use Rattle.qfs_store.specs.Chunks.{LeavesChunks};
-ghost use Rattle.qfs_store.specs.Stands.{no_copies, knowing, forgetting, reaches, HoldsRange, IsFill, IsGrounded, IsStep, IsAttempt, IsAway, failure, OnFault, IsRefusal, IsQuiet, TakesNoMemory, MemoryFor, IsBuilt};
+ghost use Rattle.qfs_store.specs.Stands.{no_copies, knowing, forgetting, reaches, HoldsRange, IsFill, IsGrounded, IsStep, IsAttempt, IsAway, failure, OnFault, IsRefusal, IsQuiet, TakesNoMemory, MemoryFor, IsBuilt, is_down, asks_up, up_started, up_after};
 
 use crate::starting::copies_on;
 use qfs_base::chunk::ChunkKey;
@@ -71,6 +71,8 @@ impl Shelf {
         requires grounded { IsGrounded (D.told device.old) self.old }
         ensures step { IsStep request (D.told device.old) self.old result (D.told device.new) self.new }
         ensures chunks { LeavesChunks request (D.told device.old) self.old result.answer (D.told device.new) }
+        ensures up { self.new.up ≡ up_after request result.answer self.old.up }
+        ensures down { is_down result.answer ≡ (asks_up request && not self.old.up) }
         ensures tells { is_some (D.told device.new) ≡ is_some (D.told device.old) }
         ensures never_falls { D.faults device.old ≤ D.faults device.new }
         ensures cause { OnFault result.answer (Rose (D.faults device.old) (D.faults device.new)) }
@@ -110,6 +112,8 @@ impl Shelf {
         requires size { length bytes.now ≤ 67108864 }
         ensures step { IsStep (Ask.Put key life bytes.now) (D.told device.old) self.old (without_room result) (D.told device.new) self.new }
         ensures chunks { LeavesChunks (Ask.Put key life bytes.now) (D.told device.old) self.old result (D.told device.new) }
+        ensures up { self.new.up ≡ self.old.up }
+        ensures down { is_down result ≡ not self.old.up }
         ensures tells { is_some (D.told device.new) ≡ is_some (D.told device.old) }
         ensures never_falls { D.faults device.old ≤ D.faults device.new }
         ensures cause { OnFault result (Rose (D.faults device.old) (D.faults device.new)) }
@@ -130,6 +134,8 @@ impl Shelf {
         requires absent { has_key key_cmp self.old.lengths key ≡ false }
         ensures step { (life : ℕ) → IsAttempt (Ask.Put key life bytes.now) (D.told device.old) self.old (without_room result) (D.told device.new) self.new }
         ensures chunks { (life : ℕ) → LeavesChunks (Ask.Put key life bytes.now) (D.told device.old) self.old result (D.told device.new) }
+        ensures up { self.new.up ≡ self.old.up }
+        ensures down { is_down result ≡ false }
         ensures tells { is_some (D.told device.new) ≡ is_some (D.told device.old) }
         ensures never_falls { D.faults device.old ≤ D.faults device.new }
         ensures cause { OnFault result (Rose (D.faults device.old) (D.faults device.new)) }
@@ -183,6 +189,7 @@ impl Shelf {
         requires grounded { IsGrounded (D.told device.old) self.now }
         ensures step { IsStep (Ask.Fetch key life from room.old) (D.told device.old) self.now (record { answer = result; room = room.new }) (D.told device.new) self.now }
         ensures chunks { LeavesChunks (Ask.Fetch key life from room.old) (D.told device.old) self.now result (D.told device.new) }
+        ensures down { is_down result ≡ not self.now.up }
         ensures tells { is_some (D.told device.new) ≡ is_some (D.told device.old) }
         ensures never_falls { D.faults device.old ≤ D.faults device.new }
         ensures cause { OnFault result (Rose (D.faults device.old) (D.faults device.new)) }
@@ -207,6 +214,8 @@ impl Shelf {
     ) -> ChunkAnswer
         ensures step { IsStep (Ask.Erase key life) (D.told device.old) self.old (without_room result) (D.told device.new) self.new }
         ensures chunks { LeavesChunks (Ask.Erase key life) (D.told device.old) self.old result (D.told device.new) }
+        ensures up { self.new.up ≡ self.old.up }
+        ensures down { is_down result ≡ not self.old.up }
         ensures tells { is_some (D.told device.new) ≡ is_some (D.told device.old) }
         ensures never_falls { D.faults device.old ≤ D.faults device.new }
         ensures cause { OnFault result (Rose (D.faults device.old) (D.faults device.new)) }
@@ -230,6 +239,8 @@ impl Shelf {
     /// Takes the server down. Its copies stay.
     pub fn stop(&mut self) -> ChunkAnswer
         ensures step { (told : Option Held) → IsStep Ask.Stop told self.old (without_room result) told self.new }
+        ensures up { self.new.up ≡ false }
+        ensures down { is_down result ≡ false }
         ensures quiet { IsQuiet result }
     {
         self.up = false;
@@ -241,6 +252,8 @@ impl Shelf {
     pub fn start<D: ChunkDevice>(&mut self, device: &mut D) -> ChunkAnswer
         ensures step { IsStep Ask.Start (D.told device.old) self.old (without_room result) (D.told device.new) self.new }
         ensures chunks { LeavesChunks Ask.Start (D.told device.old) self.old result (D.told device.new) }
+        ensures up { self.new.up ≡ up_started result self.old.up }
+        ensures down { is_down result ≡ false }
         ensures tells { is_some (D.told device.new) ≡ is_some (D.told device.old) }
         ensures never_falls { D.faults device.old ≤ D.faults device.new }
         ensures cause { OnFault result (Rose (D.faults device.old) (D.faults device.new)) }
@@ -267,6 +280,8 @@ impl Shelf {
     pub fn wipe<D: ChunkDevice>(&mut self, device: &mut D) -> ChunkAnswer
         ensures step { IsStep Ask.Wipe (D.told device.old) self.old (without_room result) (D.told device.new) self.new }
         ensures chunks { LeavesChunks Ask.Wipe (D.told device.old) self.old result (D.told device.new) }
+        ensures up { self.new.up ≡ self.old.up }
+        ensures down { is_down result ≡ false }
         ensures tells { is_some (D.told device.new) ≡ is_some (D.told device.old) }
         ensures never_falls { D.faults device.old ≤ D.faults device.new }
         ensures cause { OnFault result (Rose (D.faults device.old) (D.faults device.new)) }
@@ -287,6 +302,7 @@ impl Shelf {
     /// list doesn't fit.
     pub fn inventory<D: ChunkDevice>(&self, device: &D) -> ChunkAnswer
         ensures step { IsStep Ask.Inventory (D.told device.now) self.now (without_room result) (D.told device.now) self.now }
+        ensures down { is_down result ≡ not self.now.up }
         ensures cause { OnFault result ⊥ }
     {
         if !self.up {
@@ -313,6 +329,7 @@ impl Shelf {
         requires grounded { IsGrounded (D.told device.old) self.now }
         ensures step { IsStep (Ask.Fetch key life from room) (D.told device.old) self.now result (D.told device.new) self.now }
         ensures chunks { LeavesChunks (Ask.Fetch key life from room) (D.told device.old) self.now result.answer (D.told device.new) }
+        ensures down { is_down result.answer ≡ not self.now.up }
         ensures tells { is_some (D.told device.new) ≡ is_some (D.told device.old) }
         ensures never_falls { D.faults device.old ≤ D.faults device.new }
         ensures cause { OnFault result.answer (Rose (D.faults device.old) (D.faults device.new)) }
@@ -343,6 +360,7 @@ impl Shelf {
     /// is another.
     fn away<D: ChunkDevice>(&self, device: &D, life: Life) -> Option<ChunkAnswer>
         ensures refusal { IsAway (D.told device.now) self.now life result }
+        ensures up { MatchOption result (self.now.up ≡ true) (λ refusal. is_down refusal ≡ not self.now.up) }
         ensures refuses { IfSome result IsRefusal }
         ensures quiet { IfSome result IsQuiet }
     {
@@ -369,7 +387,8 @@ fn without_room(alloc: Global, answer: ChunkAnswer) -> ChunkReply
 
 /// The answer where the device failed so.
 fn failed(error: DeviceError) -> ChunkAnswer
-    ensures { result ≡ failure error }
+    ensures failure { result ≡ failure error }
+    ensures down { is_down result ≡ false }
 {
     match error {
         DeviceError::Failed => ChunkAnswer::Fault,
@@ -392,6 +411,7 @@ fn keys_in(alloc: Global, lengths: &KeyMap<ChunkKey, u32>) -> Result<KeyList, Al
 fn fill<D: ChunkDevice>(device: &mut D, key: ChunkKey, from: u32, room: &mut [u8]) -> ChunkAnswer
     requires lies { ForSome (D.told device.old) (λ held. HoldsRange held key from (length room.old)) }
     ensures fetched { IsFill key from (length room.old) (D.told device.old) (D.told device.new) result room.new }
+    ensures down { is_down result ≡ false }
     ensures tells { is_some (D.told device.new) ≡ is_some (D.told device.old) }
     ensures never_falls { D.faults device.old ≤ D.faults device.new }
     ensures cause { OnFault result (Rose (D.faults device.old) (D.faults device.new)) }

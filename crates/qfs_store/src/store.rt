@@ -1,11 +1,11 @@
 //! A chunk server together with its device.
-ghost use Rattle.std.specs.Prelude.{◌≡◌, ◌≤◌, [], Some, is_some};
+ghost use Rattle.std.specs.Prelude.{◌≡◌, ◌≤◌, ◌&&◌, not, [], Some, is_some};
 ghost use Rattle.std.specs.Option.{ForSome};
 ghost use Rattle.qfs_device.specs.Fault.{Rose};
 ghost use Rattle.qfs_device.specs.Held.{Held, new_device};
 ghost use Rattle.qfs_model_server.specs.Server.{fresh_server};
 ghost use Rattle.qfs_store.specs.Chunks.{LeavesChunks, KeepsStrays};
-ghost use Rattle.qfs_store.specs.Stands.{no_copies, StandsOn, IsGrounded, IsStep, OnFault, MemoryFor, IsBuilt};
+ghost use Rattle.qfs_store.specs.Stands.{no_copies, StandsOn, IsGrounded, IsStep, OnFault, MemoryFor, IsBuilt, is_down, asks_up, up_after};
 
 use crate::shelf::Shelf;
 use qfs_base::reply::ChunkReply;
@@ -57,11 +57,16 @@ impl<D: ChunkDevice> Store<D> {
     /// A key of no copy changes only in a Put of that key and in a Wipe: a Put that answers Fault
     /// leaves it absent or holding a proper prefix of its record. The device hands out what the
     /// server does; a Start that answers Fault or finds a key of no copy may hand out more.
+    ///
+    /// Over any device: Down comes exactly where the server isn't up and the request is a Put,
+    /// Fetch, Erase or Inventory, and only a Stop and a Start change whether it is up.
     pub fn serve(&mut self, request: ChunkRequest) -> ChunkReply
         requires built { IsBuilt request }
         ensures step { IsStep request self.old.told self.old.known result self.new.told self.new.known }
         ensures chunks { LeavesChunks request self.old.told self.old.known result.answer self.new.told }
         ensures strays { KeepsStrays request self.old.told self.old.known self.new.told }
+        ensures up { self.new.known.up ≡ up_after request result.answer self.old.known.up }
+        ensures down { is_down result.answer ≡ (asks_up request && not self.old.known.up) }
         ensures tells { is_some self.new.told ≡ is_some self.old.told }
         ensures never_falls { self.old.faults ≤ self.new.faults }
         ensures cause { OnFault result.answer (Rose self.old.faults self.new.faults) }

@@ -27,7 +27,7 @@ returns-in-Ok-clause-step g c =
     (λ held told_is. if_some_at (λ (held : Held). c.life-in-Ok.result ≡ held.life) _ held told_is c.life-in-Ok.ensures)
 
 pub returns-in-Err-clause-step : goal.returns-in-Err-clause-step
-returns-in-Err-clause-step g c = rw c.failed.ensures (start_failed _ _ _ c.in-Err.error c.in-Err.ensures.found c.in-Err.ensures.no_memory)
+returns-in-Err-clause-step g c = rw c.failed.ensures.failure (start_failed _ _ _ c.in-Err.error c.in-Err.ensures.found c.in-Err.ensures.no_memory)
 
 pub returns-then-self-clause-chunks : goal.returns-then-self-clause-chunks
 returns-then-self-clause-chunks g c = idle_chunks _ _ refl

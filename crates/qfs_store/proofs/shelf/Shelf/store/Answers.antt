@@ -19,7 +19,7 @@ returns-in-Ok-write-clause-step g c life =
 pub returns-clause-step : goal.returns-clause-step
 returns-clause-step g c life =
     let text = c.deref.ensures.value ∙ c.in-Ok.ensures.made in
-    rw (c.forget.ensures, c.in-Ok.ensures.known, c.failed.ensures)
+    rw (c.forget.ensures, c.in-Ok.ensures.known, c.failed.ensures.failure)
     (put_failed _ life c.args.bytes.now _ _ _ c.in-Err-write.error (omega arith) c.requires.absent
     (subst (λ (bytes : List ℕ). Writes {T = Unit {0}} c.args.key bytes (g.D.ChunkDevice.told c.args.device.now) (g.D.ChunkDevice.told c.write.new.self) (Err c.in-Err-write.error)) text c.in-Err-write.ensures.written))
 
@@ -34,6 +34,6 @@ returns-in-Ok-write-clause-chunks g c life =
 pub returns-clause-chunks : goal.returns-clause-chunks
 returns-clause-chunks g c life =
     let text = c.deref.ensures.value ∙ c.in-Ok.ensures.made in
-    rw c.failed.ensures
+    rw c.failed.ensures.failure
     (put_failed_chunks c.args.key life c.args.bytes.now _ _ c.args.self.now c.in-Err-write.error
     (subst (λ (bytes : List ℕ). Writes {T = Unit {0}} c.args.key bytes (g.D.ChunkDevice.told c.args.device.now) (g.D.ChunkDevice.told c.write.new.self) (Err c.in-Err-write.error)) text c.in-Err-write.ensures.written))
