@@ -213,3 +213,25 @@ abbrev pub up_after : ChunkRequest → ChunkAnswer → Bool → Bool
 up_after Ask.Stop answer up = false
 up_after Ask.Start answer up = up_started answer up
 up_after _ answer up = up
+
+-- by whether a copy is known under its key, what a Put may be answered once the server isn't away
+abbrev pub PutFinds : ChunkAnswer → Bool → Type 0
+PutFinds Answer.Down there = ⊤
+PutFinds (Answer.Lost asked now) there = ⊤
+PutFinds Answer.Held there = there ≡ true
+PutFinds _ there = there ≡ false
+
+-- by whether what it asks for is known to be there, what a Fetch or an Erase may be answered then
+abbrev pub CopyFinds : ChunkAnswer → Bool → Type 0
+CopyFinds Answer.Down there = ⊤
+CopyFinds (Answer.Lost asked now) there = ⊤
+CopyFinds Answer.Absent there = there ≡ false
+CopyFinds _ there = there ≡ true
+
+-- the answer to a request is right by the copies that the server knows: Held comes only where it has that copy, Absent
+-- only where it hasn't or where a range runs past its end, and what a server that isn't away does is done elsewhere
+abbrev pub FindsCopy : ChunkRequest → Known → ChunkAnswer → Type 0
+FindsCopy (Ask.Put key life bytes) shelf answer = PutFinds answer (has_key key_cmp shelf.lengths key)
+FindsCopy (Ask.Fetch key life from room) shelf answer = CopyFinds answer (reaches (from + length room) (value_at key_cmp shelf.lengths key))
+FindsCopy (Ask.Erase key life) shelf answer = CopyFinds answer (has_key key_cmp shelf.lengths key)
+FindsCopy _ shelf answer = ⊤

@@ -1,5 +1,5 @@
 //! What a chunk server knows of the copies on its device, and how it serves requests.
-ghost use Rattle.std.specs.Prelude.{◌≡◌, ℕ, ◌+◌, ◌<◌, ◌≤◌, ◌&&◌, not, List, length, Option, None, Some, true, false, is_some, IfSome, MatchOption, IfOk, OnOk, OnErr};
+ghost use Rattle.std.specs.Prelude.{◌≡◌, ℕ, Bool, ◌+◌, ◌<◌, ◌≤◌, ◌&&◌, not, List, length, Option, None, Some, true, false, is_some, IfSome, MatchOption, IfOk, OnOk, OnErr};
 ghost use Rattle.std.specs.Option.{ForSome};
 ghost use Rattle.qfs_base.specs.Key.{key_cmp};
 ghost use Rattle.qfs_base.specs.KeyMap.{value_at, has_key};
@@ -10,7 +10,7 @@ ghost use Rattle.qfs_device.specs.Held.{Held};
 ghost use Rattle.qfs_model_server.specs.Server.{without_room};
 ghost use Rattle.qfs_record.specs.ChunkRecord.{chunk_record};
 ghost use Rattle.qfs_store.specs.Chunks.{LeavesChunks};
-ghost use Rattle.qfs_store.specs.Stands.{no_copies, knowing, forgetting, reaches, HoldsRange, IsFill, IsGrounded, IsStep, IsAttempt, IsAway, failure, OnFault, IsRefusal, IsQuiet, TakesNoMemory, MemoryFor, IsBuilt, is_down, asks_up, up_started, up_after};
+ghost use Rattle.qfs_store.specs.Stands.{no_copies, knowing, forgetting, reaches, HoldsRange, IsFill, IsGrounded, IsStep, IsAttempt, IsAway, failure, OnFault, IsRefusal, IsQuiet, TakesNoMemory, MemoryFor, IsBuilt, PutFinds, CopyFinds, FindsCopy, is_down, asks_up, up_started, up_after};
 
 use crate::starting::copies_on;
 use qfs_base::chunk::ChunkKey;
@@ -73,6 +73,7 @@ impl Shelf {
         ensures chunks { LeavesChunks request (D.told device.old) self.old result.answer (D.told device.new) }
         ensures up { self.new.up ≡ up_after request result.answer self.old.up }
         ensures down { is_down result.answer ≡ (asks_up request && not self.old.up) }
+        ensures finds { FindsCopy request self.old result.answer }
         ensures tells { is_some (D.told device.new) ≡ is_some (D.told device.old) }
         ensures never_falls { D.faults device.old ≤ D.faults device.new }
         ensures cause { OnFault result.answer (Rose (D.faults device.old) (D.faults device.new)) }
@@ -114,6 +115,7 @@ impl Shelf {
         ensures chunks { LeavesChunks (Ask.Put key life bytes.now) (D.told device.old) self.old result (D.told device.new) }
         ensures up { self.new.up ≡ self.old.up }
         ensures down { is_down result ≡ not self.old.up }
+        ensures finds { PutFinds result (has_key key_cmp self.old.lengths key) }
         ensures tells { is_some (D.told device.new) ≡ is_some (D.told device.old) }
         ensures never_falls { D.faults device.old ≤ D.faults device.new }
         ensures cause { OnFault result (Rose (D.faults device.old) (D.faults device.new)) }
@@ -136,6 +138,7 @@ impl Shelf {
         ensures chunks { (life : ℕ) → LeavesChunks (Ask.Put key life bytes.now) (D.told device.old) self.old result (D.told device.new) }
         ensures up { self.new.up ≡ self.old.up }
         ensures down { is_down result ≡ false }
+        ensures finds { PutFinds result false }
         ensures tells { is_some (D.told device.new) ≡ is_some (D.told device.old) }
         ensures never_falls { D.faults device.old ≤ D.faults device.new }
         ensures cause { OnFault result (Rose (D.faults device.old) (D.faults device.new)) }
@@ -190,6 +193,7 @@ impl Shelf {
         ensures step { IsStep (Ask.Fetch key life from room.old) (D.told device.old) self.now (record { answer = result; room = room.new }) (D.told device.new) self.now }
         ensures chunks { LeavesChunks (Ask.Fetch key life from room.old) (D.told device.old) self.now result (D.told device.new) }
         ensures down { is_down result ≡ not self.now.up }
+        ensures finds { CopyFinds result (reaches (from + length room.old) (value_at key_cmp self.now.lengths key)) }
         ensures tells { is_some (D.told device.new) ≡ is_some (D.told device.old) }
         ensures never_falls { D.faults device.old ≤ D.faults device.new }
         ensures cause { OnFault result (Rose (D.faults device.old) (D.faults device.new)) }
@@ -216,6 +220,7 @@ impl Shelf {
         ensures chunks { LeavesChunks (Ask.Erase key life) (D.told device.old) self.old result (D.told device.new) }
         ensures up { self.new.up ≡ self.old.up }
         ensures down { is_down result ≡ not self.old.up }
+        ensures finds { CopyFinds result (has_key key_cmp self.old.lengths key) }
         ensures tells { is_some (D.told device.new) ≡ is_some (D.told device.old) }
         ensures never_falls { D.faults device.old ≤ D.faults device.new }
         ensures cause { OnFault result (Rose (D.faults device.old) (D.faults device.new)) }
@@ -330,6 +335,7 @@ impl Shelf {
         ensures step { IsStep (Ask.Fetch key life from room) (D.told device.old) self.now result (D.told device.new) self.now }
         ensures chunks { LeavesChunks (Ask.Fetch key life from room) (D.told device.old) self.now result.answer (D.told device.new) }
         ensures down { is_down result.answer ≡ not self.now.up }
+        ensures finds { CopyFinds result.answer (reaches (from + length room) (value_at key_cmp self.now.lengths key)) }
         ensures tells { is_some (D.told device.new) ≡ is_some (D.told device.old) }
         ensures never_falls { D.faults device.old ≤ D.faults device.new }
         ensures cause { OnFault result.answer (Rose (D.faults device.old) (D.faults device.new)) }
@@ -361,6 +367,7 @@ impl Shelf {
     fn away<D: ChunkDevice>(&self, device: &D, life: Life) -> Option<ChunkAnswer>
         ensures refusal { IsAway (D.told device.now) self.now life result }
         ensures up { MatchOption result (self.now.up ≡ true) (λ refusal. is_down refusal ≡ not self.now.up) }
+        ensures finds { IfSome result (λ refusal. (there : Bool) → PutFinds refusal there × CopyFinds refusal there) }
         ensures refuses { IfSome result IsRefusal }
         ensures quiet { IfSome result IsQuiet }
     {
@@ -388,6 +395,7 @@ fn without_room(alloc: Global, answer: ChunkAnswer) -> ChunkReply
 /// The answer where the device failed so.
 fn failed(error: DeviceError) -> ChunkAnswer
     ensures failure { result ≡ failure error }
+    ensures finds { PutFinds result false }
     ensures down { is_down result ≡ false }
 {
     match error {
@@ -412,6 +420,7 @@ fn fill<D: ChunkDevice>(device: &mut D, key: ChunkKey, from: u32, room: &mut [u8
     requires lies { ForSome (D.told device.old) (λ held. HoldsRange held key from (length room.old)) }
     ensures fetched { IsFill key from (length room.old) (D.told device.old) (D.told device.new) result room.new }
     ensures down { is_down result ≡ false }
+    ensures finds { CopyFinds result true }
     ensures tells { is_some (D.told device.new) ≡ is_some (D.told device.old) }
     ensures never_falls { D.faults device.old ≤ D.faults device.new }
     ensures cause { OnFault result (Rose (D.faults device.old) (D.faults device.new)) }
