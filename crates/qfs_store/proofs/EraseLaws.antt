@@ -1,21 +1,20 @@
 -- An Erase of a server that stands over its device.
-use Rattle.std.proofs.Common.{◌≡◌, ℕ, Bool, true, false, not, cond, List, [], ◌∷◌, length, Option, Some, None, refl, sym, ap, ◌∙◌}
+use Rattle.std.proofs.Common.{◌≡◌, ℕ, Bool, true, false, not, Option, Some, None, refl, sym, ap, ◌∙◌}
 use Rattle.std.specs.Option.{option_map}
 use Rattle.qfs_base.specs.Key.{key_cmp}
 use Rattle.qfs_base.specs.KeyLaws.{key_cmp_total}
-use Rattle.qfs_base.specs.KeyMap.{value_at, has_key, without_key}
+use Rattle.qfs_base.specs.KeyMap.{has_key, without_key}
 use Rattle.qfs_base.specs.KeyMapLaws.{value_at-without_key}
 use Rattle.qfs_base.specs.Outcome.{chunk_outcome}
 use Rattle.qfs_base.specs.declared.chunk.ChunkKey.{ChunkKey}
 use Rattle.qfs_base.specs.declared.reply.ChunkAnswer.{ChunkAnswer}
 use Rattle.qfs_base.specs.declared.reply.ChunkAnswer.TheVariants as Answer
 use Rattle.qfs_base.specs.declared.request.ChunkRequest.TheVariants as Ask
-use Rattle.qfs_device.specs.Held.{Held, chunk_at, lacking}
-use Rattle.qfs_record.specs.ChunkRecord.{chunk_record}
+use Rattle.qfs_device.specs.Held.{Held, lacking}
 use Rattle.qfs_model_server.specs.Server.{Server, chunk_attempted, chunk_served, chunk_refusal, room_of, refuse, unless_away, without_room}
-use Rattle.qfs_store.specs.Stands.{Known, Lengths, StandsOn, Serves, IsStep, IsAttempt, IsAway, forgetting}
+use Rattle.qfs_store.specs.Stands.{Known, Lengths, StandsOn, IsStep, IsAttempt, IsAway, forgetting}
 use Rattle.qfs_store.proofs.StandsLaws.{same_key, same_key-is, keeps_along, keeps_one, known_is_there, lengths_without, nothing_named}
-use Rattle.qfs_store.proofs.StepLaws.{refused_is_step, attempt_is_step, none_handed}
+use Rattle.qfs_store.proofs.StepLaws.{refused_is_step, attempt_is_step, none_handed, none_more}
 
 -- ---- refusals
 
@@ -73,7 +72,7 @@ unfolding chunk_attempted chunk_outcome chunk_served
 erased key life told told' shelf removed server before told_is stands = (
   lacking key before,
   removed ∙ ap (option_map (lacking key)) told_is,
-  record { reply_is = refl; stands = erase_stands before shelf server key stands; handed = none_handed (Ask.Erase key life) before.handed_out server.handed_out },
+  record { reply_is = refl; stands = erase_stands before shelf server key stands; handed = none_handed (Ask.Erase key life) before.handed_out server.handed_out; exact = λ _. none_more before.handed_out server.handed_out },
 )
 
 erase_failed : (key : ChunkKey) (life : ℕ) (told told' : Option Held) (shelf : Known) → told' ≡ told →
@@ -82,7 +81,7 @@ unfolding chunk_attempted chunk_outcome room_of
 erase_failed key life told told' shelf same server before told_is stands = (
   before,
   same ∙ told_is,
-  record { reply_is = refl; stands = stands; handed = none_handed (Ask.Erase key life) before.handed_out server.handed_out },
+  record { reply_is = refl; stands = stands; handed = none_handed (Ask.Erase key life) before.handed_out server.handed_out; exact = λ _. none_more before.handed_out server.handed_out },
 )
 
 pub erase_done : (key : ChunkKey) (life : ℕ) (told told' : Option Held) (shelf : Known) → IsAway told shelf life None → has_key key_cmp shelf.lengths key ≡ true → told' ≡ option_map (lacking key) told →

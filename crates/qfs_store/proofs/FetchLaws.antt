@@ -1,11 +1,11 @@
 -- A Fetch of a server that stands over its device.
-use Rattle.std.proofs.Common.{◌≡◌, ℕ, ◌+◌, ◌-◌, ◌<◌, ◌≤◌, Bool, true, false, not, List, [], ◌∷◌, length, min, take, drop, replicate, Option, Some, None, is_some, refl, sym, ap, subst, ◌∙◌, arith}
+use Rattle.std.proofs.Common.{◌≡◌, ℕ, ◌+◌, ◌-◌, ◌≤◌, Bool, true, false, not, List, [], length, min, take, drop, Option, Some, None, is_some, refl, sym, ap, ◌∙◌, arith}
 use Rattle.std.specs.Prelude.{nat_le, ◌&&◌, unwrap_or}
 use Rattle.std.specs.Option.{option_map}
 use Rattle.std.proofs.lemmas.Bool.{false≢true}
 use Rattle.std.proofs.lemmas.Bool.Decides.{nat_tests}
 use Rattle.qfs_base.specs.Key.{key_cmp}
-use Rattle.qfs_base.specs.KeyMap.{value_at, has_key}
+use Rattle.qfs_base.specs.KeyMap.{value_at}
 use Rattle.qfs_base.specs.Outcome.{chunk_outcome}
 use Rattle.qfs_base.specs.declared.chunk.ChunkKey.{ChunkKey}
 use Rattle.qfs_base.specs.declared.reply.ChunkAnswer.{ChunkAnswer}
@@ -13,11 +13,11 @@ use Rattle.qfs_base.specs.declared.reply.ChunkAnswer.TheVariants as Answer
 use Rattle.qfs_base.specs.declared.request.ChunkRequest.TheVariants as Ask
 use Rattle.qfs_device.specs.Fault.{last_count}
 use Rattle.qfs_device.specs.Held.{Held, LiesIn, chunk_at, bytes_at, handing}
-use Rattle.qfs_record.specs.ChunkRecord.{IsChunk, chunk_record}
+use Rattle.qfs_record.specs.ChunkRecord.{chunk_record}
 use Rattle.qfs_model_server.specs.Server.{Server, chunk_attempted, chunk_served, chunk_refusal, copy_bytes, has_range, room_of, refuse, unless_away}
-use Rattle.qfs_store.specs.Stands.{Known, Lengths, Keeps, StandsOn, Serves, IsStep, IsAttempt, IsAway, IsGrounded, IsFill, HoldsRange, kept, reaches}
+use Rattle.qfs_store.specs.Stands.{Known, Lengths, Keeps, StandsOn, IsStep, IsAttempt, IsAway, IsGrounded, IsFill, HoldsRange, kept, reaches}
 use Rattle.qfs_store.proofs.StandsLaws.{length_at, record_length, behind_head}
-use Rattle.qfs_store.proofs.StepLaws.{refused_is_step, attempt_is_step, none_handed}
+use Rattle.qfs_store.proofs.StepLaws.{refused_is_step, attempt_is_step, none_handed, none_more}
 
 -- ---- the range
 
@@ -126,6 +126,7 @@ fetch_attempt key life from room room' told told' shelf Answer.Fetched met fille
             (filled.1 before told_is copy.range ∙ ap (λ (bytes : List ℕ). take (length room) (drop from bytes)) (sym (copy_bytes_is server key copy.range.bytes copy.copy_is)));
         stands = record { up = stands.up; life = stands.life; lengths = stands.lengths; keys = stands.keys };
         handed = handed_is before.handed_out server.handed_out (length room);
+        exact = λ _. handed_is before.handed_out server.handed_out (length room);
       },
     )
 fetch_attempt key life from room room' told told' shelf Answer.Fault met filled server before told_is stands = (
@@ -135,6 +136,7 @@ fetch_attempt key life from room room' told told' shelf Answer.Fault met filled 
     reply_is = ap (λ (bytes : List ℕ). record { answer = Answer.Fault; room = bytes }) filled.1;
     stands = stands;
     handed = none_handed (Ask.Fetch key life from room) before.handed_out server.handed_out;
+    exact = λ _. none_more before.handed_out server.handed_out;
   },
 )
 fetch_attempt key life from room room' told told' shelf _ met filled server before told_is stands = absurd filled

@@ -1,12 +1,12 @@
 -- A Put of a server that stands over its device.
-use Rattle.std.proofs.Common.{◌≡◌, ℕ, ◌+◌, ◌-◌, ◌<◌, ◌≤◌, ◌^◌, Bool, true, false, cond, List, [], ◌∷◌, length, get_or, Option, Some, None, is_some, Result, Err, IsTrue, refl, sym, ap, subst, ◌∙◌, true≢false, arith}
+use Rattle.std.proofs.Common.{◌≡◌, ℕ, ◌<◌, ◌≤◌, ◌^◌, Bool, true, false, cond, List, length, get_or, Option, Some, None, Err, IsTrue, refl, sym, ap, ◌∙◌, arith}
 use Rattle.std.specs.Prelude.{nat_le, nat_lt}
 use Rattle.std.specs.Option.{option_map}
 use Rattle.std.proofs.lemmas.Bool.Decides.{nat_tests}
 use Rattle.std.proofs.lemmas.List.Elements.{All-from_get_or}
 use Rattle.qfs_base.specs.Key.{key_cmp}
 use Rattle.qfs_base.specs.KeyLaws.{key_cmp_total}
-use Rattle.qfs_base.specs.KeyMap.{value_at, has_key, with_entry, without_key}
+use Rattle.qfs_base.specs.KeyMap.{has_key, with_entry}
 use Rattle.qfs_base.specs.KeyMapLaws.{value_at-with_entry, value_at-without_key}
 use Rattle.qfs_base.specs.Outcome.{chunk_outcome}
 use Rattle.qfs_base.specs.declared.chunk.ChunkKey.{ChunkKey}
@@ -16,12 +16,11 @@ use Rattle.qfs_base.specs.declared.request.ChunkRequest.TheVariants as Ask
 use Rattle.qfs_device.specs.Held.{Held, chunk_at, holding, leaving, IsTorn, Writes}
 use Rattle.qfs_device.specs.declared.errors.DeviceError.{DeviceError}
 use Rattle.qfs_device.specs.declared.errors.DeviceError.TheVariants as Error
-use Rattle.qfs_record.specs.Part.{AreBytes}
 use Rattle.qfs_record.specs.ChunkRecord.{IsChunk, chunk_record}
 use Rattle.qfs_model_server.specs.Server.{Server, chunk_attempted, chunk_served, chunk_refusal, room_of, refuse, unless_away, without_room}
-use Rattle.qfs_store.specs.Stands.{Known, Lengths, lengths_of, StandsOn, Serves, IsStep, IsAttempt, IsAway, knowing, forgetting, failure}
+use Rattle.qfs_store.specs.Stands.{Known, Lengths, lengths_of, StandsOn, IsStep, IsAttempt, IsAway, knowing, forgetting, failure}
 use Rattle.qfs_store.proofs.StandsLaws.{same_key, same_key-is, keeps_along, keeps_one, absent_again, absent_key, absent_copy, known_is_there, lengths_with, taken_back, torn_is_none}
-use Rattle.qfs_store.proofs.StepLaws.{refused_is_step, attempt_is_step, none_handed}
+use Rattle.qfs_store.proofs.StepLaws.{refused_is_step, attempt_is_step, none_handed, none_more}
 
 -- ---- refusals
 
@@ -85,7 +84,7 @@ put_stands held shelf server key bytes fits stands = record {
 }
 
 -- what is left of the copy's record under its key, and no copy there
-left_at : (held : Held) (key : ChunkKey) (left : Option (List ℕ)) (q : ChunkKey) → chunk_at (leaving key left held) q ≡ cond (same_key q key) left (chunk_at held q)
+pub left_at : (held : Held) (key : ChunkKey) (left : Option (List ℕ)) (q : ChunkKey) → chunk_at (leaving key left held) q ≡ cond (same_key q key) left (chunk_at held q)
 left_at held key None q = value_at-without_key key_cmp_total held.contents key q
 left_at held key (Some part) q = value_at-with_entry key_cmp_total held.contents key part q
 
@@ -128,7 +127,7 @@ back_stands held shelf server key count apart stands = record {
 pub put_without_memory : (key : ChunkKey) (life : ℕ) (bytes : List ℕ) (told : Option Held) (shelf : Known) → IsAttempt (Ask.Put key life bytes) told shelf (without_room Answer.NoMemory) told shelf
 unfolding chunk_attempted chunk_outcome room_of
 put_without_memory key life bytes told shelf server before told_is stands =
-    (before, told_is, record { reply_is = refl; stands = stands; handed = none_handed (Ask.Put key life bytes) before.handed_out server.handed_out })
+    (before, told_is, record { reply_is = refl; stands = stands; handed = none_handed (Ask.Put key life bytes) before.handed_out server.handed_out; exact = λ _. none_more before.handed_out server.handed_out })
 
 pub put_stored : (key : ChunkKey) (life : ℕ) (bytes : List ℕ) (told told' : Option Held) (shelf : Known) → IsChunk key bytes → told' ≡ option_map (holding key (chunk_record key bytes)) told →
     IsAttempt (Ask.Put key life bytes) told shelf (without_room Answer.Stored) told' (knowing key (length bytes) shelf)
@@ -136,7 +135,7 @@ unfolding chunk_attempted chunk_outcome chunk_served
 put_stored key life bytes told told' shelf fits wrote server before told_is stands = (
   holding key (chunk_record key bytes) before,
   wrote ∙ ap (option_map (holding key (chunk_record key bytes))) told_is,
-  record { reply_is = refl; stands = put_stands before shelf server key bytes fits stands; handed = none_handed (Ask.Put key life bytes) before.handed_out server.handed_out },
+  record { reply_is = refl; stands = put_stands before shelf server key bytes fits stands; handed = none_handed (Ask.Put key life bytes) before.handed_out server.handed_out; exact = λ _. none_more before.handed_out server.handed_out },
 )
 
 pub put_failed : (key : ChunkKey) (life : ℕ) (bytes : List ℕ) (told told' : Option Held) (shelf : Known) (error : DeviceError) → length bytes < 2 ^ 32 → has_key key_cmp shelf.lengths key ≡ false →
@@ -150,10 +149,11 @@ put_failed key life bytes told told' shelf Error.Failed few apart wrote server b
     reply_is = refl;
     stands = torn_stands before shelf server key bytes wrote.0 few apart wrote.1 stands;
     handed = let same = same_count_left before key wrote.0 in omega arith;
+    exact = λ _. let same = same_count_left before key wrote.0 in omega arith;
   },
 )
 put_failed key life bytes told told' shelf Error.NoMemory few apart wrote server before told_is stands = (
   before,
   wrote ∙ told_is,
-  record { reply_is = refl; stands = back_stands before shelf server key (length bytes) apart stands; handed = none_handed (Ask.Put key life bytes) before.handed_out server.handed_out },
+  record { reply_is = refl; stands = back_stands before shelf server key (length bytes) apart stands; handed = none_handed (Ask.Put key life bytes) before.handed_out server.handed_out; exact = λ _. none_more before.handed_out server.handed_out },
 )

@@ -1,5 +1,5 @@
 -- Requests to a whole server that stands over its device: Stop, Wipe and Inventory.
-use Rattle.std.proofs.Common.{◌≡◌, ℕ, Bool, true, false, not, List, [], ◌∷◌, length, Option, Some, None, refl, sym, ap, ◌∙◌}
+use Rattle.std.proofs.Common.{◌≡◌, ℕ, Bool, true, false, not, List, [], length, Option, Some, None, refl, sym, ap, ◌∙◌}
 use Rattle.std.specs.Option.{option_map}
 use Rattle.std.specs.Map.{keys_of}
 use Rattle.std.proofs.lemmas.Map.Made.{keys_of-map_values}
@@ -9,11 +9,11 @@ use Rattle.qfs_base.specs.declared.reply.ChunkAnswer.{ChunkAnswer}
 use Rattle.qfs_base.specs.declared.reply.ChunkAnswer.TheVariants as Answer
 use Rattle.qfs_base.specs.declared.request.ChunkRequest.{ChunkRequest}
 use Rattle.qfs_base.specs.declared.request.ChunkRequest.TheVariants as Ask
-use Rattle.qfs_device.specs.Held.{Held, chunk_at, emptied}
-use Rattle.qfs_model_server.specs.Server.{Server, Copies, chunk_attempted, chunk_served, chunk_refusal, room_of, refuse, next_life, stays, without_room}
-use Rattle.qfs_store.specs.Stands.{Known, Lengths, lengths_of, StandsOn, Serves, IsStep, IsAttempt, IsAway}
+use Rattle.qfs_device.specs.Held.{Held, emptied}
+use Rattle.qfs_model_server.specs.Server.{Server, chunk_attempted, chunk_served, chunk_refusal, room_of, refuse, next_life, stays, without_room}
+use Rattle.qfs_store.specs.Stands.{Known, Lengths, StandsOn, IsStep, IsAttempt}
 use Rattle.qfs_store.proofs.StandsLaws.{nothing_named}
-use Rattle.qfs_store.proofs.StepLaws.{refused_is_step, attempt_is_step, serves_along, unmoved, none_handed}
+use Rattle.qfs_store.proofs.StepLaws.{refused_is_step, attempt_is_step, serves_along, unmoved, none_handed, none_more}
 
 -- ---- Stop
 
@@ -26,6 +26,7 @@ stop_attempt told shelf server before told_is stands = (
     reply_is = refl;
     stands = record { up = refl; life = stands.life; lengths = stands.lengths; keys = stands.keys };
     handed = none_handed Ask.Stop before.handed_out server.handed_out;
+    exact = λ _. none_more before.handed_out server.handed_out;
   },
 )
 
@@ -53,6 +54,7 @@ wipe_attempt told told' shelf life wiped life_is server before told_is stands =
         reply_is = ap (λ (life : ℕ). without_room (Answer.Wiped life)) (life_told before server life stands.life (life_is (emptied before) told'_is));
         stands = wipe_stands before shelf server stands;
         handed = none_handed Ask.Wipe before.handed_out server.handed_out;
+        exact = λ _. none_more before.handed_out server.handed_out;
       },
     )
 
@@ -101,6 +103,7 @@ inventory_attempt told shelf life keys life_is keys_are server before told_is st
         reply_is = λ i. without_room (Answer.Inventory (same_life i) (same_keys i));
         stands = stands;
         handed = none_handed Ask.Inventory before.handed_out server.handed_out;
+        exact = λ _. none_more before.handed_out server.handed_out;
       },
     )
 

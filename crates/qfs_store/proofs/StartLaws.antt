@@ -1,5 +1,5 @@
 -- What a server that was down finds on its device: the lengths of its copies.
-use Rattle.std.proofs.Common.{◌≡◌, ℕ, ◌+◌, ◌-◌, ◌<◌, ◌≤◌, ◌^◌, Bool, true, false, cond, List, [], ◌∷◌, ◌++◌, length, map, take, drop, Option, Some, None, is_some, unwrap_or, Decides, refl, sym, ap, subst, ◌∙◌, true≢false, suc, ◌||◌, arith}
+use Rattle.std.proofs.Common.{◌≡◌, ℕ, ◌+◌, ◌-◌, ◌<◌, ◌≤◌, Bool, true, false, cond, List, [], ◌∷◌, ◌++◌, length, take, drop, Option, Some, None, is_some, unwrap_or, refl, sym, ap, subst, ◌∙◌, true≢false, suc, ◌||◌, arith}
 use Rattle.std.specs.Prelude.{nat_le, ◌&&◌}
 use Rattle.std.specs.List.{AllByRecursion, fold}
 use Rattle.std.specs.List.Sorted.{IsStrictlySortedBy}
@@ -21,14 +21,14 @@ use Rattle.std.proofs.lemmas.Option.{same_Some}
 use Rattle.std.specs.Set.{is_member}
 use Rattle.qfs_base.specs.Key.{key_cmp}
 use Rattle.qfs_base.specs.KeyLaws.{key_cmp_total, key_cmp-Equal}
-use Rattle.qfs_base.specs.KeyMap.{value_at, with_entry, without_key}
+use Rattle.qfs_base.specs.KeyMap.{value_at, has_key, without_key}
 use Rattle.qfs_base.specs.KeyMapLaws.{value_at-with_entry, value_at-without_key}
 use Rattle.qfs_base.specs.declared.chunk.ChunkKey.{ChunkKey}
 use Rattle.qfs_device.specs.Held.{Held, Contents, chunk_at, bytes_at, sizes_of}
 use Rattle.qfs_device.specs.declared.chunk_device.KeySize.{KeySize}
-use Rattle.qfs_record.specs.ChunkRecord.{IsChunk, chunk_record}
+use Rattle.qfs_record.specs.ChunkRecord.{chunk_record}
 use Rattle.qfs_model_server.specs.Server.{Server, Copies}
-use Rattle.qfs_store.specs.Stands.{Known, Lengths, lengths_of, Keeps, StandsOn}
+use Rattle.qfs_store.specs.Stands.{Known, Lengths, lengths_of, Keeps, StandsOn, HasNoStrays}
 use Rattle.qfs_store.specs.Start.{head, length_within, noted, noting, candidates, has_head, checked, checking, found, head_of, heads}
 use Rattle.qfs_store.proofs.StandsLaws.{same_key, same_key-is, length_at, record_length}
 use Rattle.qfs_store.proofs.FetchLaws.{size_reached}
@@ -378,5 +378,33 @@ copies_read held shelf server stands contents known =
     (among_sizes held.contents q ∙ copy_is_held held q copy (stands.keys q) some)
     (ap is_some (candidate_at held.contents q contents) ∙ copy_is_noted held q copy (stands.keys q) some)) in
     let counted = heads_counted held sizes noted_keys in
+    let long = length_keys server.copies in
+    omega arith
+
+-- ---- no other heads are read
+
+one_more : (v : Option ℕ) (n rest : ℕ) → n ≤ rest → head_of v + n ≤ suc rest
+one_more None n rest fewer = omega arith
+one_more (Some count) n rest fewer = omega arith
+
+-- at most one head is read for each key
+heads_within : (held : Held) (sizes : List KeySize) (lengths : Lengths) → heads held lengths sizes ≤ length sizes
+heads_within held [] lengths = omega arith
+heads_within held (chunk ∷ rest) lengths = one_more (value_at key_cmp lengths chunk.key) (heads held (checking held lengths chunk) rest) (length rest) (heads_within held rest (checking held lengths chunk))
+
+all_chunks : (contents : Contents) → length (sizes_of contents) ≡ length (keys_of contents)
+all_chunks [] = refl
+all_chunks (entry ∷ rest) = ap suc (all_chunks rest)
+
+-- where each key on a device is that of a copy, the heads of the copies alone are read
+pub copies_read_only : (held : Held) (shelf : Known) (server : Server) → StandsOn held shelf server → IsStrictlySortedBy key_cmp (keys_of held.contents) → HasNoStrays held server →
+    heads held (candidates (sizes_of held.contents)) (sizes_of held.contents) ≤ length server.copies
+copies_read_only held shelf server stands contents none =
+    let sizes = sizes_of held.contents in
+    let fewer = length-le_from_is_member (eq_by_cmp_equiv key_cmp_total) (keys_of held.contents) (keys_of (lengths_of server.copies)) (IsDistinct-from_sorted key_cmp (keys_of held.contents) contents) (λ q inside.
+    let there : has_key key_cmp held.contents q ≡ true = is_some-lookup (λ k. is_eq (key_cmp q k)) held.contents ∙ inside in
+    sym (is_some-lookup (λ k. is_eq (key_cmp q k)) (lengths_of server.copies)) ∙ ap is_some (length_at server.copies q) ∙ some_mapped (value_at key_cmp server.copies q) ∙ none q there) in
+    let within = heads_within held sizes (candidates sizes) in
+    let all = all_chunks held.contents in
     let long = length_keys server.copies in
     omega arith

@@ -1,7 +1,9 @@
 -- A Start of a server that stands over its device.
-use Rattle.std.proofs.Common.{◌≡◌, ℕ, ◌+◌, ◌-◌, ◌*◌, ◌≤◌, Bool, true, false, List, [], length, Option, Some, None, if◌then◌else◌, refl, sym, ap, subst, ◌∙◌, arith}
+use Rattle.std.proofs.Common.{◌≡◌, ℕ, ◌+◌, ◌-◌, ◌*◌, ◌≤◌, Bool, true, false, length, Option, Some, Err, if◌then◌else◌, refl, sym, ap, subst, ◌∙◌, arith}
 use Rattle.std.specs.List.Sorted.{IsStrictlySortedBy}
 use Rattle.std.specs.Map.{keys_of}
+use Rattle.std.proofs.lemmas.Option.{same_Some}
+use Rattle.qfs_device.specs.Fault.{OnNoMemory}
 use Rattle.qfs_base.specs.Key.{key_cmp}
 use Rattle.qfs_base.specs.KeyMap.{value_at}
 use Rattle.qfs_base.specs.Outcome.{chunk_outcome}
@@ -13,10 +15,10 @@ use Rattle.qfs_device.specs.Held.{Held, Contents, sizes_of}
 use Rattle.qfs_device.specs.declared.errors.DeviceError.{DeviceError}
 use Rattle.qfs_device.specs.declared.errors.DeviceError.TheVariants as Error
 use Rattle.qfs_model_server.specs.Server.{Server, chunk_attempted, chunk_served, chunk_refusal, room_of, start_reads, header_bytes, without_room}
-use Rattle.qfs_store.specs.Stands.{Known, Lengths, Keeps, StandsOn, Serves, IsStep, IsAttempt, kept, failure}
+use Rattle.qfs_store.specs.Stands.{Known, Lengths, Keeps, StandsOn, IsStep, IsAttempt, kept, failure}
 use Rattle.qfs_store.specs.Start.{ReadHeads, candidates, found, heads}
-use Rattle.qfs_store.proofs.StepLaws.{attempt_is_step}
-use Rattle.qfs_store.proofs.StartLaws.{copies_found, copies_read}
+use Rattle.qfs_store.proofs.StepLaws.{attempt_is_step, none_more}
+use Rattle.qfs_store.proofs.StartLaws.{copies_found, copies_read, copies_read_only}
 
 start_attempt_is_step : (told told' : Option Held) (shelf shelf' : Known) (answer : ChunkAnswer) → IsAttempt Ask.Start told shelf (without_room answer) told' shelf' → IsStep Ask.Start told shelf (without_room answer) told' shelf'
 unfolding chunk_refusal
@@ -37,6 +39,10 @@ reads_down server down = ap (λ (b : Bool). if b then 0 else header_bytes * leng
 at_least : (old new more reads copies out : ℕ) → more ≡ header_bytes * copies → copies ≤ reads → kept new ≡ kept (old + header_bytes * reads) → kept (old + (out + more - out)) ≤ kept new
 at_least old new more reads copies out is fewer handed = omega arith
 
+-- exactly as many
+just_as : (old new more reads copies out : ℕ) → more ≡ header_bytes * copies → copies ≤ reads → reads ≤ copies → kept new ≡ kept (old + header_bytes * reads) → kept new ≡ kept (old + (out + more - out))
+just_as old new more reads copies out is fewer no_more handed = omega arith
+
 up_attempt : (told : Option Held) (shelf : Known) (life : ℕ) → shelf.up ≡ true → ((held : Held) → told ≡ Some held → life ≡ held.life) → IsAttempt Ask.Start told shelf (without_room (Answer.Started life)) told shelf
 unfolding chunk_attempted chunk_outcome chunk_served
 up_attempt told shelf life up life_is server before told_is stands =
@@ -47,6 +53,7 @@ up_attempt told shelf life up life_is server before told_is stands =
         reply_is = ap (λ (life : ℕ). without_room (Answer.Started life)) (life_is before told_is ∙ stands.life);
         stands = record { up = up; life = stands.life; lengths = stands.lengths; keys = stands.keys };
         handed = at_least before.handed_out before.handed_out (start_reads server) 0 0 server.handed_out none (omega arith) (omega arith);
+        exact = λ _. just_as before.handed_out before.handed_out (start_reads server) 0 0 server.handed_out none (omega arith) (omega arith) (omega arith);
       },
     )
 
@@ -87,6 +94,7 @@ found_attempt told told' shelf lengths life down finds life_is server before tol
           keys = keys_stay before read.after server read.contents stands.keys;
         };
         handed = at_least before.handed_out read.after.handed_out (start_reads server) reads (length server.copies) server.handed_out (reads_down server (sym stands.up ∙ down)) (copies_read before shelf server stands rising finds.known) read.handed;
+        exact = λ clean. just_as before.handed_out read.after.handed_out (start_reads server) reads (length server.copies) server.handed_out (reads_down server (sym stands.up ∙ down)) (copies_read before shelf server stands rising finds.known) (copies_read_only before shelf server stands rising clean) read.handed;
       },
     )
 
@@ -104,10 +112,16 @@ failed_stands : (held after : Held) (shelf : Known) (server : Server) → after.
 failed_stands held after shelf server contents life stands =
     record { up = stands.up; life = life ∙ stands.life; lengths = stands.lengths; keys = keys_stay held after server contents stands.keys }
 
-failed_attempt : (told told' : Option Held) (shelf : Known) (error : DeviceError) → ((held : Held) → told ≡ Some held → (reads : ℕ) × ReadHeads held told' reads) →
+-- want of memory comes before the first read
+nothing_read : (told told' : Option Held) (before : Held) (out : ℕ) (read : (reads : ℕ) × ReadHeads before told' reads) → told ≡ Some before → told' ≡ told → kept read.1.after.handed_out ≡ kept (before.handed_out + (out - out))
+nothing_read told told' before out read told_is same =
+    let as_before : read.1.after ≡ before = same_Some read.1.after before (sym read.1.told_is ∙ same ∙ told_is) in
+    ap (λ (held : Held). kept held.handed_out) as_before ∙ none_more before.handed_out out
+
+failed_attempt : (told told' : Option Held) (shelf : Known) (error : DeviceError) → ((held : Held) → told ≡ Some held → (reads : ℕ) × ReadHeads held told' reads) → OnNoMemory {T = Unit {0}} (Err error) (told' ≡ told) →
     IsAttempt Ask.Start told shelf (without_room (failure error)) told' shelf
 unfolding chunk_attempted chunk_outcome room_of
-failed_attempt told told' shelf Error.Failed some server before told_is stands =
+failed_attempt told told' shelf Error.Failed some same server before told_is stands =
     let read = (some before told_is).1 in (
       read.after,
       read.told_is,
@@ -115,9 +129,10 @@ failed_attempt told told' shelf Error.Failed some server before told_is stands =
         reply_is = refl;
         stands = failed_stands before read.after shelf server read.contents read.life stands;
         handed = not_less before.handed_out read.after.handed_out (some before told_is).0 server.handed_out read.handed;
+        exact = λ clean. absurd clean;
       },
     )
-failed_attempt told told' shelf Error.NoMemory some server before told_is stands =
+failed_attempt told told' shelf Error.NoMemory some same server before told_is stands =
     let read = (some before told_is).1 in (
       read.after,
       read.told_is,
@@ -125,9 +140,10 @@ failed_attempt told told' shelf Error.NoMemory some server before told_is stands
         reply_is = refl;
         stands = failed_stands before read.after shelf server read.contents read.life stands;
         handed = not_less before.handed_out read.after.handed_out (some before told_is).0 server.handed_out read.handed;
+        exact = λ _. nothing_read told told' before server.handed_out (some before told_is) told_is same;
       },
     )
 
-pub start_failed : (told told' : Option Held) (shelf : Known) (error : DeviceError) → ((held : Held) → told ≡ Some held → (reads : ℕ) × ReadHeads held told' reads) →
+pub start_failed : (told told' : Option Held) (shelf : Known) (error : DeviceError) → ((held : Held) → told ≡ Some held → (reads : ℕ) × ReadHeads held told' reads) → OnNoMemory {T = Unit {0}} (Err error) (told' ≡ told) →
     IsStep Ask.Start told shelf (without_room (failure error)) told' shelf
-start_failed told told' shelf error some = start_attempt_is_step told told' shelf shelf (failure error) (failed_attempt told told' shelf error some)
+start_failed told told' shelf error some same = start_attempt_is_step told told' shelf shelf (failure error) (failed_attempt told told' shelf error some same)

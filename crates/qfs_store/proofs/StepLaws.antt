@@ -1,20 +1,17 @@
 -- Steps of a server that stands over its device.
-use Rattle.std.proofs.Common.{◌≡◌, ℕ, ◌+◌, ◌-◌, ◌<◌, ◌≤◌, min, Bool, true, false, not, List, [], ◌∷◌, length, Option, Some, None, is_some, IfSome, refl, sym, ap, subst, ◌∙◌, arith}
+use Rattle.std.proofs.Common.{◌≡◌, ℕ, ◌+◌, ◌-◌, Bool, true, false, not, List, Option, Some, None, IfSome, refl, sym, ap, subst, ◌∙◌, arith}
 use Rattle.std.specs.Prelude.{◌==◌}
 use Rattle.std.proofs.lemmas.Bool.Decides.{nat_tests}
-use Rattle.qfs_base.specs.Key.{key_cmp}
-use Rattle.qfs_base.specs.KeyMap.{value_at, has_key}
 use Rattle.qfs_base.specs.Outcome.{chunk_outcome}
-use Rattle.qfs_base.specs.declared.chunk.ChunkKey.{ChunkKey}
 use Rattle.qfs_base.specs.declared.history.Outcome.{Outcome}
 use Rattle.qfs_base.specs.declared.reply.ChunkAnswer.{ChunkAnswer}
 use Rattle.qfs_base.specs.declared.reply.ChunkAnswer.TheVariants as Answer
 use Rattle.qfs_base.specs.declared.reply.ChunkReply.{ChunkReply}
 use Rattle.qfs_base.specs.declared.request.ChunkRequest.{ChunkRequest}
 use Rattle.qfs_base.specs.declared.request.ChunkRequest.TheVariants as Ask
-use Rattle.qfs_device.specs.Held.{Held, chunk_at}
+use Rattle.qfs_device.specs.Held.{Held}
 use Rattle.qfs_model_server.specs.Server.{Server, Answered, server_step, chunk_decided, chunk_attempted, chunk_refusal, room_of, refuse, unless_away, stays}
-use Rattle.qfs_store.specs.Stands.{Known, StandsOn, Serves, HandsOut, Follows, IsStep, IsAttempt, IsAway, OnFault, IsQuiet, TakesNoMemory}
+use Rattle.qfs_store.specs.Stands.{Known, StandsOn, Serves, HandsOut, IsStep, IsAttempt, OnFault, IsQuiet, TakesNoMemory, kept}
 
 -- ---- requests that are refused, and the others
 
@@ -36,12 +33,15 @@ none_handed Ask.Start old count = omega arith
 none_handed Ask.Wipe old count = omega arith
 none_handed Ask.Inventory old count = omega arith
 
+pub none_more : (old count : ℕ) → kept old ≡ kept (old + (count - count))
+none_more old count = omega arith
+
 pub serves_along : (request : ChunkRequest) (before after : Held) (shelf : Known) (reply : ChunkReply) (server : Server) (step step' : Answered) → step ≡ step' → Serves request before after shelf reply server step → Serves request before after shelf reply server step'
 serves_along request before after shelf reply server step step' same serves = subst (Serves request before after shelf reply server) same serves
 
 -- a server that stays as it was
 pub unmoved : (request : ChunkRequest) (before : Held) (shelf : Known) (server : Server) (answer : ChunkAnswer) (room : List ℕ) → StandsOn before shelf server → Serves request before before shelf (record { answer = answer; room = room }) server (stays server answer room)
-unmoved request before shelf server answer room stands = record { reply_is = refl; stands = stands; handed = none_handed request before.handed_out server.handed_out }
+unmoved request before shelf server answer room stands = record { reply_is = refl; stands = stands; handed = none_handed request before.handed_out server.handed_out; exact = λ _. none_more before.handed_out server.handed_out }
 
 -- a request that is refused is a step
 pub refused_is_step : (request : ChunkRequest) (told : Option Held) (shelf : Known) (answer : ChunkAnswer) →

@@ -1,2 +1,5 @@
+pub mod Chunks
+pub mod Fresh
 pub mod Stands
 pub mod Start
+pub mod Stored

@@ -3,7 +3,7 @@
 use Rattle.std.specs.Prelude.{◌≡◌, ℕ, ◌+◌, ◌-◌, ◌<◌, ◌≤◌, min, nat_le, Bool, true, false, List, [], length, map, take, drop, replicate, Option, Some, None, ⊤}
 use Rattle.std.specs.Option.{ForSome, option_map}
 use Rattle.qfs_base.specs.Key.{key_cmp}
-use Rattle.qfs_base.specs.KeyMap.{value_at, with_entry, without_key}
+use Rattle.qfs_base.specs.KeyMap.{value_at, has_key, with_entry, without_key}
 use Rattle.qfs_base.specs.Outcome.{chunk_outcome}
 use Rattle.qfs_base.specs.declared.chunk.ChunkKey.{ChunkKey}
 use Rattle.qfs_base.specs.declared.reply.ChunkAnswer.{ChunkAnswer}
@@ -80,12 +80,27 @@ abbrev pub HandsOut : ChunkRequest → ℕ → ℕ → ℕ → Type 0
 HandsOut Ask.Start count old new = kept (old + count) ≤ kept new
 HandsOut _ count old new = kept new ≡ kept (old + count)
 
+-- every key on a device is that of a copy
+abbrev pub HasNoStrays : Held → Server → Type 0
+HasNoStrays held server = (key : ChunkKey) → has_key key_cmp held.contents key ≡ true → has_key key_cmp server.copies key ≡ true
+
+-- a start read the headers of copies alone: it didn't fail, and there were no other keys
+abbrev pub IsCleanStart : ChunkAnswer → Held → Server → Type 0
+IsCleanStart Answer.Fault held server = ⊥
+IsCleanStart _ held server = HasNoStrays held server
+
+-- a step hands out exactly what the server does
+abbrev pub IsExact : ChunkRequest → ChunkAnswer → Held → Server → Type 0
+IsExact Ask.Start answer held server = IsCleanStart answer held server
+IsExact _ answer held server = ⊤
+
 -- it stands, over a device that holds this, for the server where a step on this request led, and gave that step's
--- reply; the device handed out what the server did
+-- reply; the device handed out what the server did, and after a start that wasn't clean at least that
 pub record Serves (request : ChunkRequest) (before after : Held) (shelf : Known) (reply : ChunkReply) (server : Server) (step : Answered) : Type 0 where
   pub reply_is : reply ≡ step.reply
   pub stands : StandsOn after shelf step.server
   pub handed : HandsOut request (step.server.handed_out - server.handed_out) before.handed_out after.handed_out
+  pub exact : IsExact request reply.answer before server → kept after.handed_out ≡ kept (before.handed_out + (step.server.handed_out - server.handed_out))
 
 -- whichever server it stood for, it now stands for that server after this action, and gave that action's reply
 abbrev pub Follows : ChunkRequest → (Server → Answered) → Option Held → Known → ChunkReply → Option Held → Known → Type 0
@@ -153,6 +168,14 @@ IsQuiet Answer.Fault = ⊥
 IsQuiet Answer.NoMemory = ⊥
 IsQuiet _ = ⊤
 
+-- the answer refuses the request
+abbrev pub IsRefusal : ChunkAnswer → Type 0
+IsRefusal Answer.Down = ⊤
+IsRefusal (Answer.Lost asked now) = ⊤
+IsRefusal Answer.Held = ⊤
+IsRefusal Answer.Absent = ⊤
+IsRefusal _ = ⊥
+
 -- the answer isn't want of memory
 abbrev pub TakesNoMemory : ChunkAnswer → Type 0
 TakesNoMemory Answer.NoMemory = ⊥
@@ -164,3 +187,51 @@ MemoryFor (Ask.Put key life bytes) answer = ⊤
 MemoryFor Ask.Start answer = ⊤
 MemoryFor Ask.Inventory answer = ⊤
 MemoryFor _ answer = TakesNoMemory answer
+
+-- ---- over any device, told or not
+
+-- the answer that the server isn't up
+abbrev pub is_down : ChunkAnswer → Bool
+is_down Answer.Down = true
+is_down _ = false
+
+-- a request that only a server that is up serves
+abbrev pub asks_up : ChunkRequest → Bool
+asks_up (Ask.Put key life bytes) = true
+asks_up (Ask.Fetch key life from room) = true
+asks_up (Ask.Erase key life) = true
+asks_up Ask.Inventory = true
+asks_up _ = false
+
+-- a start that was answered so brought the server up, or left it as it was
+abbrev pub up_started : ChunkAnswer → Bool → Bool
+up_started (Answer.Started life) up = true
+up_started _ up = up
+
+-- whether a server is up after a step on this request that was answered so
+abbrev pub up_after : ChunkRequest → ChunkAnswer → Bool → Bool
+up_after Ask.Stop answer up = false
+up_after Ask.Start answer up = up_started answer up
+up_after _ answer up = up
+
+-- by whether a copy is known under its key, what a Put may be answered once the server isn't away
+abbrev pub PutFinds : ChunkAnswer → Bool → Type 0
+PutFinds Answer.Down there = ⊤
+PutFinds (Answer.Lost asked now) there = ⊤
+PutFinds Answer.Held there = there ≡ true
+PutFinds _ there = there ≡ false
+
+-- by whether what it asks for is known to be there, what a Fetch or an Erase may be answered then
+abbrev pub CopyFinds : ChunkAnswer → Bool → Type 0
+CopyFinds Answer.Down there = ⊤
+CopyFinds (Answer.Lost asked now) there = ⊤
+CopyFinds Answer.Absent there = there ≡ false
+CopyFinds _ there = there ≡ true
+
+-- the answer to a request is right by the copies that the server knows: Held comes only where it has that copy, Absent
+-- only where it hasn't or where a range runs past its end, and what a server that isn't away does is done elsewhere
+abbrev pub FindsCopy : ChunkRequest → Known → ChunkAnswer → Type 0
+FindsCopy (Ask.Put key life bytes) shelf answer = PutFinds answer (has_key key_cmp shelf.lengths key)
+FindsCopy (Ask.Fetch key life from room) shelf answer = CopyFinds answer (reaches (from + length room) (value_at key_cmp shelf.lengths key))
+FindsCopy (Ask.Erase key life) shelf answer = CopyFinds answer (has_key key_cmp shelf.lengths key)
+FindsCopy _ shelf answer = ⊤

@@ -1,5 +1,5 @@
 //! What a chunk server knows of the copies on its device, and how it serves requests.
-ghost use Rattle.std.specs.Prelude.{◌≡◌, ℕ, ◌+◌, ◌<◌, ◌≤◌, List, length, Option, None, Some, false, is_some, IfSome, IfOk, OnOk, OnErr};
+ghost use Rattle.std.specs.Prelude.{◌≡◌, ℕ, Bool, ◌+◌, ◌<◌, ◌≤◌, ◌&&◌, not, List, length, Option, None, Some, true, false, is_some, IfSome, MatchOption, IfOk, OnOk, OnErr};
 ghost use Rattle.std.specs.Option.{ForSome};
 ghost use Rattle.qfs_base.specs.Key.{key_cmp};
 ghost use Rattle.qfs_base.specs.KeyMap.{value_at, has_key};
@@ -9,7 +9,8 @@ ghost use Rattle.qfs_device.specs.Fault.{Rose};
 ghost use Rattle.qfs_device.specs.Held.{Held};
 ghost use Rattle.qfs_model_server.specs.Server.{without_room};
 ghost use Rattle.qfs_record.specs.ChunkRecord.{chunk_record};
-ghost use Rattle.qfs_store.specs.Stands.{no_copies, knowing, forgetting, reaches, HoldsRange, IsFill, IsGrounded, IsStep, IsAttempt, IsAway, failure, OnFault, IsQuiet, TakesNoMemory, MemoryFor, IsBuilt};
+ghost use Rattle.qfs_store.specs.Chunks.{LeavesChunks};
+ghost use Rattle.qfs_store.specs.Stands.{no_copies, knowing, forgetting, reaches, HoldsRange, IsFill, IsGrounded, IsStep, IsAttempt, IsAway, failure, OnFault, IsRefusal, IsQuiet, TakesNoMemory, MemoryFor, IsBuilt, PutFinds, CopyFinds, FindsCopy, is_down, asks_up, up_started, up_after};
 
 use crate::starting::copies_on;
 use qfs_base::chunk::ChunkKey;
@@ -64,10 +65,15 @@ impl Shelf {
     /// Serves a request. What comes of it is the server's step: its answer and, for a Fetch, the room
     /// that the request handed over; every other answer has an empty room. It answers Fault only
     /// where the device failed in this call, and want of memory never at a Fetch, Erase, Stop or Wipe.
+    /// `chunks` says what becomes of each key on the device, also where it is no copy's.
     pub fn serve<D: ChunkDevice>(&mut self, device: &mut D, request: ChunkRequest) -> ChunkReply
         requires built { IsBuilt request }
         requires grounded { IsGrounded (D.told device.old) self.old }
         ensures step { IsStep request (D.told device.old) self.old result (D.told device.new) self.new }
+        ensures chunks { LeavesChunks request (D.told device.old) self.old result.answer (D.told device.new) }
+        ensures up { self.new.up ≡ up_after request result.answer self.old.up }
+        ensures down { is_down result.answer ≡ (asks_up request && not self.old.up) }
+        ensures finds { FindsCopy request self.old result.answer }
         ensures tells { is_some (D.told device.new) ≡ is_some (D.told device.old) }
         ensures never_falls { D.faults device.old ≤ D.faults device.new }
         ensures cause { OnFault result.answer (Rose (D.faults device.old) (D.faults device.new)) }
@@ -106,6 +112,10 @@ impl Shelf {
         requires slot { key.slot < 9 }
         requires size { length bytes.now ≤ 67108864 }
         ensures step { IsStep (Ask.Put key life bytes.now) (D.told device.old) self.old (without_room result) (D.told device.new) self.new }
+        ensures chunks { LeavesChunks (Ask.Put key life bytes.now) (D.told device.old) self.old result (D.told device.new) }
+        ensures up { self.new.up ≡ self.old.up }
+        ensures down { is_down result ≡ not self.old.up }
+        ensures finds { PutFinds result (has_key key_cmp self.old.lengths key) }
         ensures tells { is_some (D.told device.new) ≡ is_some (D.told device.old) }
         ensures never_falls { D.faults device.old ≤ D.faults device.new }
         ensures cause { OnFault result (Rose (D.faults device.old) (D.faults device.new)) }
@@ -125,6 +135,10 @@ impl Shelf {
         requires size { length bytes.now ≤ 67108864 }
         requires absent { has_key key_cmp self.old.lengths key ≡ false }
         ensures step { (life : ℕ) → IsAttempt (Ask.Put key life bytes.now) (D.told device.old) self.old (without_room result) (D.told device.new) self.new }
+        ensures chunks { (life : ℕ) → LeavesChunks (Ask.Put key life bytes.now) (D.told device.old) self.old result (D.told device.new) }
+        ensures up { self.new.up ≡ self.old.up }
+        ensures down { is_down result ≡ false }
+        ensures finds { PutFinds result false }
         ensures tells { is_some (D.told device.new) ≡ is_some (D.told device.old) }
         ensures never_falls { D.faults device.old ≤ D.faults device.new }
         ensures cause { OnFault result (Rose (D.faults device.old) (D.faults device.new)) }
@@ -177,6 +191,9 @@ impl Shelf {
     ) -> ChunkAnswer
         requires grounded { IsGrounded (D.told device.old) self.now }
         ensures step { IsStep (Ask.Fetch key life from room.old) (D.told device.old) self.now (record { answer = result; room = room.new }) (D.told device.new) self.now }
+        ensures chunks { LeavesChunks (Ask.Fetch key life from room.old) (D.told device.old) self.now result (D.told device.new) }
+        ensures down { is_down result ≡ not self.now.up }
+        ensures finds { CopyFinds result (reaches (from + length room.old) (value_at key_cmp self.now.lengths key)) }
         ensures tells { is_some (D.told device.new) ≡ is_some (D.told device.old) }
         ensures never_falls { D.faults device.old ≤ D.faults device.new }
         ensures cause { OnFault result (Rose (D.faults device.old) (D.faults device.new)) }
@@ -200,6 +217,10 @@ impl Shelf {
         life: Life,
     ) -> ChunkAnswer
         ensures step { IsStep (Ask.Erase key life) (D.told device.old) self.old (without_room result) (D.told device.new) self.new }
+        ensures chunks { LeavesChunks (Ask.Erase key life) (D.told device.old) self.old result (D.told device.new) }
+        ensures up { self.new.up ≡ self.old.up }
+        ensures down { is_down result ≡ not self.old.up }
+        ensures finds { CopyFinds result (has_key key_cmp self.old.lengths key) }
         ensures tells { is_some (D.told device.new) ≡ is_some (D.told device.old) }
         ensures never_falls { D.faults device.old ≤ D.faults device.new }
         ensures cause { OnFault result (Rose (D.faults device.old) (D.faults device.new)) }
@@ -223,6 +244,8 @@ impl Shelf {
     /// Takes the server down. Its copies stay.
     pub fn stop(&mut self) -> ChunkAnswer
         ensures step { (told : Option Held) → IsStep Ask.Stop told self.old (without_room result) told self.new }
+        ensures up { self.new.up ≡ false }
+        ensures down { is_down result ≡ false }
         ensures quiet { IsQuiet result }
     {
         self.up = false;
@@ -233,6 +256,9 @@ impl Shelf {
     /// them comes to that, and then the server stays down. On a server that is up it does nothing.
     pub fn start<D: ChunkDevice>(&mut self, device: &mut D) -> ChunkAnswer
         ensures step { IsStep Ask.Start (D.told device.old) self.old (without_room result) (D.told device.new) self.new }
+        ensures chunks { LeavesChunks Ask.Start (D.told device.old) self.old result (D.told device.new) }
+        ensures up { self.new.up ≡ up_started result self.old.up }
+        ensures down { is_down result ≡ false }
         ensures tells { is_some (D.told device.new) ≡ is_some (D.told device.old) }
         ensures never_falls { D.faults device.old ≤ D.faults device.new }
         ensures cause { OnFault result (Rose (D.faults device.old) (D.faults device.new)) }
@@ -258,6 +284,9 @@ impl Shelf {
     /// It takes no memory.
     pub fn wipe<D: ChunkDevice>(&mut self, device: &mut D) -> ChunkAnswer
         ensures step { IsStep Ask.Wipe (D.told device.old) self.old (without_room result) (D.told device.new) self.new }
+        ensures chunks { LeavesChunks Ask.Wipe (D.told device.old) self.old result (D.told device.new) }
+        ensures up { self.new.up ≡ self.old.up }
+        ensures down { is_down result ≡ false }
         ensures tells { is_some (D.told device.new) ≡ is_some (D.told device.old) }
         ensures never_falls { D.faults device.old ≤ D.faults device.new }
         ensures cause { OnFault result (Rose (D.faults device.old) (D.faults device.new)) }
@@ -278,6 +307,7 @@ impl Shelf {
     /// list doesn't fit.
     pub fn inventory<D: ChunkDevice>(&self, device: &D) -> ChunkAnswer
         ensures step { IsStep Ask.Inventory (D.told device.now) self.now (without_room result) (D.told device.now) self.now }
+        ensures down { is_down result ≡ not self.now.up }
         ensures cause { OnFault result ⊥ }
     {
         if !self.up {
@@ -303,6 +333,9 @@ impl Shelf {
     ) -> ChunkReply
         requires grounded { IsGrounded (D.told device.old) self.now }
         ensures step { IsStep (Ask.Fetch key life from room) (D.told device.old) self.now result (D.told device.new) self.now }
+        ensures chunks { LeavesChunks (Ask.Fetch key life from room) (D.told device.old) self.now result.answer (D.told device.new) }
+        ensures down { is_down result.answer ≡ not self.now.up }
+        ensures finds { CopyFinds result.answer (reaches (from + length room) (value_at key_cmp self.now.lengths key)) }
         ensures tells { is_some (D.told device.new) ≡ is_some (D.told device.old) }
         ensures never_falls { D.faults device.old ≤ D.faults device.new }
         ensures cause { OnFault result.answer (Rose (D.faults device.old) (D.faults device.new)) }
@@ -333,6 +366,9 @@ impl Shelf {
     /// is another.
     fn away<D: ChunkDevice>(&self, device: &D, life: Life) -> Option<ChunkAnswer>
         ensures refusal { IsAway (D.told device.now) self.now life result }
+        ensures up { MatchOption result (self.now.up ≡ true) (λ refusal. is_down refusal ≡ not self.now.up) }
+        ensures finds { IfSome result (λ refusal. (there : Bool) → PutFinds refusal there × CopyFinds refusal there) }
+        ensures refuses { IfSome result IsRefusal }
         ensures quiet { IfSome result IsQuiet }
     {
         if !self.up {
@@ -358,7 +394,9 @@ fn without_room(alloc: Global, answer: ChunkAnswer) -> ChunkReply
 
 /// The answer where the device failed so.
 fn failed(error: DeviceError) -> ChunkAnswer
-    ensures { result ≡ failure error }
+    ensures failure { result ≡ failure error }
+    ensures finds { PutFinds result false }
+    ensures down { is_down result ≡ false }
 {
     match error {
         DeviceError::Failed => ChunkAnswer::Fault,
@@ -381,6 +419,8 @@ fn keys_in(alloc: Global, lengths: &KeyMap<ChunkKey, u32>) -> Result<KeyList, Al
 fn fill<D: ChunkDevice>(device: &mut D, key: ChunkKey, from: u32, room: &mut [u8]) -> ChunkAnswer
     requires lies { ForSome (D.told device.old) (λ held. HoldsRange held key from (length room.old)) }
     ensures fetched { IsFill key from (length room.old) (D.told device.old) (D.told device.new) result room.new }
+    ensures down { is_down result ≡ false }
+    ensures finds { CopyFinds result true }
     ensures tells { is_some (D.told device.new) ≡ is_some (D.told device.old) }
     ensures never_falls { D.faults device.old ≤ D.faults device.new }
     ensures cause { OnFault result (Rose (D.faults device.old) (D.faults device.new)) }

@@ -3,7 +3,7 @@ ghost use Rattle.std.specs.Prelude.{◌≡◌, ◌≤◌, Some, is_some, IfSome,
 ghost use Rattle.std.specs.Option.{ForSome};
 ghost use Rattle.qfs_base.specs.Key.{key_cmp};
 ghost use Rattle.qfs_base.specs.KeyMap.{value_at};
-ghost use Rattle.qfs_device.specs.Fault.{HasCause};
+ghost use Rattle.qfs_device.specs.Fault.{HasCause, OnNoMemory, TakesNoMemory};
 ghost use Rattle.qfs_device.specs.Held.{Held};
 ghost use Rattle.std.specs.List.Sorted.{IsStrictlySortedBy};
 ghost use Rattle.std.specs.Map.{keys_of};
@@ -29,6 +29,7 @@ pub fn copies_on<D: ChunkDevice>(
     ensures found { (held : Held) → D.told device.old ≡ Some held → IsFound held (D.told device.new) result }
     ensures rising { IfOk result (λ lengths. IsStrictlySortedBy key_cmp (keys_of lengths)) }
     ensures sorted { IfOk result (λ _. IfSome (D.told device.old) (λ held. IsStrictlySortedBy key_cmp (keys_of held.contents))) }
+    ensures no_memory { OnNoMemory result (D.told device.new ≡ D.told device.old) }
     ensures tells { is_some (D.told device.new) ≡ is_some (D.told device.old) }
     ensures never_falls { D.faults device.old ≤ D.faults device.new }
     ensures cause { HasCause (D.faults device.old) (D.faults device.new) result }
@@ -89,6 +90,7 @@ fn check_key<D: ChunkDevice>(
     ensures tells { is_some (D.told device.new) ≡ is_some (D.told device.old) }
     ensures never_falls { D.faults device.old ≤ D.faults device.new }
     ensures cause { HasCause (D.faults device.old) (D.faults device.new) result }
+    ensures no_memory { TakesNoMemory result }
 {
     let length = match lengths.get(&key) {
         Some(length) => *length,

@@ -1,10 +1,11 @@
 -- Refusals in their order, and then the device's answer.
-use Rattle.std.proofs.Common.{◌≡◌, ap, subst, sym, ◌∙◌}
+use Rattle.std.proofs.Common.{refl, ap, subst, sym, ◌∙◌}
 use Rattle.qfs_base.specs.Key.{key_cmp}
 use Rattle.qfs_base.specs.KeyMap.{has_key}
 use Rattle.qfs_store.specs.Stands.{Known, IsAway}
 use Rattle.qfs_store.proofs.StepLaws.{quiet_is_no_fault, quiet_has_memory}
 use Rattle.qfs_store.proofs.EraseLaws.{erase_away, erase_absent, erase_done, erase_fault}
+use Rattle.qfs_store.proofs.ChunkLaws.{idle_chunks, erase_refused_chunks, erased_chunks}
 use Rattle.qfs_store.proofs.shelf.Shelf.erase.Goals as goal
 
 pub returns-in-Some-clause-step : goal.returns-in-Some-clause-step
@@ -33,3 +34,18 @@ returns-in-Err-clause-step g c =
     erase_fault _ _ _ _ _ (subst (IsAway _ _ _) c.in_default.is c.away.ensures.refusal)
     (sym (ap (λ (s : Known). has_key key_cmp s.lengths c.args.key) c.self.view_is) ∙ sym c.contains.ensures ∙ c.if-not-contains.false)
     c.in-Err.ensures.removed
+
+pub returns-in-Some-clause-chunks : goal.returns-in-Some-clause-chunks
+returns-in-Some-clause-chunks g c = erase_refused_chunks c.args.key c.args.life _ c.args.self.now _ c.in-Some.ensures.refuses
+
+pub returns-then-not-contains-clause-chunks : goal.returns-then-not-contains-clause-chunks
+returns-then-not-contains-clause-chunks g c = idle_chunks _ _ refl
+
+pub returns-in-Ok-clause-chunks : goal.returns-in-Ok-clause-chunks
+returns-in-Ok-clause-chunks g c =
+    erased_chunks c.args.key c.args.life _ _ c.args.self.now
+    (sym (ap (λ (s : Known). has_key key_cmp s.lengths c.args.key) c.self.view_is) ∙ sym c.contains.ensures ∙ c.if-not-contains.false)
+    c.in-Ok.ensures.removed
+
+pub returns-in-Err-clause-chunks : goal.returns-in-Err-clause-chunks
+returns-in-Err-clause-chunks g c = idle_chunks _ _ c.in-Err.ensures.removed

@@ -1,8 +1,9 @@
 -- Refusals in their order, and then what was read.
-use Rattle.std.proofs.Common.{◌≡◌, subst, sym, ◌∙◌}
+use Rattle.std.proofs.Common.{refl, subst, sym, ◌∙◌}
 use Rattle.qfs_store.specs.Stands.{IsAway}
 use Rattle.qfs_store.proofs.StepLaws.{quiet_is_no_fault, quiet_has_memory}
 use Rattle.qfs_store.proofs.FetchLaws.{fetch_away, fetch_absent, fetch_filled, range_is_held}
+use Rattle.qfs_store.proofs.ChunkLaws.{idle_chunks, filled_chunks}
 use Rattle.qfs_store.proofs.shelf.Shelf.fetch.Goals as goal
 
 pub returns-in-Some-clause-step : goal.returns-in-Some-clause-step
@@ -25,3 +26,12 @@ fill-requires-clause-lies g c _ _ held told_is =
 pub returns-clause-step : goal.returns-clause-step
 returns-clause-step g c =
     fetch_filled _ _ _ _ _ _ _ _ _ (subst (IsAway _ _ _) c.in_default.is c.away.ensures.refusal) (sym c.has_range.ensures ∙ c.if-not-has_range.false) c.fill.ensures.fetched
+
+pub returns-in-Some-clause-chunks : goal.returns-in-Some-clause-chunks
+returns-in-Some-clause-chunks g c = idle_chunks _ _ refl
+
+pub returns-then-not-has_range-clause-chunks : goal.returns-then-not-has_range-clause-chunks
+returns-then-not-has_range-clause-chunks g c = idle_chunks _ _ refl
+
+pub returns-clause-chunks : goal.returns-clause-chunks
+returns-clause-chunks g c = filled_chunks _ _ _ _ _ _ _ c.fill.ensures.fetched

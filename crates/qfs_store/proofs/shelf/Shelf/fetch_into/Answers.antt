@@ -12,3 +12,6 @@ returns-clause-step g c =
     let back : c.from_vec.result ≡ c.fetch-answer.new.room = c.from_vec.ensures ∙ take_at c.fetch-answer.new.room _ _ size in
     subst (λ (t : List ℕ × List ℕ). IsStep (Ask.Fetch c.args.key c.args.life c.args.from t.0) (g.D.ChunkDevice.told c.args.device.now) c.args.self.now (record { answer = c.fetch-answer.result; room = t.1 }) (g.D.ChunkDevice.told c.fetch-answer.new.device) c.args.self.now)
     (λ i. (lent i, sym back i)) c.fetch-answer.ensures.step
+
+pub returns-clause-chunks : goal.returns-clause-chunks
+returns-clause-chunks g c = c.fetch-answer.ensures.chunks

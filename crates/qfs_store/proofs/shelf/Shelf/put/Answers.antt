@@ -1,10 +1,12 @@
 -- Refusals in their order, and then the attempt.
-use Rattle.std.proofs.Common.{◌≡◌, ap, subst, sym, ◌∙◌}
+use Rattle.std.proofs.Common.{ap, subst, sym, ◌∙◌}
 use Rattle.qfs_base.specs.Key.{key_cmp}
 use Rattle.qfs_base.specs.KeyMap.{has_key}
+use Rattle.qfs_base.specs.declared.reply.ChunkAnswer.TheVariants as Answer
 use Rattle.qfs_store.specs.Stands.{Known, IsAway}
 use Rattle.qfs_store.proofs.StepLaws.{quiet_is_no_fault}
 use Rattle.qfs_store.proofs.PutLaws.{put_away, put_held, put_attempt}
+use Rattle.qfs_store.proofs.ChunkLaws.{put_refused_chunks}
 use Rattle.qfs_store.proofs.shelf.Shelf.put.Goals as goal
 
 pub returns-in-Some-clause-step : goal.returns-in-Some-clause-step
@@ -23,3 +25,12 @@ returns-clause-step g c =
     put_attempt _ _ _ _ _ _ _ _ (subst (IsAway _ _ _) c.in_default.is c.away.ensures.refusal)
     (sym (ap (λ (s : Known). has_key key_cmp s.lengths c.args.key) c.self.view_is) ∙ sym c.contains.ensures ∙ c.if-contains.false)
     (c.store.ensures.step c.args.life)
+
+pub returns-in-Some-clause-chunks : goal.returns-in-Some-clause-chunks
+returns-in-Some-clause-chunks g c = put_refused_chunks c.args.key c.args.life c.args.bytes.now _ c.args.self.now _ c.in-Some.ensures.refuses
+
+pub returns-then-contains-clause-chunks : goal.returns-then-contains-clause-chunks
+returns-then-contains-clause-chunks g c = put_refused_chunks c.args.key c.args.life c.args.bytes.now _ c.args.self.now Answer.Held tt
+
+pub returns-clause-chunks : goal.returns-clause-chunks
+returns-clause-chunks g c = c.store.ensures.chunks c.args.life

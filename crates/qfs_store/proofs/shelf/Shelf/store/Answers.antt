@@ -1,8 +1,9 @@
 -- What the device's write leaves, by its answer.
-use Rattle.std.proofs.Common.{◌≡◌, List, ℕ, Err, ap, subst, ◌∙◌, arith}
+use Rattle.std.proofs.Common.{List, ℕ, Err, refl, ap, subst, ◌∙◌, arith}
 use Rattle.std.specs.Option.{option_map}
 use Rattle.qfs_device.specs.Held.{holding, Writes}
 use Rattle.qfs_store.proofs.PutLaws.{put_without_memory, put_stored, put_failed, is_chunk}
+use Rattle.qfs_store.proofs.ChunkLaws.{idle_chunks, put_stored_chunks, put_failed_chunks}
 use Rattle.qfs_store.proofs.shelf.Shelf.store.Goals as goal
 
 pub returns-in-Err-clause-step : goal.returns-in-Err-clause-step
@@ -18,6 +19,21 @@ returns-in-Ok-write-clause-step g c life =
 pub returns-clause-step : goal.returns-clause-step
 returns-clause-step g c life =
     let text = c.deref.ensures.value ∙ c.in-Ok.ensures.made in
-    rw (c.forget.ensures, c.in-Ok.ensures.known, c.failed.ensures)
+    rw (c.forget.ensures, c.in-Ok.ensures.known, c.failed.ensures.failure)
     (put_failed _ life c.args.bytes.now _ _ _ c.in-Err-write.error (omega arith) c.requires.absent
+    (subst (λ (bytes : List ℕ). Writes {T = Unit {0}} c.args.key bytes (g.D.ChunkDevice.told c.args.device.now) (g.D.ChunkDevice.told c.write.new.self) (Err c.in-Err-write.error)) text c.in-Err-write.ensures.written))
+
+pub returns-in-Err-clause-chunks : goal.returns-in-Err-clause-chunks
+returns-in-Err-clause-chunks g c life = idle_chunks _ _ refl
+
+pub returns-in-Ok-write-clause-chunks : goal.returns-in-Ok-write-clause-chunks
+returns-in-Ok-write-clause-chunks g c life =
+    let text = c.deref.ensures.value ∙ c.in-Ok.ensures.made in
+    put_stored_chunks c.args.key life c.args.bytes.now _ _ c.args.self.now (c.in-Ok-write.ensures.written ∙ ap (λ (bytes : List ℕ). option_map (holding c.args.key bytes) (g.D.ChunkDevice.told c.args.device.now)) text)
+
+pub returns-clause-chunks : goal.returns-clause-chunks
+returns-clause-chunks g c life =
+    let text = c.deref.ensures.value ∙ c.in-Ok.ensures.made in
+    rw c.failed.ensures.failure
+    (put_failed_chunks c.args.key life c.args.bytes.now _ _ c.args.self.now c.in-Err-write.error
     (subst (λ (bytes : List ℕ). Writes {T = Unit {0}} c.args.key bytes (g.D.ChunkDevice.told c.args.device.now) (g.D.ChunkDevice.told c.write.new.self) (Err c.in-Err-write.error)) text c.in-Err-write.ensures.written))

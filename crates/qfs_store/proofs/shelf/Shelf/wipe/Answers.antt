@@ -4,6 +4,7 @@ use Rattle.std.specs.List.Sorted.{IsStrictlySortedBy}
 use Rattle.qfs_device.specs.Held.{Held}
 use Rattle.qfs_store.proofs.StepLaws.{if_some_at}
 use Rattle.qfs_store.proofs.ServerLaws.{wipe_done, wipe_fault}
+use Rattle.qfs_store.proofs.ChunkLaws.{idle_chunks, wiped_chunks}
 use Rattle.qfs_store.proofs.shelf.Shelf.wipe.Goals as goal
 
 pub returns-in-Ok-clause-step : goal.returns-in-Ok-clause-step
@@ -17,3 +18,9 @@ returns-in-Err-clause-step g c = wipe_fault _ _ _ c.in-Err.ensures.emptied
 pub invariant_of-self : goal.invariant_of-self
 unfolding IsStrictlySortedBy
 invariant_of-self g c = rw c.clear.ensures tt
+
+pub returns-in-Ok-clause-chunks : goal.returns-in-Ok-clause-chunks
+returns-in-Ok-clause-chunks g c = wiped_chunks _ _ c.args.self.now c.life.result c.in-Ok.ensures.emptied
+
+pub returns-in-Err-clause-chunks : goal.returns-in-Err-clause-chunks
+returns-in-Err-clause-chunks g c = idle_chunks _ _ c.in-Err.ensures.emptied
