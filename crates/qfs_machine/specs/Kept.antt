@@ -1,8 +1,9 @@
 -- What is kept of the report of a command that has ended.
-use Rattle.std.specs.Prelude.{◌≡◌, ℕ, Bool, true, false, nat_le, List, length, ⊤}
+use Rattle.std.specs.Prelude.{◌≡◌, ℕ, ◌+◌, Bool, true, false, nat_le, List, [], ◌∷◌, length, ⊤}
 use Rattle.sha2.specs.Sha256.{sha256}
 use Rattle.qfs_base.specs.declared.command.Excerpt.{Excerpt}
 use Rattle.qfs_base.specs.declared.command.Reply.{Reply}
+use Rattle.qfs_base.specs.declared.command.ReplyLine.{ReplyLine}
 use Rattle.qfs_base.specs.declared.command.Shown.{Shown}
 use Rattle.qfs_base.specs.declared.command.Shown.TheVariants as Show
 use Rattle.qfs_model_actor.specs.Shown.{shown_reply}
@@ -29,3 +30,12 @@ kept_report report = shown_reply excerpt_of report
 abbrev pub Reports : Work → Reply Excerpt → Type 0
 Reports (ends report) reply = reply ≡ kept_report report
 Reports (asks request next) reply = ⊤
+
+-- the line of an actor's command of this number
+abbrev pub line_of : ℕ → ℕ → Report → ReplyLine
+line_of actor number report = record { actor = actor; command = number; reply = kept_report report }
+
+-- the reply lines of an actor's commands that have ended, of which the first is command k
+unfoldable pub lines_from : ℕ → ℕ → List Report → List ReplyLine
+lines_from actor k [] = []
+lines_from actor k (report ∷ reports) = line_of actor k report ∷ lines_from actor (k + 1) reports
