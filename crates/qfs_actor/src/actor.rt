@@ -5,7 +5,7 @@ ghost use Rattle.std.specs.Prelude.{◌≡◌, ◌<◌, ◌^◌, length, All, If
 ghost use Rattle.qfs_model_actor.specs.Actor.{request_of, node_of, after_reply};
 ghost use Rattle.qfs_machine.specs.Askable.{IsAskable};
 ghost use Rattle.qfs_machine.specs.Asking.{IsOut, after_asking};
-ghost use Rattle.qfs_machine.specs.Kept.{lines_from};
+ghost use Rattle.qfs_model_actor.specs.Shown.{lines_from};
 ghost use Rattle.qfs_machine.specs.declared.machine.Readiness.{Readiness};
 ghost use Rattle.qfs_actor.specs.Forms.{IsBuilt};
 ghost use Rattle.qfs_actor.specs.Standing.{at_start, CanAsk};

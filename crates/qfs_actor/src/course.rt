@@ -9,7 +9,7 @@ ghost use Rattle.qfs_model_actor.specs.Command.{work_of};
 ghost use Rattle.qfs_model_actor.specs.Work.{Report, ends, request_in};
 ghost use Rattle.qfs_machine.specs.Askable.{IsAskable};
 ghost use Rattle.qfs_machine.specs.Asking.{IsOut, MayAsk, after_asking};
-ghost use Rattle.qfs_machine.specs.Kept.{line_of};
+ghost use Rattle.qfs_model_actor.specs.Shown.{kept_report};
 ghost use Rattle.qfs_machine.specs.declared.machine.Readiness.{Readiness};
 ghost use Rattle.qfs_actor.specs.Course.{IsOf, readiness_in};
 ghost use Rattle.qfs_actor.specs.Doing.{rest_of, readiness_of};
@@ -147,7 +147,7 @@ impl Course {
         requires few { length self.old.replies.items + 1 + length (into_iter_items self.old.ahead) < 2 ^ 16 }
         requires built { All IsBuilt (into_iter_items self.old.ahead) }
         ensures post { self.new.post ≡ self.old.post }
-        ensures line { (report : Report) → rest_of doing ≡ ends report → self.new.replies.items ≡ self.old.replies.items ++ line_of self.old.post.number (length self.old.replies.items + 1) report ∷ [] }
+        ensures line { (report : Report) → rest_of doing ≡ ends report → self.new.replies.items ≡ self.old.replies.items ++ record { actor = self.old.post.number; command = length self.old.replies.items + 1; reply = kept_report report } ∷ [] }
         ensures rest { option_map rest_of self.new.doing ≡ option_map (λ command. work_of self.old.post.layout (length self.old.replies.items + 2) command) (slice_get (into_iter_items self.old.ahead) 0) }
         ensures asks { IfSome self.new.doing (λ doing. IsSome (request_in (rest_of doing))) }
         ensures ahead { into_iter_items self.new.ahead ≡ drop 1 (into_iter_items self.old.ahead) }
