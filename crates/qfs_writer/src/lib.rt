@@ -1,0 +1,9 @@
+//! A put: it makes a file, stores each slot of each block on a server, and closes the file.
+#![tactic(auto)]
+
+mod chunk;
+mod request;
+mod stage;
+mod turn;
+
+pub use chunk::chunk_of;
