@@ -7,14 +7,16 @@ use Rattle.qfs_base.specs.declared.reply.ChunkAnswer.TheVariants as Did
 use Rattle.qfs_base.specs.declared.reply.Granted.{Granted}
 use Rattle.qfs_base.specs.declared.reply.MetaReply.{MetaReply}
 use Rattle.qfs_base.specs.declared.reply.MetaReply.TheVariants as Said
+use Rattle.qfs_base.specs.declared.request.ChunkRequest.TheVariants as Serve
 use Rattle.qfs_base.specs.declared.request.MetaRequest.TheVariants as Ask
 use Rattle.qfs_base.specs.declared.request.NodeRequest.TheVariants as To
-use Rattle.qfs_model_actor.specs.Ask.{ask, on_served, after_store}
+use Rattle.qfs_model_actor.specs.Ask.{ask, ask_server, key_of, on_served, after_store}
 use Rattle.qfs_model_actor.specs.Grants.{is_grant_of, if_meant, with_grant_of}
 use Rattle.qfs_model_actor.specs.Hold.{ask_or, unnamed}
 use Rattle.qfs_model_actor.specs.Put.{created, chosen, ask_grant, store, store_slot, store_slots, store_blocks, close_file, put_blocks_from, put_slots_from}
 use Rattle.qfs_model_actor.specs.Tree.{refused}
 use Rattle.qfs_model_actor.specs.Work.{Work, for_each, request_in}
+use Rattle.qfs_model_slot.specs.Slot.{slot_of}
 use Rattle.qfs_writer.specs.declared.stage.Put.{Put}
 use Rattle.qfs_writer.specs.declared.stage.PutSlot.{PutSlot}
 use Rattle.qfs_writer.specs.declared.stage.Stage.TheVariants as At
@@ -66,6 +68,14 @@ pub grant-asks : (put : Put) (at : PutSlot)
     → request_in (rest_at put (At.Granting at)) ≡ Some (To.Meta (Ask.Grant at.file at.index at.slot at.again))
 unfolding rest_at ask_grant ask ask_or request_in
 grant-asks put at = rw (rest_of_grant-asks put at at.grants at.again) refl
+
+pub store-asks : (put : Put) (at : PutSlot) (copy : Copy)
+    → request_in (rest_at put (At.Storing at copy))
+    ≡ Some (To.Chunk copy.server
+    (Serve.Put (key_of (record { file = at.file; index = at.index }) at.slot copy.version) copy.life
+    (slot_of put.layout (bytes_put put) at.index at.slot)))
+unfolding rest_at store ask_server request_in grant_of
+store-asks put at copy = refl
 
 -- the copy of a grant
 abbrev copy_of : Granted → Copy
