@@ -1,3 +1,4 @@
 pub mod Stripes
 pub mod Puts
 pub mod Turns
+pub mod Nodes

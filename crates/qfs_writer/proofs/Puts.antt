@@ -1,5 +1,5 @@
 -- What is left of a put at the stages between two answers.
-use Rattle.std.proofs.Common.{inl, inr, ◌≡◌, refl, arith, ℕ, zero, suc, ◌+◌, ◌-◌, ◌<◌, ◌≤◌, Bool, true, false, List, length, ◌⊎◌, Some}
+use Rattle.std.proofs.Common.{inl, inr, ◌≡◌, refl, arith, ℕ, zero, suc, ◌+◌, ◌-◌, ◌<◌, ◌≤◌, Bool, true, false, length, ◌⊎◌, Some}
 use Rattle.qfs_base.specs.Layout.{blocks_of}
 use Rattle.qfs_base.specs.declared.chunk.Copy.{Copy}
 use Rattle.qfs_base.specs.declared.reply.ChunkAnswer.{ChunkAnswer}
@@ -32,7 +32,7 @@ pub put_blocks_from-more : (put : Put) (file index : ℕ) → index < blocks_of 
 unfolding rest_at rest_of_grant behind put_slots_from put_blocks_from store_slots store_blocks for_each
 put_blocks_from-more put file index more =
     let some : blocks_of put.layout.s put.layout.r (length (bytes_put put)) - index
-      ≡ suc (blocks_of put.layout.s put.layout.r (length (bytes_put put)) - (index + 1)) = omega arith in
+    ≡ suc (blocks_of put.layout.s put.layout.r (length (bytes_put put)) - (index + 1)) = omega arith in
     rw some refl
 
 pub put_blocks_from-end : (put : Put) (file index : ℕ) → blocks_of put.layout.s put.layout.r (length (bytes_put put)) ≤ index

@@ -1,5 +1,5 @@
 -- What becomes of a node's reply at each stage of a put.
-use Rattle.std.proofs.Common.{◌≡◌, refl, ℕ}
+use Rattle.std.proofs.Common.{◌≡◌, refl}
 use Rattle.qfs_base.specs.declared.chunk.Copy.{Copy}
 use Rattle.qfs_base.specs.declared.reply.ChunkReply.{ChunkReply}
 use Rattle.qfs_base.specs.declared.reply.MetaReply.{MetaReply}

@@ -1,5 +1,5 @@
 -- What is left of a put at each of its stages.
-use Rattle.std.specs.Prelude.{ℕ, ◌+◌, ◌<◌, ◌≤◌, Bool, true, List, [], length, ⊤}
+use Rattle.std.specs.Prelude.{ℕ, ◌+◌, ◌<◌, Bool, true, List, [], length, ⊤}
 use Rattle.qfs_base.specs.Layout.{blocks_of}
 use Rattle.qfs_base.specs.Recipe.{bytes_of}
 use Rattle.qfs_base.specs.declared.chunk.Copy.{Copy}

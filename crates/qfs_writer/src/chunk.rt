@@ -78,14 +78,7 @@ fn add_data(
 }
 
 /// Fills `out` with the stripes of a data slot in the first `rows` rows of block `index`.
-fn fill_stripes(
-    layout: &Layout,
-    recipe: &Recipe,
-    index: u32,
-    slot: Slot,
-    rows: u32,
-    out: &mut [u8],
-)
+fn fill_stripes(layout: &Layout, recipe: &Recipe, index: u32, slot: Slot, rows: u32, out: &mut [u8])
     requires slot { slot < 6 }
     requires len { length out.old ≡ rows * layout.now.s }
     ensures { EachIndex out.new (λ a. slice_index out.new a ≡ data_byte layout.now (bytes_of recipe.now) index slot a) }

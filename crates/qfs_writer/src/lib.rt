@@ -5,5 +5,7 @@ mod chunk;
 mod request;
 mod stage;
 mod turn;
+mod writer;
 
 pub use chunk::chunk_of;
+pub use writer::Writer;

@@ -64,13 +64,25 @@ pub enum Fault {
 #[derive(Clone, Copy)]
 pub enum Ending {
     /// The file was closed, and has `len` bytes.
-    Stored { place: Place, len: u32 },
+    Stored {
+        place: Place,
+        len: u32,
+    },
     /// There was no server for a slot, and the file was given up.
-    NoServer { place: Place, index: u32, slot: Slot },
+    NoServer {
+        place: Place,
+        index: u32,
+        slot: Slot,
+    },
     /// The name tree refused the file.
-    Refused { place: Place, refusal: TreeRefusal },
+    Refused {
+        place: Place,
+        refusal: TreeRefusal,
+    },
     /// The actor had been dropped at this turn.
-    Dropped { turn: Turn },
+    Dropped {
+        turn: Turn,
+    },
     Fault(Fault),
     /// A node answered something that its request doesn't allow.
     Unnamed,

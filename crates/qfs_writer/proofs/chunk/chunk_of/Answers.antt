@@ -1,6 +1,5 @@
 use Rattle.std.proofs.Common.{◌≡◌, ◌∙◌, ◌*◌, ap, length, arith, rules}
 use Rattle.std.proofs.lemmas.Grind.{common_steps}
-use Rattle.qfs_base.specs.Layout.{rows_of}
 use Rattle.qfs_base.specs.Recipe.{bytes_of}
 use Rattle.qfs_base.specs.Shape.{Shape}
 use Rattle.qfs_writer.proofs.Stripes.{data_byte-slot, parity-slot, slot_of-each}
