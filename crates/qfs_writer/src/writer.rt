@@ -2,7 +2,7 @@
 
 ghost use Rattle.std.specs.Prelude.{◌≡◌, None};
 ghost use Rattle.qfs_base.specs.Recipe.{bytes_of};
-ghost use Rattle.qfs_machine.specs.Kept.{kept_report};
+ghost use Rattle.qfs_model_actor.specs.Shown.{kept_report};
 ghost use Rattle.qfs_machine.specs.declared.machine.Readiness.{Readiness};
 ghost use Rattle.qfs_model_actor.specs.Put.{put_work};
 ghost use Rattle.qfs_model_actor.specs.Work.{ends, request_in};
