@@ -7,14 +7,14 @@ ghost use Rattle.qfs_model_actor.specs.Command.{work_of, file_work};
 ghost use Rattle.qfs_actor.specs.Forms.{IsBuilt, IsBuiltFile};
 ghost use Rattle.qfs_actor.specs.Doing.{rest_of, readiness_of};
 
-use crate::standin::{Reader, Writer};
+use crate::standin::Reader;
 use qfs_base::command::{Command, Excerpt, FileCommand, Reply};
 use qfs_base::numbers::NodeId;
-use qfs_base::recipe::Form;
 use qfs_base::reply::NodeReply;
 use qfs_base::request::NodeRequest;
 use qfs_machine::Machine;
 use qfs_stripe::Layout;
+use qfs_writer::Writer;
 use std::alloc::{AllocError, Global};
 
 /// A command at work.
@@ -45,10 +45,9 @@ fn begin_file(alloc: Global, layout: Layout, number: u16, command: FileCommand) 
     ensures unready { readiness_of result ≡ Readiness.Unready }
 {
     match command {
-        FileCommand::Put(path, recipe) => match recipe.form {
-            Form::Hex(bytes) => Doing::Put(Writer::new(alloc, layout, number, path, bytes)),
-            _ => unreachable!(),
-        },
+        FileCommand::Put(path, recipe) => {
+            Doing::Put(Writer::new(alloc, layout, number, path, recipe))
+        }
         FileCommand::Get(path, range) => Doing::Get(Reader::new(alloc, layout, path, range)),
         _ => unreachable!(),
     }

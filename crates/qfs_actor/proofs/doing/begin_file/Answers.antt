@@ -2,9 +2,9 @@ use Rattle.qfs_model_actor.specs.Command.{file_work}
 use Rattle.qfs_actor.specs.Doing.{rest_of}
 use Rattle.qfs_actor.proofs.doing.begin_file.Goals as goal
 
-pub returns-in-Hex-clause-rest : goal.returns-in-Hex-clause-rest
+pub returns-in-Put-clause-rest : goal.returns-in-Put-clause-rest
 unfolding rest_of file_work
-returns-in-Hex-clause-rest c = rw (c.in-Put.is, ← c.recipe.view_is, c.in-Hex.is) (rw c.in-Hex.bytes-is at c.new.ensures.rest)
+returns-in-Put-clause-rest c = rw c.in-Put.is c.new.ensures.rest
 
 pub returns-in-Get-clause-rest : goal.returns-in-Get-clause-rest
 unfolding rest_of file_work
