@@ -7,10 +7,9 @@ use Rattle.qfs_base.specs.declared.command.FileCommand.TheVariants as File
 
 abbrev pub IsBuiltFile : FileCommand → Type 0
 IsBuiltFile (File.Put path recipe) = ⊤
-IsBuiltFile (File.Get path range) = ⊤
 IsBuiltFile command = ⊥
 
--- a put or a get
+-- a put
 abbrev pub IsBuilt : Command → Type 0
 IsBuilt (Does.File command) = IsBuiltFile command
 IsBuilt command = ⊥

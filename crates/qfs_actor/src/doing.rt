@@ -7,7 +7,6 @@ ghost use Rattle.qfs_model_actor.specs.Command.{work_of, file_work};
 ghost use Rattle.qfs_actor.specs.Forms.{IsBuilt, IsBuiltFile};
 ghost use Rattle.qfs_actor.specs.Doing.{rest_of, readiness_of};
 
-use crate::standin::Reader;
 use qfs_base::command::{Command, Excerpt, FileCommand, Reply};
 use qfs_base::numbers::NodeId;
 use qfs_base::reply::NodeReply;
@@ -21,7 +20,6 @@ use std::alloc::{AllocError, Global};
 #[derive(Drop)]
 pub enum Doing {
     Put(Writer),
-    Get(Reader),
 }
 
 impl Doing {
@@ -48,7 +46,6 @@ fn begin_file(alloc: Global, layout: Layout, number: u16, command: FileCommand) 
         FileCommand::Put(path, recipe) => {
             Doing::Put(Writer::new(alloc, layout, number, path, recipe))
         }
-        FileCommand::Get(path, range) => Doing::Get(Reader::new(alloc, layout, path, range)),
         _ => unreachable!(),
     }
 }
@@ -61,35 +58,30 @@ impl Machine for Doing {
     fn ready(&mut self) -> Result<(), AllocError> {
         match self {
             Doing::Put(writer) => writer.ready(),
-            Doing::Get(reader) => reader.ready(),
         }
     }
 
     fn goes_to(&self) -> Option<NodeId> {
         match self {
             Doing::Put(writer) => writer.goes_to(),
-            Doing::Get(reader) => reader.goes_to(),
         }
     }
 
     fn next(&mut self) -> Option<NodeRequest> {
         match self {
             Doing::Put(writer) => writer.next(),
-            Doing::Get(reader) => reader.next(),
         }
     }
 
     fn took(&mut self, reply: NodeReply) {
         match self {
             Doing::Put(writer) => writer.took(reply),
-            Doing::Get(reader) => reader.took(reply),
         }
     }
 
     fn into_reply(self) -> Reply<Excerpt> {
         match self {
             Doing::Put(writer) => writer.into_reply(),
-            Doing::Get(reader) => reader.into_reply(),
         }
     }
 }
