@@ -4,6 +4,8 @@
 mod chunk;
 mod request;
 mod stage;
+#[cfg(test)]
+mod tests;
 mod turn;
 mod writer;
 
