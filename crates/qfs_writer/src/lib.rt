@@ -9,5 +9,4 @@ mod tests;
 mod turn;
 mod writer;
 
-pub use chunk::chunk_of;
 pub use writer::Writer;
