@@ -1,4 +1,4 @@
-use Rattle.std.proofs.Common.{◌≡◌, ℕ, ◌*◌, ◌<◌, get_or, length}
+use Rattle.std.proofs.Common.{◌≡◌, ℕ, ◌*◌, ◌<◌, get_or}
 use Rattle.qfs_base.specs.Recipe.{bytes_of}
 use Rattle.qfs_model_slot.specs.CodeWord.{parity}
 use Rattle.qfs_model_slot.specs.Slot.{data_bytes}
