@@ -13,6 +13,7 @@ use Rattle.qfs_base.specs.Layout.{rows_of}
 use Rattle.qfs_galois.specs.Field.{product, power}
 use Rattle.qfs_model_slot.specs.CodeWord.{weighted_sum, parity}
 use Rattle.qfs_model_slot.specs.Slot.{data_byte, data_bytes, byte_of_kind, slot_byte, slot_of}
+use Rattle.qfs_writer.specs.Row.{row_bytes_at}
 
 -- a list is told by a function where each of its items is
 pub told_by : (f : ℕ → ℕ) (n : ℕ) (xs : List ℕ) → length xs ≡ n → ((k : ℕ) → k < length xs → get_or xs k 0 ≡ f k) → xs ≡ map f (range_with_len 0 n)
@@ -60,31 +61,51 @@ unfolding weighted_sum
 weighted_sum-next e i ds old inside h =
     rw (drop_more ds i 0 inside) (xor_comm old _ ∙ ap (bit_xor (product (power 2 (e * i)) (get_or ds i 0))) h)
 
-pub length-data_bytes : (layout : Shape) (bytes : List ℕ) (k a : ℕ) → length (data_bytes layout bytes k a) ≡ 6
-unfolding data_bytes
-length-data_bytes layout bytes k a = refl
+length-row_bytes_at : (bytes : List ℕ) (from s i : ℕ) → length (row_bytes_at bytes from s i) ≡ 6
+unfolding row_bytes_at
+length-row_bytes_at bytes from s i = refl
 
-pub get_or-data_bytes : (layout : Shape) (bytes : List ℕ) (k a j : ℕ) → j < 6 → get_or (data_bytes layout bytes k a) j 0 ≡ data_byte layout bytes k j a
-unfolding data_bytes
-get_or-data_bytes layout bytes k a j inside =
-    get_or-map-range_with_len (λ j. data_byte layout bytes k j a) 0 6 j j 0 inside (omega arith)
+get_or-row_bytes_at : (bytes : List ℕ) (from s i j : ℕ) → j < 6
+    → get_or (row_bytes_at bytes from s i) j 0 ≡ get_or bytes (from + j * s + i) 0
+unfolding row_bytes_at
+get_or-row_bytes_at bytes from s i j inside =
+    get_or-map-range_with_len (λ j. get_or bytes (from + j * s + i) 0) 0 6 j j 0 inside (omega arith)
 
--- the same of the bytes of the data slots, for a weight and a byte that are told by equations
-pub next_weight : (layout : Shape) (bytes : List ℕ) (k a e j old weight part : ℕ) → j < 6
-    → old ≡ weighted_sum e (j + 1) (drop (j + 1) (data_bytes layout bytes k a)) → weight ≡ power 2 (e * j) → part ≡ data_byte layout bytes k j a
-    → bit_xor old (product weight part) ≡ weighted_sum e j (drop j (data_bytes layout bytes k a))
-next_weight layout bytes k a e j old weight part inside sum w p =
-    let byte : part ≡ get_or (data_bytes layout bytes k a) j 0 = p ∙ sym (get_or-data_bytes layout bytes k a j inside) in
-    let scaled : product weight part ≡ product (power 2 (e * j)) (get_or (data_bytes layout bytes k a) j 0) = cc in
-    ap (bit_xor old) scaled ∙ weighted_sum-next e j (data_bytes layout bytes k a) old (rw (length-data_bytes layout bytes k a) inside) sum
+-- the same of the bytes of a row, for a weight and a byte that are told by equations
+pub next_weight : (bytes : List ℕ) (from s i e j old weight part : ℕ) → j < 6
+    → old ≡ weighted_sum e (j + 1) (drop (j + 1) (row_bytes_at bytes from s i)) → weight ≡ power 2 (e * j)
+    → part ≡ get_or bytes (from + j * s + i) 0
+    → bit_xor old (product weight part) ≡ weighted_sum e j (drop j (row_bytes_at bytes from s i))
+next_weight bytes from s i e j old weight part inside sum w p =
+    let byte : part ≡ get_or (row_bytes_at bytes from s i) j 0 = p ∙ sym (get_or-row_bytes_at bytes from s i j inside) in
+    let scaled : product weight part ≡ product (power 2 (e * j)) (get_or (row_bytes_at bytes from s i) j 0) = cc in
+    ap (bit_xor old) scaled ∙ weighted_sum-next e j (row_bytes_at bytes from s i) old (rw (length-row_bytes_at bytes from s i) inside) sum
 
-pub no_slots-sum : (e : ℕ) (layout : Shape) (bytes : List ℕ) (k a : ℕ) → weighted_sum e 6 (drop 6 (data_bytes layout bytes k a)) ≡ 0
-unfolding weighted_sum data_bytes
-no_slots-sum e layout bytes k a = refl
+pub no_slots-sum : (e : ℕ) (bytes : List ℕ) (from s i : ℕ) → weighted_sum e 6 (drop 6 (row_bytes_at bytes from s i)) ≡ 0
+unfolding weighted_sum row_bytes_at
+no_slots-sum e bytes from s i = refl
 
 pub all_slots-sum : (e : ℕ) (ds : List ℕ) → weighted_sum e 0 (drop 0 ds) ≡ parity e ds
 unfolding parity
 all_slots-sum e ds = refl
+
+-- the bytes of a row are those of the data slots at its place in their chunks
+row_bytes_at-place : (layout : Shape) (bytes : List ℕ) (k row i : ℕ) → i < layout.s
+    → row_bytes_at bytes (k * (6 * layout.s * layout.r) + row * (6 * layout.s)) layout.s i ≡ data_bytes layout bytes k (row * layout.s + i)
+unfolding row_bytes_at data_bytes data_byte
+row_bytes_at-place layout bytes k row i inside =
+    rw (div-mul-add row layout.s i inside, mod-mul-add row layout.s i inside) refl
+
+-- the parity of one more row stands
+pub next_parity : (layout : Shape) (bytes xs ys : List ℕ) (k e row n : ℕ) → n ≡ layout.s → row * layout.s + layout.s ≤ length xs → length ys ≡ layout.s
+    → ((a : ℕ) → a < row * layout.s → get_or xs a 0 ≡ parity e (data_bytes layout bytes k a))
+    → ((i : ℕ) → i < length ys → get_or ys i 0 ≡ parity e (row_bytes_at bytes (k * (6 * layout.s * layout.r) + row * (6 * layout.s)) n i))
+    → (a : ℕ) → a < (row + 1) * layout.s
+    → get_or (put_mid (row * layout.s) (row * layout.s + layout.s - row * layout.s) xs ys) a 0 ≡ parity e (data_bytes layout bytes k a)
+next_parity layout bytes xs ys k e row n is inside long before here a below =
+    next_part (λ a. parity e (data_bytes layout bytes k a)) xs ys (row * layout.s) _ layout.s (omega arith) inside long before
+    (λ i l. let short : i < layout.s = omega arith in here i l ∙ ap (parity e) (rw is (row_bytes_at-place layout bytes k row i short)))
+    a (grind arith)
 
 -- the bytes of data slots and of parity slots are those of a slot
 pub data_byte-slot : (layout : Shape) (bytes : List ℕ) (k j a : ℕ) → j < 6 → data_byte layout bytes k j a ≡ slot_byte layout bytes k j a

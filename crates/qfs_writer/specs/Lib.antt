@@ -1,3 +1,4 @@
+pub mod Row
 pub mod Rest
 pub mod Moves
 pub mod Standing

@@ -1,10 +1,11 @@
 //! The chunks of a file: what a put stores in each slot of each block.
 
-ghost use Rattle.std.specs.Prelude.{◌≡◌, ℕ, ◌+◌, ◌-◌, ◌*◌, ◌<◌, ◌≤◌, length, slice_index, EachIndex, IfOk};
+ghost use Rattle.std.specs.Prelude.{◌≡◌, ℕ, ◌+◌, ◌-◌, ◌*◌, ◌^◌, ◌<◌, ◌≤◌, length, slice_index, EachIndex, IfOk};
 ghost use Rattle.qfs_base.specs.Layout.{blocks_of};
 ghost use Rattle.qfs_base.specs.Recipe.{bytes_of};
 ghost use Rattle.qfs_model_slot.specs.CodeWord.{parity};
 ghost use Rattle.qfs_model_slot.specs.Slot.{data_byte, data_bytes, slot_of};
+ghost use Rattle.qfs_writer.specs.Row.{row_bytes_at};
 
 use qfs_base::listing::Listing;
 use qfs_base::lists::Bytes;
@@ -33,13 +34,13 @@ pub fn chunk_of(
     ensures bound { IfOk result (λ chunk. length chunk ≤ 67108864) }
 {
     let rows = layout.rows_of(recipe.len(), index);
-    let len = rows as usize * layout.s as usize;
-    let mut chunk = vec![in alloc; 0; len]?;
+    let stripe = layout.s as usize;
+    let mut chunk = vec![in alloc; 0; rows as usize * stripe]?;
     if slot < DATA_SLOTS {
-        fill_stripes(layout, recipe, index, slot, rows, chunk.as_mut_slice());
+        fill_data(layout, recipe, index, slot, rows, chunk.as_mut_slice());
     } else {
-        let mut part = vec![in alloc; 0; len]?;
-        add_data(
+        let mut part = vec![in alloc; 0; stripe]?;
+        fill_parity(
             layout,
             recipe,
             index,
@@ -52,33 +53,8 @@ pub fn chunk_of(
     Ok(Listing::from_vec(chunk))
 }
 
-/// Adds up the six data slots of the first `rows` rows of block `index`, each with its weight in the
-/// parity slot of this number. `part` is room for one of them.
-fn add_data(
-    layout: &Layout,
-    recipe: &Recipe,
-    index: u32,
-    number: u8,
-    rows: u32,
-    part: &mut [u8],
-    sums: &mut [u8],
-)
-    requires part_len { length part.old ≡ rows * layout.now.s }
-    requires sums_len { length sums.old ≡ rows * layout.now.s }
-    requires zeros { (a : ℕ) → slice_index sums.old a ≡ 0 }
-    ensures { EachIndex sums.new (λ a. slice_index sums.new a ≡ parity number (data_bytes layout.now (bytes_of recipe.now) index a)) }
-{
-    let mut slot = DATA_SLOTS;
-    while slot > 0 {
-        slot -= 1;
-        fill_stripes(layout, recipe, index, slot, rows, part);
-        let weight = pow2(u32::from(number) * u32::from(slot));
-        add_scaled(sums, part, weight);
-    }
-}
-
 /// Fills `out` with the stripes of a data slot in the first `rows` rows of block `index`.
-fn fill_stripes(layout: &Layout, recipe: &Recipe, index: u32, slot: Slot, rows: u32, out: &mut [u8])
+fn fill_data(layout: &Layout, recipe: &Recipe, index: u32, slot: Slot, rows: u32, out: &mut [u8])
     requires slot { slot < 6 }
     requires len { length out.old ≡ rows * layout.now.s }
     ensures { EachIndex out.new (λ a. slice_index out.new a ≡ data_byte layout.now (bytes_of recipe.now) index slot a) }
@@ -90,6 +66,49 @@ fn fill_stripes(layout: &Layout, recipe: &Recipe, index: u32, slot: Slot, rows: 
     for row in 0..rows as usize {
         let at = row * stripe;
         fill_from(recipe, first + row * row_bytes, &mut out[at..at + stripe]);
+    }
+}
+
+/// Fills `out` with the bytes that complete the code words of the first `rows` rows of block
+/// `index`, in the parity slot of this number, from 0. `part` is room for a stripe.
+fn fill_parity(
+    layout: &Layout,
+    recipe: &Recipe,
+    index: u32,
+    number: u8,
+    rows: u32,
+    part: &mut [u8],
+    out: &mut [u8],
+)
+    requires part { length part.old ≡ layout.now.s }
+    requires len { length out.old ≡ rows * layout.now.s }
+    ensures { EachIndex out.new (λ a. slice_index out.new a ≡ parity number (data_bytes layout.now (bytes_of recipe.now) index a)) }
+{
+    let stripe = layout.s as usize;
+    let row_bytes = 6 * stripe;
+    let first = index as usize * (row_bytes * layout.r as usize);
+    for row in 0..rows as usize {
+        let at = row * stripe;
+        let from = first + row * row_bytes;
+        add_row(recipe, from, number, part, &mut out[at..at + stripe]);
+    }
+}
+
+/// Fills `sums` with the bytes that complete the code words of a row, in the parity slot of this
+/// number. The row's six stripes stand in the file from byte `from` on; `part` is room for one.
+fn add_row(recipe: &Recipe, from: usize, number: u8, part: &mut [u8], sums: &mut [u8])
+    requires part { length part.old ≡ length sums.old }
+    requires from { from + 6 * length part.old < 2 ^ 64 }
+    ensures { EachIndex sums.new (λ i. slice_index sums.new i ≡ parity number (row_bytes_at (bytes_of recipe.now) from (length part.old) i)) }
+{
+    sums.fill(0);
+    let stripe = part.len();
+    let mut slot = DATA_SLOTS;
+    while slot > 0 {
+        slot -= 1;
+        fill_from(recipe, from + slot as usize * stripe, part);
+        let weight = pow2(u32::from(number) * u32::from(slot));
+        add_scaled(sums, part, weight);
     }
 }
 

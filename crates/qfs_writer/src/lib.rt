@@ -4,8 +4,9 @@
 mod chunk;
 mod request;
 mod stage;
+#[cfg(test)]
+mod tests;
 mod turn;
 mod writer;
 
-pub use chunk::chunk_of;
 pub use writer::Writer;

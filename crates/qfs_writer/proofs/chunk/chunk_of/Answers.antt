@@ -14,15 +14,15 @@ returns-clause-value c =
     c.from_vec.ensures
     ∙ elim c.if-slot-lt-DATA_SLOTS.branch [
       | then-slot-lt-DATA_SLOTS w ↦
-          let long : length w.fill_stripes.new.out ≡ c.rows_of-rows.result * c.args.layout.now.s = first_of (omega arith, grind (arith, common_steps)) in
-          let same : c.if-slot-lt-DATA_SLOTS.chunk.items ≡ w.fill_stripes.new.out = rw w.chunk-is (first_of (search (rules, common_steps), grind (arith, common_steps))) in
+          let long : length w.fill_data.new.out ≡ c.rows_of-rows.result * c.args.layout.now.s = first_of (omega arith, grind (arith, common_steps)) in
+          let same : c.if-slot-lt-DATA_SLOTS.chunk.items ≡ w.fill_data.new.out = rw w.chunk-is (first_of (search (rules, common_steps), grind (arith, common_steps))) in
           rw same
-          (slot_of-each c.args.layout.now (bytes_of c.args.recipe.now) w.fill_stripes.new.out c.args.index c.args.slot c.rows_of-rows.result rows long
-          (λ a inside. w.fill_stripes.ensures a inside ∙ data_byte-slot c.args.layout.now (bytes_of c.args.recipe.now) c.args.index c.args.slot a w.if-slot-lt-DATA_SLOTS.true))
+          (slot_of-each c.args.layout.now (bytes_of c.args.recipe.now) w.fill_data.new.out c.args.index c.args.slot c.rows_of-rows.result rows long
+          (λ a inside. w.fill_data.ensures a inside ∙ data_byte-slot c.args.layout.now (bytes_of c.args.recipe.now) c.args.index c.args.slot a w.if-slot-lt-DATA_SLOTS.true))
       | else-slot-lt-DATA_SLOTS+in_ok-part w ↦
-          let long : length w.add_data.new.sums ≡ c.rows_of-rows.result * c.args.layout.now.s = first_of (omega arith, grind (arith, common_steps)) in
-          let same : c.if-slot-lt-DATA_SLOTS.chunk.items ≡ w.add_data.new.sums = rw w.chunk-is (first_of (search (rules, common_steps), grind (arith, common_steps))) in
+          let long : length w.fill_parity.new.out ≡ c.rows_of-rows.result * c.args.layout.now.s = first_of (omega arith, grind (arith, common_steps)) in
+          let same : c.if-slot-lt-DATA_SLOTS.chunk.items ≡ w.fill_parity.new.out = rw w.chunk-is (first_of (search (rules, common_steps), grind (arith, common_steps))) in
           rw same
-          (slot_of-each c.args.layout.now (bytes_of c.args.recipe.now) w.add_data.new.sums c.args.index c.args.slot c.rows_of-rows.result rows long
-          (λ a inside. w.add_data.ensures a inside ∙ parity-slot c.args.layout.now (bytes_of c.args.recipe.now) c.args.index c.args.slot a w.if-slot-lt-DATA_SLOTS.false))
+          (slot_of-each c.args.layout.now (bytes_of c.args.recipe.now) w.fill_parity.new.out c.args.index c.args.slot c.rows_of-rows.result rows long
+          (λ a inside. w.fill_parity.ensures a inside ∙ parity-slot c.args.layout.now (bytes_of c.args.recipe.now) c.args.index c.args.slot a w.if-slot-lt-DATA_SLOTS.false))
     ]

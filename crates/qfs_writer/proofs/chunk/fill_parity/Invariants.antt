@@ -1,0 +1,10 @@
+use Rattle.std.proofs.Common.{◌≡◌, ℕ, ◌*◌, ◌<◌, get_or}
+use Rattle.qfs_base.specs.Recipe.{bytes_of}
+use Rattle.qfs_model_slot.specs.CodeWord.{parity}
+use Rattle.qfs_model_slot.specs.Slot.{data_bytes}
+use Rattle.qfs_writer.proofs.chunk.fill_parity.Given as goal
+
+-- the rows that the loop has come to stand as they should
+abbrev pub invariant-loop-row : goal.invariant-loop-row
+invariant-loop-row l =
+    (a : ℕ) → a < l.row * l.layout.s → get_or l.out a 0 ≡ parity l.number (data_bytes l.layout (bytes_of l.recipe) l.index a)
