@@ -1,13 +1,15 @@
-//! How fast the code of a block is: `qfs_bench_code measure` prints megabytes of data per second.
+//! How fast the code of a block and the bytes of recipes are: `qfs_bench_code measure` prints megabytes of data per
+//! second.
 //!
 //! A slot has 64 KiB here. Encoding takes the six data slots of a block, and restoring gives slots 0, 1 and 2 of a block
-//! back from the other six; both count the six data slots of each block.
+//! back from the other six; both count the six data slots of each block. Filling writes as many bytes, a slot at a time.
 #![tactic(auto)]
 
 ghost use Rattle.std.specs.Prelude.{◌≡◌, ◌*◌, length, vec_len, IfOk};
 
 use qfs_base::mask::Mask;
 use qfs_code::{encode, restore};
+use qfs_recipe::{Form, Recipe, RecipeCalls};
 use std::rt::Runtime;
 use std::time::{Duration, Instant};
 use std::{env, io};
@@ -16,10 +18,10 @@ use std::{env, io};
 const SIZE: usize = 65_536;
 
 /// How many blocks are encoded and restored.
-const BLOCKS: u64 = 400;
+const BLOCKS: u32 = 400;
 
 /// The data bytes of all these blocks.
-const DATA: u64 = BLOCKS * 6 * 65_536;
+const DATA: u32 = BLOCKS * 6 * 65_536;
 
 fn main(rt: HostRuntime) -> io::Result<()> {
     let mut words = env::args(&rt)?;
@@ -30,7 +32,7 @@ fn main(rt: HostRuntime) -> io::Result<()> {
     }
 }
 
-/// Prints both rates.
+/// Prints all rates.
 fn measure<R: Runtime>(rt: &R) -> io::Result<()> {
     let mut nine = buffer(rt, 9 * SIZE)?;
     let mut out = buffer(rt, SIZE)?;
@@ -40,6 +42,23 @@ fn measure<R: Runtime>(rt: &R) -> io::Result<()> {
         "encode {} MB/s, restore three {} MB/s",
         rate(encoding),
         rate(restoring)
+    )?;
+
+    let drawn = Recipe {
+        form: Form::Pattern {
+            start: 1,
+            len: DATA,
+        },
+    };
+    let same = Recipe {
+        form: Form::Fill { byte: 7, len: DATA },
+    };
+    let filling_pattern = time_filling(rt, &drawn, out.as_mut_slice())?;
+    let filling = time_filling(rt, &same, out.as_mut_slice())?;
+    println!(rt;
+        "fill pattern {} MB/s, fill one byte {} MB/s",
+        rate(filling_pattern),
+        rate(filling)
     )
 }
 
@@ -80,11 +99,27 @@ fn time_restoring<R: Runtime>(rt: &R, nine: &[u8], out: &mut [u8]) -> io::Result
     start.elapsed(rt)
 }
 
+/// How long a recipe's bytes take to write, a slot at a time.
+fn time_filling<R: Runtime>(rt: &R, recipe: &Recipe, out: &mut [u8]) -> io::Result<Duration>
+    requires { length out.old ≡ 65536 }
+{
+    let slots = recipe.len() / 65_536;
+    let start = Instant::now(rt)?;
+    for slot in 0..slots {
+        recipe.fill(slot * 65_536, out);
+    }
+    start.elapsed(rt)
+}
+
 /// Megabytes of data per second.
 fn rate(elapsed: Duration) -> u64 {
     let micros = elapsed
         .as_secs()
         .saturating_mul(1_000_000)
         .saturating_add(u64::from(elapsed.subsec_micros()));
-    if micros == 0 { 0 } else { DATA / micros }
+    if micros == 0 {
+        0
+    } else {
+        u64::from(DATA) / micros
+    }
 }

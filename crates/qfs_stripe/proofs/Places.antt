@@ -1,9 +1,23 @@
 -- A byte's place gives its offset back, and an offset its place.
-use Rattle.std.proofs.Common.{◌≡◌, ◌∙◌, ap, arith, ℕ, ◌+◌, ◌*◌, ◌/◌, ◌%◌, ◌<◌}
+use Rattle.std.proofs.Common.{◌≡◌, ◌∙◌, refl, ap, arith, ℕ, ◌+◌, ◌*◌, ◌/◌, ◌%◌, ◌<◌}
 use Rattle.std.proofs.Math.Nat.{div-div-eq-div-mul, mul_comm}
 use Rattle.std.proofs.lemmas.Nat.{div-add-mod', div-mul-add, mod-mul-add, mul-add-lt, mul-le, div_below, mod_below}
 use Rattle.qfs_base.specs.declared.layout.Spot.{Spot}
-use Rattle.qfs_base.specs.Layout.{block_bytes, place_of, offset_of}
+use Rattle.qfs_base.specs.Layout.{block_bytes, row_bytes, place_of, offset_of}
+
+abbrev spot : ℕ → ℕ → ℕ → ℕ → Spot
+spot index row slot at = record { index = index; row = row; slot = slot; at = at }
+
+-- a place by the bytes of a stripe, of a block and of a row, and an offset likewise
+pub place_by_sizes : (s r o stripe block row whole : ℕ) → stripe ≡ s → block ≡ block_bytes s r → row ≡ row_bytes s → whole ≡ block_bytes s r →
+    spot (o / whole) (o % block / row) (o % block / stripe % 6) (o % block / row * stripe + o % block % stripe) ≡ place_of s r o
+place_by_sizes s r o stripe block row whole stripe_is block_is row_is whole_is = rw (stripe_is, block_is, row_is, whole_is) refl
+
+pub offset_by_sizes : (s r k j a stripe index block rows row slot in_row : ℕ) →
+    stripe ≡ s → index ≡ k → block ≡ block_bytes s r → rows ≡ a / stripe → row ≡ row_bytes s → slot ≡ j → in_row ≡ slot * stripe + a % stripe →
+    index * block + rows * row + in_row ≡ offset_of s r k j a
+offset_by_sizes s r k j a stripe index block rows row slot in_row stripe_is index_is block_is rows_is row_is slot_is in_row_is =
+    rw (index_is, block_is, rows_is, row_is, in_row_is, slot_is, stripe_is) (omega arith)
 
 -- a byte of a block by its row, its slot and its place in the stripe
 row_slot_byte : (b s : ℕ) → 0 < s → b / (6 * s) * (6 * s) + b / s % 6 * s + b % s ≡ b
@@ -32,9 +46,6 @@ place_within s r o some rows =
     let below : o % (6 * s * r) < r * (6 * s) = omega (arith, mod_below o (6 * s * r) blocks) in
     let row : b / (6 * s) < r = div_below b (6 * s) r (omega arith) below in
     mul-add-lt (b / (6 * s)) s (b % s) r row (mod_below b s some)
-
-abbrev spot : ℕ → ℕ → ℕ → ℕ → Spot
-spot index row slot at = record { index = index; row = row; slot = slot; at = at }
 
 same_spot : (i i' w w' j j' a a' : ℕ) → i ≡ i' → w ≡ w' → j ≡ j' → a ≡ a' → spot i w j a ≡ spot i' w' j' a'
 same_spot i i' w w' j j' a a' index row slot at =

@@ -1,13 +1,14 @@
 use Rattle.std.proofs.Common.{◌≡◌, subst, sym, ap, arith, ◌*◌, ◌<◌}
-use Rattle.std.proofs.lemmas.Grind.{common_steps}
 use Rattle.qfs_base.specs.declared.layout.Spot.{Spot}
 use Rattle.qfs_base.specs.Shape.{Shape}
 use Rattle.qfs_base.specs.Layout.{offset_of}
-use Rattle.qfs_stripe.proofs.Places.{offset_of_place, place_within}
+use Rattle.qfs_stripe.proofs.Places.{offset_of_place, place_by_sizes, place_within}
 use Rattle.qfs_stripe.proofs.layout.LayoutLayoutCalls.place_of.Goals as goal
 
 pub returns-clause-value : goal.returns-clause-value
-returns-clause-value c = grind (arith, common_steps)
+returns-clause-value c =
+    place_by_sizes c.args.self.now.s c.args.self.now.r c.args.o _ _ _ _ (ap (λ (shape : Shape). shape.s) c.self.view_is)
+    c.block_bytes.ensures.value c.row_bytes.ensures.value c.block_bytes-2.ensures.value
 
 pub returns-clause-back : goal.returns-clause-back
 returns-clause-back c =
