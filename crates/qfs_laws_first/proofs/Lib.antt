@@ -1,0 +1,5 @@
+pub mod Asks
+pub mod AsksOfGets
+pub mod AsksOfPuts
+pub mod Deletes
+pub mod Rows
