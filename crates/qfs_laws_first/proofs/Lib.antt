@@ -1,5 +1,14 @@
 pub mod Asks
 pub mod AsksOfGets
 pub mod AsksOfPuts
+pub mod Chosen
 pub mod Deletes
+pub mod Histories
+pub mod MetaSteps
+pub mod Moves
+pub mod Reading
 pub mod Rows
+pub mod Servers
+pub mod States
+pub mod Tables
+pub mod Trees
