@@ -4,11 +4,17 @@ pub mod AsksOfPuts
 pub mod Chosen
 pub mod Deletes
 pub mod Histories
+pub mod Kept
 pub mod MetaSteps
 pub mod Moves
+pub mod PutCloses
+pub mod PutCreates
+pub mod PutGrants
+pub mod PutStores
 pub mod Reading
 pub mod Rows
 pub mod Servers
 pub mod States
 pub mod Tables
 pub mod Trees
+pub mod Works

@@ -168,6 +168,12 @@ is_slot-other block other slot number state differ = one (is_slot other number (
     one true is = let same = is_slot-same other number (record { block = block; slot = slot; state = state }) is in absurd (differ (ap (λ (k : BlockId). k.file) same.0) same.1)
     one false is = is
 
+-- the test looks at no record
+pub is_slot-kind : (block of : BlockId) (slot number : ℕ) (state : SlotRecord) (b : Bool) (other : SlotRecord)
+    → is_slot block slot (record { block = of; slot = number; state = state }) ≡ b → is_slot block slot (record { block = of; slot = number; state = other }) ≡ b
+unfolding is_slot
+is_slot-kind block of slot number state b other is = is
+
 -- a slot that no row is of was never granted
 pub slot_at-none : (block : BlockId) (slot : ℕ) (slots : List SlotRow) → Each (λ row. is_slot block slot row ≡ false) slots → slot_at slots block slot ≡ never_granted
 unfolding slot_at
@@ -225,13 +231,75 @@ slot_at-unsealed file block slot slots other = ap record_in (find-unsealed file 
 
 -- ---- how many grants a block has
 
+-- how many grants of a block a row has
+abbrev grants_in : BlockId → SlotRow → ℕ
+grants_in block row = length (grants_of_block block (row ∷ []))
+
 grants_of_block-next : (block : BlockId) (row : SlotRow) (rows : List SlotRow)
-    → (length (grants_of_block block (row ∷ rows)) ≤ 1 + length (grants_of_block block rows)) × (length (grants_of_block block rows) ≤ length (grants_of_block block (row ∷ rows)))
+    → (length (grants_of_block block (row ∷ rows)) ≡ grants_in block row + length (grants_of_block block rows)) × (grants_in block row ≤ 1)
 unfolding grants_of_block granted_copy
 grants_of_block-next block row rows = one (is_of_block block row) row.state.grant refl refl
   where
     one : (b : Bool) (g : Option Grant) → is_of_block block row ≡ b → row.state.grant ≡ g
-        → (length (grants_of_block block (row ∷ rows)) ≤ 1 + length (grants_of_block block rows)) × (length (grants_of_block block rows) ≤ length (grants_of_block block (row ∷ rows)))
+        → (length (grants_of_block block (row ∷ rows)) ≡ grants_in block row + length (grants_of_block block rows)) × (grants_in block row ≤ 1)
     one true None is has = rw (is, has) (omega arith, omega arith)
     one true (Some grant) is has = rw (is, has) (omega arith, omega arith)
     one false g is has = rw is (omega arith, omega arith)
+
+grants-one : (block : BlockId) (new row : SlotRow) (rows further : List SlotRow) (o : Ordering)
+    → length (grants_of_block block further) ≤ 1 + length (grants_of_block block rows)
+    → length (grants_of_block block (place_before new row rows further o)) ≤ 1 + length (grants_of_block block (row ∷ rows))
+grants-one block new row rows further Less rest = let next = grants_of_block-next block new (row ∷ rows) in omega (arith, next.0, next.1)
+grants-one block new row rows further Equal rest =
+    let next = grants_of_block-next block new rows in
+    let old = grants_of_block-next block row rows in
+    omega (arith, next.0, next.1, old.0, old.1)
+grants-one block new row rows further Greater rest =
+    let next = grants_of_block-next block row further in
+    let old = grants_of_block-next block row rows in
+    omega (arith, next.0, next.1, old.0, old.1, rest)
+
+-- one more row is one more grant at most
+grants-placed : (block : BlockId) (new : SlotRow) (rows : List SlotRow)
+    → length (grants_of_block block (place slot_cmp new rows)) ≤ 1 + length (grants_of_block block rows)
+grants-placed block new [] = let next = grants_of_block-next block new [] in omega (arith, next.0, next.1)
+grants-placed block new (row ∷ rows) = grants-one block new row rows (place slot_cmp new rows) (slot_cmp new row) (grants-placed block new rows)
+
+pub grants-more : (of block : BlockId) (slot : ℕ) (state : SlotRecord) (slots : List SlotRow)
+    → length (grants_of_block of (with_slot block slot state slots)) ≤ 1 + length (grants_of_block of slots)
+unfolding with_slot
+grants-more of block slot state slots = grants-placed of (record { block = block; slot = slot; state = state }) slots
+
+grants-empty : (block : BlockId) → length (grants_of_block block []) ≡ 0
+unfolding grants_of_block
+grants-empty block = refl
+
+grants-apart : (block : BlockId) (row : SlotRow) → is_of_block block row ≡ false → grants_in block row ≡ 0
+unfolding grants_of_block
+grants-apart block row apart = rw apart refl
+
+-- a block of which there is no row has no grants
+pub grants-none : (block : BlockId) (slots : List SlotRow) → Each (λ row. is_of_block block row ≡ false) slots → length (grants_of_block block slots) ≡ 0
+grants-none block [] each = grants-empty block
+grants-none block (row ∷ rows) each =
+    let next = grants_of_block-next block row rows in
+    let none = grants-apart block row each.0 in
+    let rest = grants-none block rows each.1 in
+    omega (arith, next.0, none, rest)
+
+-- a table in which each row passes
+pub each_with_slot : (P : SlotRow → Type 0) (block : BlockId) (slot : ℕ) (state : SlotRecord) (slots : List SlotRow)
+    → P (record { block = block; slot = slot; state = state }) → Each P slots → Each P (with_slot block slot state slots)
+unfolding with_slot
+each_with_slot P block slot state slots new each = each_placed P slot_cmp (record { block = block; slot = slot; state = state }) slots new each
+
+-- what is placed is found where no other row passes
+pub find-alone : {X : Type 0} (test : X → Bool) (order : X → X → Ordering) (new : X) (rows : List X) → test new ≡ true → Each (λ row. test row ≡ false) rows
+    → find test (place order new rows) ≡ Some new
+find-alone test order new [] own others = rw own refl
+find-alone test order new (row ∷ rows) own others = one (order new row) (find-alone test order new rows own others.1)
+  where
+    one : (o : Ordering) → find test (place order new rows) ≡ Some new → find test (place_before new row rows (place order new rows) o) ≡ Some new
+    one Less rest = rw own refl
+    one Equal rest = rw own refl
+    one Greater rest = rw others.0 rest
