@@ -208,3 +208,14 @@ written-none script = record {
   closers = tt;
   unborn = λ file above. refl;
 }
+
+-- one command more has ended
+pub written-later : (script : Script) (history : List Entry) (tree : List TreeRow) (next_file commands : ℕ)
+    → Written script history tree next_file commands → Written script history tree next_file (commands + 1)
+written-later script history tree next_file commands w = record {
+  legal = w.legal;
+  count = w.count;
+  files = w.files;
+  closers = later commands (closing_commands history) w.closers;
+  unborn = w.unborn;
+}

@@ -3,6 +3,7 @@ pub mod AsksOfGets
 pub mod AsksOfPuts
 pub mod Chosen
 pub mod Deletes
+pub mod Gets
 pub mod Histories
 pub mod Kept
 pub mod MetaSteps
@@ -12,7 +13,9 @@ pub mod PutCreates
 pub mod PutGrants
 pub mod PutStores
 pub mod Reading
+pub mod Reports
 pub mod Rows
+pub mod Runs
 pub mod Servers
 pub mod States
 pub mod Tables

@@ -37,11 +37,11 @@ use Rattle.qfs_laws_first.proofs.Tables.{each_placed, find-alone, slot_at-none, 
 abbrev pub created_state : MetaImage → PathNames → ℕ → ℕ → MetaImage
 created_state m path command len = next_turn (apply_all (AddFile path 1 command len ∷ []) m)
 
-refused-file : (place : ℕ) (refusal : Option TreeRefusal) (why : TreeRefusal) (further : _) → refusal ≡ Some why → refuse_file place refusal further ≡ Tells (Told.Refused why place)
+pub refused-file : (place : ℕ) (refusal : Option TreeRefusal) (why : TreeRefusal) (further : _) → refusal ≡ Some why → refuse_file place refusal further ≡ Tells (Told.Refused why place)
 unfolding refuse_file refuse
 refused-file place refusal why further is = rw is refl
 
-accepted-file : (place : ℕ) (refusal : Option TreeRefusal) (further : _) → refusal ≡ None → refuse_file place refusal further ≡ further
+pub accepted-file : (place : ℕ) (refusal : Option TreeRefusal) (further : _) → refusal ≡ None → refuse_file place refusal further ≡ further
 unfolding refuse_file refuse
 accepted-file place refusal further is = rw is refl
 

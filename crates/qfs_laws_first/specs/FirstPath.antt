@@ -32,10 +32,10 @@ abbrev pub IsFewHex : Form → Type 0
 IsFewHex (Of.Hex bytes) = (1 ≤ length bytes) × (length bytes ≤ 32)
 IsFewHex form = ⊥
 
--- a put of a few bytes, or a get of a whole file, at a path of one name
+-- a put of a few bytes, or a get of a whole file, at any path
 abbrev pub IsFirstFile : FileCommand → Type 0
-IsFirstFile (File.Put path recipe) = (length path ≡ 1) × IsFewHex recipe
-IsFirstFile (File.Get path range) = (length path ≡ 1) × (range ≡ None)
+IsFirstFile (File.Put path recipe) = IsFewHex recipe
+IsFirstFile (File.Get path range) = range ≡ None
 IsFirstFile command = ⊥
 
 abbrev pub IsFirst : Command → Type 0
