@@ -3,6 +3,7 @@ pub mod AsksOfGets
 pub mod AsksOfPuts
 pub mod Chosen
 pub mod Deletes
+pub mod GetRuns
 pub mod Gets
 pub mod Histories
 pub mod Kept
@@ -11,6 +12,7 @@ pub mod Moves
 pub mod PutCloses
 pub mod PutCreates
 pub mod PutGrants
+pub mod PutRuns
 pub mod PutStores
 pub mod Reading
 pub mod Reports

@@ -123,14 +123,14 @@ module _ (script : Script) (servers : List Server) (m : MetaImage) (commands : �
   -- ---- the slots then
 
   -- the slots once it is granted
-  abbrev new_slots : ℕ → List SlotRow
+  abbrev pub new_slots : ℕ → List SlotRow
   new_slots server = with_slot (first_block t.file) slot (granted_slot server (server_at m.servers server).life 1 0 (slot_at m.slots (first_block t.file) slot)) m.slots
 
   stays-other : (server file number : ℕ) → (t.file ≡ file → slot ≡ number → ⊥) → slot_at (new_slots server) (first_block file) number ≡ slot_at m.slots (first_block file) number
   stays-other server file number differ =
       slot_at-other (first_block t.file) (first_block file) slot number _ m.slots (is_slot-other (first_block t.file) (first_block file) slot number _ differ)
 
-  granted-now : (server : ℕ) → 1 ≤ server → server ≤ script.servers → slot_at (new_slots server) (first_block t.file) slot ≡ granted_once server
+  pub granted-now : (server : ℕ) → 1 ≤ server → server ≤ script.servers → slot_at (new_slots server) (first_block t.file) slot ≡ granted_once server
   granted-now server first last = slot_at-placed (first_block t.file) slot _ m.slots ∙ granted-record server first last
 
   -- a closed file isn't the put's

@@ -13,6 +13,7 @@ use Rattle.qfs_base.specs.declared.command.FileCommand.{FileCommand}
 use Rattle.qfs_base.specs.declared.command.Reply.TheVariants as Says
 use Rattle.qfs_base.specs.declared.history.Entry.{Entry}
 use Rattle.qfs_base.specs.declared.history.FileReply.TheVariants as Told
+use Rattle.qfs_base.specs.declared.reply.TreeRefusal.{TreeRefusal}
 use Rattle.qfs_base.specs.declared.request.NodeRequest.{NodeRequest}
 use Rattle.qfs_base.specs.declared.script.Script.{Script}
 use Rattle.qfs_model_actor.specs.Actor.{Actor}
@@ -48,7 +49,7 @@ pub record IsGood (script : Script) (steps : List Event) (history : List Entry) 
 
 -- ---- more history, and more steps
 
-borne-more : (script : Script) (history more : List Entry) (number : ℕ) (command : FileCommand) (report : Report) → IsBorneOut script history number command report
+pub borne-more : (script : Script) (history more : List Entry) (number : ℕ) (command : FileCommand) (report : Report) → IsBorneOut script history number command report
     → IsBorneOut script (history ++ more) number command report
 borne-more script history more number command (Says.Stored place len) h =
     (omega (arith, h.0, length-append history more),
@@ -183,3 +184,31 @@ read-here w actor request place bytes is = record { by = refl; place = place; by
   where
     at : numbered (actor.ended ++ Says.Read place bytes ∷ []) (length actor.ended + 1) ≡ Some (Says.Read place bytes)
     at = last-number actor.ended (Says.Read place bytes)
+
+-- a step that releases nothing
+pub no-release : (ended : List Report) (event : Event) → is_release event.request ≡ false → ReadsWhereReleased ended event
+no-release ended event none is = absurd (cc)
+
+-- the last step of a command took place at the end of the history before it
+pub place-here : (steps : List Event) (w : World) (actor : Actor) (request : NodeRequest)
+    → HasPlace (steps ++ event_asking w done_step actor request ∷ []) (length actor.ended + 1) (length w.meta.history)
+place-here steps w actor request =
+    subst (HasPlace (steps ++ event_asking w done_step actor request ∷ []) (length actor.ended + 1)) (place-kept w actor request)
+    (place-last steps (event_asking w done_step actor request) (length actor.ended + 1) (own-step w actor request))
+
+-- a reply that has this place
+pub placed-at : (steps : List Event) (number place : ℕ) (report : Report) → place_of_report report ≡ Some place → HasPlace steps number place
+    → IfSome (place_of_report report) (HasPlace steps number)
+placed-at steps number place report is has = rw is has
+
+pub place-of-refused : (place : ℕ) (why : TreeRefusal) → place_of_report (Says.Refused place why) ≡ Some place
+unfolding place_of_report
+place-of-refused place why = refl
+
+pub place-of-stored : (place len : ℕ) → place_of_report (Says.Stored place len) ≡ Some place
+unfolding place_of_report
+place-of-stored place len = refl
+
+pub place-of-read : (place : ℕ) (bytes : List ℕ) → place_of_report (Says.Read place bytes) ≡ Some place
+unfolding place_of_report
+place-of-read place bytes = refl
