@@ -7,6 +7,7 @@ pub mod GetRuns
 pub mod Gets
 pub mod Histories
 pub mod Kept
+pub mod Laws
 pub mod MetaSteps
 pub mod Moves
 pub mod PutCloses
