@@ -11,7 +11,7 @@ use Rattle.qfs_base.specs.declared.reply.NodeReply.{NodeReply}
 use Rattle.qfs_base.specs.declared.reply.NodeReply.TheVariants as From
 use Rattle.qfs_base.specs.declared.request.ChunkRequest.{ChunkRequest}
 use Rattle.qfs_base.specs.declared.request.MetaRequest.{MetaRequest}
-use Rattle.qfs_model_actor.specs.Work.{Report, Work, ends, asks, for_each}
+use Rattle.qfs_model_actor.specs.Work.{Report, Work, ends, for_each}
 use Rattle.qfs_model_actor.specs.Hold.{Hold, nothing, unclosed, opened, granted, on_answer, on_meta, ask_or, was_given_back, was_released, give_back, end_with}
 use Rattle.qfs_model_actor.specs.Ask.{ask, on_served, on_chunk, ask_server, after_store, filled, after_fetch, fetch}
 use Rattle.qfs_model_actor.specs.Tree.{refused}

@@ -1,5 +1,5 @@
 -- A get asks only requests of gets.
-use Rattle.std.proofs.Common.{ℕ, zero, suc, ◌++◌, Bool, true, false, List, [], ◌∷◌, Option, Some, None, Ok, Err, nat_lt, slice_get, slice_set}
+use Rattle.std.proofs.Common.{ℕ, zero, suc, ◌++◌, Bool, true, false, List, [], ◌∷◌, Option, Some, None, Ok, Err, slice_get, slice_set}
 use Rattle.qfs_base.specs.Shape.{Shape}
 use Rattle.qfs_base.specs.declared.chunk.Copy.{Copy}
 use Rattle.qfs_base.specs.declared.command.Range.{Range}

@@ -1,13 +1,11 @@
 -- Puts and gets delete nothing.
-use Rattle.std.proofs.Common.{◌≡◌, ℕ, zero, suc, ◌+◌, Bool, true, false, cond, List, [], ◌∷◌, ◌++◌, length, map, filter, find, replicate, Option, Some, None, refl, sym, ap, subst, ◌∙◌, arith}
-use Rattle.std.specs.Prelude.{slice_get, slice_set, fold, flat_map}
+use Rattle.std.proofs.Common.{◌≡◌, ℕ, ◌+◌, Bool, true, false, cond, List, [], ◌∷◌, length, Option, Some, None, refl, sym, subst}
 use Rattle.std.specs.List.{cons_option}
 use Rattle.qfs_base.specs.Shape.{Shape}
 use Rattle.qfs_base.specs.Table.{Each}
 use Rattle.qfs_base.specs.declared.chunk.BlockId.{BlockId}
 use Rattle.qfs_base.specs.declared.command.Command.{Command}
 use Rattle.qfs_base.specs.declared.command.Command.TheVariants as Does
-use Rattle.qfs_base.specs.declared.command.FileCommand.{FileCommand}
 use Rattle.qfs_base.specs.declared.command.FileCommand.TheVariants as File
 use Rattle.qfs_base.specs.declared.history.Outcome.{Outcome}
 use Rattle.qfs_base.specs.declared.history.Outcome.TheVariants as Ended
@@ -15,11 +13,9 @@ use Rattle.qfs_base.specs.declared.history.Step.{Step}
 use Rattle.qfs_base.specs.declared.image.Grant.{Grant}
 use Rattle.qfs_base.specs.declared.image.MetaImage.{MetaImage}
 use Rattle.qfs_base.specs.declared.image.TreeRow.{TreeRow}
-use Rattle.qfs_base.specs.declared.reply.ChunkAnswer.{ChunkAnswer}
 use Rattle.qfs_base.specs.declared.reply.MetaReply.{MetaReply}
 use Rattle.qfs_base.specs.declared.reply.MetaReply.TheVariants as Told
 use Rattle.qfs_base.specs.declared.reply.NodeReply.{NodeReply}
-use Rattle.qfs_base.specs.declared.reply.NodeReply.TheVariants as From
 use Rattle.qfs_base.specs.declared.reply.TreeRefusal.{TreeRefusal}
 use Rattle.qfs_base.specs.declared.request.ChunkRequest.{ChunkRequest}
 use Rattle.qfs_base.specs.declared.request.ChunkRequest.TheVariants as Serve
@@ -33,22 +29,20 @@ use Rattle.qfs_model_actor.specs.Actor.{Actor, starting, present_command, comman
 use Rattle.qfs_model_actor.specs.Command.{file_work, work_of}
 use Rattle.qfs_model_actor.specs.Work.{Work, ends, asks, goes_on, follow, request_in}
 use Rattle.qfs_model_meta.specs.Apply.{apply_all}
-use Rattle.qfs_model_meta.specs.Change.{Change}
 use Rattle.qfs_model_meta.specs.Counters.{counters_fit}
 use Rattle.qfs_model_meta.specs.Decide.{decide, decide_request}
 use Rattle.qfs_model_meta.specs.Decision.{Decision, Tells, UsesDisks, Makes, refuse, unless, need, refuse_file}
 use Rattle.qfs_model_meta.specs.Dropped.{dropped_at}
 use Rattle.qfs_model_meta.specs.GetRequests.{decide_open, decide_release}
-use Rattle.qfs_model_meta.specs.Past.{SlotCopy}
 use Rattle.qfs_model_meta.specs.PutRequests.{decide_create, decide_grant, grant_in, grant_after, grant_for_put, put_granted, taken_refusal, decide_close, close_complete, incomplete, decide_abort, abort_unclosed}
 use Rattle.qfs_model_meta.specs.Range.{in_range}
 use Rattle.qfs_model_meta.specs.Step.{Served, stays, take_step, carry_out, fail_disks, end_step, serve_unless_dropped, meta_step}
 use Rattle.qfs_model_server.specs.Server.{Server}
 use Rattle.qfs_model_world.specs.Deletion.{NoDeletion, ordered_copy, erased_copy, erased_at, deleted_by, deleted_in}
 use Rattle.qfs_model_world.specs.Events.{Event, event_asking, event_by, event_in, events_from, events}
-use Rattle.qfs_model_world.specs.World.{World, Turned, numbered_actors, start, numbered, meta_turned, chunk_turned, chunk_turn, node_turn, handed_over, move_asking, move_actor, move}
+use Rattle.qfs_model_world.specs.World.{World, numbered_actors, start, numbered, meta_turned, chunk_turned, chunk_turn, node_turn, handed_over, move_asking, move_actor, move}
 use Rattle.qfs_laws_first.specs.Asks.{IsMetaOfFiles, IsChunkOfFiles, IsOfFiles, AsksOfFiles}
-use Rattle.qfs_laws_first.specs.FirstPath.{PutsOrGets, IsPutOrGet, PutsAndGets}
+use Rattle.qfs_laws_first.specs.FirstPath.{IsPutOrGet, PutsAndGets}
 use Rattle.qfs_laws_first.proofs.AsksOfGets.{get_work-asks}
 use Rattle.qfs_laws_first.proofs.AsksOfPuts.{put_work-asks}
 use Rattle.qfs_laws_first.proofs.Rows.{each_at, each_numbered, each_renumbered}

@@ -1,7 +1,7 @@
 -- The steps of a get, from its first one to its last.
-use Rattle.std.proofs.Common.{◌≡◌, ◌⊎◌, ℕ, zero, suc, ◌+◌, ◌*◌, ◌<◌, ◌≤◌, Bool, true, false, List, [], ◌∷◌, ◌++◌, length, replicate, Option, Some, None, Ok, refl, sym, ap, subst, ◌∙◌, arith, inl, inr}
+use Rattle.std.proofs.Common.{◌≡◌, ℕ, ◌+◌, ◌*◌, ◌<◌, ◌≤◌, Bool, true, false, List, [], ◌∷◌, ◌++◌, length, replicate, Option, Some, None, refl, sym, ap, subst, ◌∙◌, arith, inl, inr}
 use Rattle.std.proofs.lemmas.Bool.{cases_lt}
-use Rattle.std.proofs.lemmas.List.{append-nil, length-append}
+use Rattle.std.proofs.lemmas.List.{append-nil}
 use Rattle.std.specs.Prelude.{slice_get}
 use Rattle.qfs_base.specs.FileReplies.{reply_at}
 use Rattle.qfs_base.specs.NameTree.{PathNames, look_refusal}
@@ -12,7 +12,6 @@ use Rattle.qfs_base.specs.declared.command.FileCommand.TheVariants as File
 use Rattle.qfs_base.specs.declared.command.Reply.TheVariants as Report
 use Rattle.qfs_base.specs.declared.history.FileReply.TheVariants as Told
 use Rattle.qfs_base.specs.declared.history.Outcome.TheVariants as Ended
-use Rattle.qfs_base.specs.declared.image.MetaImage.{MetaImage}
 use Rattle.qfs_base.specs.declared.reply.ChunkAnswer.TheVariants as Did
 use Rattle.qfs_base.specs.declared.reply.ChunkReply.{ChunkReply}
 use Rattle.qfs_base.specs.declared.reply.MetaReply.{MetaReply}
@@ -26,11 +25,11 @@ use Rattle.qfs_base.specs.declared.request.MetaRequest.TheVariants as Ask
 use Rattle.qfs_base.specs.declared.request.NodeRequest.{NodeRequest}
 use Rattle.qfs_base.specs.declared.request.NodeRequest.TheVariants as To
 use Rattle.qfs_base.specs.declared.script.Script.{Script}
-use Rattle.qfs_model_actor.specs.Actor.{Actor, present_command, work_left}
+use Rattle.qfs_model_actor.specs.Actor.{present_command, work_left}
 use Rattle.qfs_model_actor.specs.Command.{file_work, work_of}
 use Rattle.qfs_model_actor.specs.Get.{listed_in, get_work}
 use Rattle.qfs_model_actor.specs.Read.{Source, sources_of}
-use Rattle.qfs_model_actor.specs.Work.{Work, goes_on, request_in}
+use Rattle.qfs_model_actor.specs.Work.{Work, request_in}
 use Rattle.qfs_model_meta.specs.Apply.{finish_lease, apply, apply_all}
 use Rattle.qfs_model_meta.specs.GetRequests.{opened}
 use Rattle.qfs_model_meta.specs.Leases.{holds_lease}
@@ -41,25 +40,24 @@ use Rattle.qfs_model_slot.specs.Slot.{slot_of}
 use Rattle.qfs_model_world.specs.Events.{Event, event_asking, event_in}
 use Rattle.qfs_model_world.specs.EveryGet.{is_release}
 use Rattle.qfs_model_world.specs.Puts.{command_of, puts_of}
-use Rattle.qfs_model_world.specs.World.{World, numbered, renumbered}
+use Rattle.qfs_model_world.specs.World.{World, renumbered}
 use Rattle.qfs_model_world.proofs.OneActor.{done_step}
 use Rattle.qfs_base.specs.Key.{key_cmp}
 use Rattle.qfs_base.specs.KeyMap.{value_at}
 use Rattle.std.specs.Option.{option_and_then}
 use Rattle.qfs_laws_first.specs.FirstPath.{IsFirstPath}
-use Rattle.qfs_laws_first.proofs.Gets.{put-refused-there, get-refused-there, get-read-there, closed-file, between-later, opened_state, open-refused, open-served, get-opened, listed-slot, blocks-one, listed-nine, stays-stored, get-fetched, released_state, release-served, release-gone-served, reads-ended, get-released}
-use Rattle.qfs_laws_first.proofs.Moves.{heard_more, ended_so, work_left-heard, work_left-next, meta_goes_on, meta_ends, chunk_goes_on, event-here}
+use Rattle.qfs_laws_first.proofs.Gets.{get-refused-there, get-read-there, closed-file, between-later, opened_state, open-refused, open-served, get-opened, listed-slot, blocks-one, listed-nine, stays-stored, get-fetched, released_state, release-served, release-gone-served, reads-ended, get-released}
+use Rattle.qfs_laws_first.proofs.Moves.{work_left-heard, work_left-next, meta_goes_on, meta_ends, chunk_goes_on, event-here}
 use Rattle.qfs_laws_first.proofs.PutRuns.{short-file}
 use Rattle.qfs_laws_first.proofs.Reading.{IsShort, slot_long}
 use Rattle.qfs_laws_first.proofs.Reports.{HasPlace, IsGood, borne-more, place-more, no-release, place-here, placed-at, place-of-refused, place-of-read, read-here}
 use Rattle.qfs_laws_first.proofs.Runs.{CanFetch, Fetching, Run, Next, goes-on-to, ends-with}
-use Rattle.qfs_laws_first.proofs.Servers.{IsUp, stored_at, fetch-hands}
-use Rattle.qfs_laws_first.proofs.States.{first_block, first_key, first_copy, HasCurrent, IsFile, Between, Reads}
+use Rattle.qfs_laws_first.proofs.Servers.{IsUp, fetch-hands}
+use Rattle.qfs_laws_first.proofs.States.{first_key, first_copy, IsFile, Between}
 use Rattle.qfs_laws_first.proofs.Trees.{ClosedAt, closed-at}
 use Rattle.qfs_laws_first.proofs.Works.{at_fetch, get-asks, get-refused, get-goes_on, ListsSlots, source-at, fetch-asks, fetch-goes_on, release-asks, release-done, release-gone}
 
 module _ (script : Script) (commands : List Command) (steps : List Event) (w : World) (first_path : IsFirstPath script commands) (r : Run script commands steps w) where
-
   abbrev c : ℕ
   c = length r.actor.ended
 
@@ -71,7 +69,6 @@ module _ (script : Script) (commands : List Command) (steps : List Event) (w : W
   module _ (path : PathNames) (silent : r.actor.heard ≡ []) (b : Between script w.servers w.meta c)
       (present : present_command r.actor ≡ Some (Does.File (File.Get path None)))
       (is : command_of script 1 (c + 1) ≡ Some (Does.File (File.Get path None))) (few : c ≤ 4096) where
-
     abbrev request : NodeRequest
     request = To.Meta (Ask.OpenFile path)
 
@@ -209,14 +206,16 @@ module _ (script : Script) (commands : List Command) (steps : List Event) (w : W
     fetch-asks-some slot within =
         elim (cases_lt slot 6) [
           | inl below ↦
-              let copy = f.copies slot below in
-              (To.Chunk copy.server (Serve.Fetch (first_key f.o.file slot) 1 0 (replicate script.layout.s 0)),
-                fetch-asks script.layout f.o f.sources f.bytes slot copy.server below copy.listed)
+              let copy = f.copies slot below in (
+                To.Chunk copy.server (Serve.Fetch (first_key f.o.file slot) 1 0 (replicate script.layout.s 0)),
+                fetch-asks script.layout f.o f.sources f.bytes slot copy.server below copy.listed,
+              )
           | inr above ↦
-              let end : 6 ≡ slot = omega arith in
-              (To.Meta (Ask.Release f.o.lease),
+              let end : 6 ≡ slot = omega arith in (
+                To.Meta (Ask.Release f.o.lease),
                 subst (λ slot. request_in (at_fetch script.layout f.o f.sources f.bytes slot) ≡ Some (To.Meta (Ask.Release f.o.lease))) end
-                (release-asks script.layout f.o f.sources f.bytes f.short f.len))
+                    (release-asks script.layout f.o f.sources f.bytes f.short f.len),
+              )
         ]
 
     module _ (below : f.slot < 6) (copy : CanFetch script w.servers f.sources f.o.file f.bytes f.slot) (up : IsUp w.servers copy.server) where
@@ -284,7 +283,6 @@ module _ (script : Script) (commands : List Command) (steps : List Event) (w : W
 
       abbrev release_request : NodeRequest
       release_request = To.Meta (Ask.Release f.o.lease)
-
 
       asks-release : request_in end_work ≡ Some release_request
       asks-release = release-asks script.layout f.o f.sources f.bytes f.short f.len

@@ -1,13 +1,12 @@
 -- A get opens its file, fetches its slots and releases its lease.
-use Rattle.std.proofs.Common.{◌≡◌, ℕ, zero, suc, ◌+◌, ◌*◌, ◌<◌, ◌≤◌, ◌==◌, ◌&&◌, Bool, true, false, List, [], ◌∷◌, ◌++◌, length, map, find, replicate, take, Option, Some, None, unwrap_or, Ok, refl, sym, ap, subst, ◌∙◌, arith}
+use Rattle.std.proofs.Common.{◌≡◌, ℕ, ◌+◌, ◌*◌, ◌<◌, ◌≤◌, true, false, List, [], ◌∷◌, length, map, take, Some, None, refl, sym, ap, ◌∙◌, arith}
 use Rattle.std.proofs.Math.Seq.{take-length}
-use Rattle.std.proofs.lemmas.Bool.Decides.{nat_tests}
 use Rattle.std.proofs.lemmas.List.FromFn.{get_or-range_with_len, length-map-range_with_len}
 use Rattle.std.proofs.lemmas.Option.{slice_get-map, slice_get_read}
 use Rattle.std.specs.Prelude.{slice_get}
 use Rattle.std.specs.List.{range_with_len}
 use Rattle.qfs_base.specs.FileReplies.{refused_or, wanted_bytes, bytes_at, file_reply, reply_at}
-use Rattle.qfs_base.specs.Files.{FileEntry, files_of, files_standing}
+use Rattle.qfs_base.specs.Files.{files_of, files_standing}
 use Rattle.qfs_base.specs.NameTree.{PathNames, stands_at, add_refusal, look_refusal}
 use Rattle.qfs_base.specs.Shape.{Shape}
 use Rattle.qfs_base.specs.Table.{Each}
@@ -16,11 +15,9 @@ use Rattle.qfs_base.specs.declared.command.FileCommand.TheVariants as File
 use Rattle.qfs_base.specs.declared.history.FileReply.TheVariants as Says
 use Rattle.qfs_base.specs.declared.history.Outcome.TheVariants as Ended
 use Rattle.qfs_base.specs.declared.image.MetaImage.{MetaImage}
-use Rattle.qfs_base.specs.declared.image.ServerView.{ServerView}
 use Rattle.qfs_base.specs.declared.image.TreeRow.{TreeRow}
 use Rattle.qfs_base.specs.declared.recipe.Form.{Form}
 use Rattle.qfs_base.specs.declared.reply.MetaReply.TheVariants as Told
-use Rattle.qfs_base.specs.declared.reply.Opened.{Opened}
 use Rattle.qfs_base.specs.declared.reply.TreeRefusal.{TreeRefusal}
 use Rattle.qfs_base.specs.declared.request.MetaRequest.TheVariants as Ask
 use Rattle.qfs_base.specs.declared.script.Script.{Script}
@@ -28,30 +25,28 @@ use Rattle.qfs_model_actor.specs.Get.{listed_in}
 use Rattle.qfs_model_meta.specs.Apply.{finish_lease, apply, apply_all}
 use Rattle.qfs_model_meta.specs.Change.{GiveLease, EndLease}
 use Rattle.qfs_model_meta.specs.Decide.{decide, decide_request}
-use Rattle.qfs_model_meta.specs.Decision.{Tells, Makes, refuse, unless, refuse_file}
+use Rattle.qfs_model_meta.specs.Decision.{Makes, unless}
 use Rattle.qfs_model_meta.specs.GetRequests.{opened, decide_open, decide_release}
 use Rattle.qfs_model_meta.specs.Leases.{holds_lease}
-use Rattle.qfs_model_meta.specs.Lists.{slot_numbers, listed_nine, listed_blocks, block_count}
+use Rattle.qfs_model_meta.specs.Lists.{listed_nine, listed_blocks, block_count}
 use Rattle.qfs_model_meta.specs.Range.{in_range}
 use Rattle.qfs_model_meta.specs.Servers.{server_at, is_live, is_listed, listed_copy}
 use Rattle.qfs_model_meta.specs.Slots.{slot_at}
 use Rattle.qfs_model_meta.specs.Step.{first_server, next_turn, meta_step}
 use Rattle.qfs_model_meta.specs.TreeRows.{standing, row_path, row_at}
 use Rattle.qfs_model_server.specs.Server.{Server}
-use Rattle.qfs_model_slot.specs.Slot.{slot_of}
 use Rattle.qfs_model_world.specs.Puts.{puts_of}
 use Rattle.qfs_model_world.specs.World.{numbered, renumbered}
 use Rattle.qfs_laws_first.specs.Standing.{entry_of}
-use Rattle.qfs_laws_first.proofs.Histories.{Written, written-later}
+use Rattle.qfs_laws_first.proofs.Histories.{written-later}
 use Rattle.qfs_laws_first.proofs.Kept.{file-kept, view-first}
 use Rattle.qfs_laws_first.proofs.MetaSteps.{AreFew, step-makes, step-tells}
 use Rattle.qfs_laws_first.proofs.PutCreates.{refused-file, accepted-file}
 use Rattle.qfs_laws_first.proofs.Reading.{IsShort, blocks_of-one}
 use Rattle.qfs_laws_first.proofs.Rows.{each_weaker}
 use Rattle.qfs_laws_first.proofs.Servers.{stored_at, stored-same, are_up-changed}
-use Rattle.qfs_laws_first.proofs.States.{first_block, first_key, first_copy, HasCurrent, IsFile, IsRow, Steady, NoneToCome, Between, Reads}
+use Rattle.qfs_laws_first.proofs.States.{first_block, first_key, first_copy, IsFile, IsRow, Steady, Between, Reads}
 use Rattle.qfs_laws_first.proofs.Trees.{ClosedAt, standing-files, bytes-found, each_find}
-use Rattle.qfs_laws_first.proofs.Works.{ListsSlots}
 
 -- ---- replies at the end of the history
 
@@ -206,7 +201,6 @@ module _ (script : Script) (servers : List Server) (m : MetaImage) (commands : �
 
 module _ (script : Script) (servers : List Server) (m : MetaImage) (commands server : ℕ) (before : Server) (more : ℕ) (r : Reads script servers m commands)
     (there : numbered servers server ≡ Some before) (up : before.up ≡ true) (life : before.life ≡ 1) where
-
   abbrev handed : Server
   handed = record before { handed_out = more }
 

@@ -1,14 +1,13 @@
 -- A file history with one entry more: it stays legal, and what is said of its places stays so.
-use Rattle.std.proofs.Common.{◌≡◌, ℕ, zero, suc, ◌+◌, ◌<◌, ◌≤◌, ◌==◌, Bool, true, false, cond, ◌&&◌, ◌||◌, List, [], ◌∷◌, ◌++◌, length, take, map, filter, find, Option, Some, None, refl, sym, ap, subst, ◌∙◌, arith}
+use Rattle.std.proofs.Common.{◌≡◌, ℕ, zero, suc, ◌+◌, ◌≤◌, ◌==◌, Bool, true, false, ◌&&◌, List, [], ◌∷◌, ◌++◌, length, map, Option, Some, None, refl, sym, ap, subst, ◌∙◌, arith}
 use Rattle.std.proofs.lemmas.Bool.Decides.{nat_tests}
 use Rattle.std.proofs.lemmas.List.{append-nil, take-append-le}
 use Rattle.std.proofs.lemmas.List.Elements.{filter_map-append}
 use Rattle.std.proofs.lemmas.List.Sums.{fold-append}
-use Rattle.std.specs.Prelude.{IsTrue, fold, filter_map, slice_get, is_none}
-use Rattle.std.specs.Option.{option_or, option_map}
-use Rattle.std.specs.List.{list_any, IsDistinct, AllByRecursion, cons_option}
+use Rattle.std.specs.Prelude.{IsTrue, fold, slice_get, is_none}
+use Rattle.std.specs.List.{list_any, IsDistinct, AllByRecursion}
 use Rattle.qfs_base.specs.FileReplies.{file_reply, reply_at}
-use Rattle.qfs_base.specs.Files.{Puts, Content, FileEntry, IsLegal, FollowFrom, files_after, files_of, may_follow, creates, created_count, closing_command, closing_commands, same_pair, is_unclosed_entry, close_entry, files_standing}
+use Rattle.qfs_base.specs.Files.{Puts, FileEntry, FollowFrom, files_after, files_of, may_follow, creates, created_count, closing_command, closing_commands, same_pair, is_unclosed_entry, files_standing}
 use Rattle.qfs_base.specs.NameTree.{PathNames, add_refusal}
 use Rattle.qfs_base.specs.Table.{Each, first_of}
 use Rattle.qfs_base.specs.declared.command.FileCommand.{FileCommand}
@@ -17,7 +16,7 @@ use Rattle.qfs_base.specs.declared.history.Entry.TheVariants as Wrote
 use Rattle.qfs_base.specs.declared.image.TreeRow.{TreeRow}
 use Rattle.qfs_base.specs.declared.script.Script.{Script}
 use Rattle.qfs_model_meta.specs.TreeRows.{standing, file_row, add_row, close_file}
-use Rattle.qfs_model_world.specs.FileHistory.{path_if, created_in, created_path, ClosesItsPath, IsOwnPut, IsHistoryOf}
+use Rattle.qfs_model_world.specs.FileHistory.{path_if, created_in, created_path, IsOwnPut, IsHistoryOf}
 use Rattle.qfs_model_world.specs.Puts.{put_path, puts_of}
 use Rattle.qfs_laws_first.specs.Standing.{content_if, entry_of}
 use Rattle.qfs_laws_first.proofs.Tables.{each_append, same_number}

@@ -1,10 +1,9 @@
 -- What a change of other files leaves of a file, and what the servers are to the metaserver.
-use Rattle.std.proofs.Common.{◌≡◌, ℕ, zero, suc, ◌+◌, ◌<◌, ◌≤◌, ◌==◌, Bool, true, false, List, [], ◌∷◌, ◌++◌, length, replicate, Option, Some, None, refl, sym, ap, subst, ◌∙◌, arith}
+use Rattle.std.proofs.Common.{◌≡◌, ℕ, zero, suc, ◌<◌, ◌≤◌, ◌==◌, false, List, [], ◌∷◌, replicate, ap, ◌∙◌, arith}
 use Rattle.std.proofs.lemmas.Bool.Decides.{nat_tests}
 use Rattle.std.proofs.lemmas.List.{get_or-replicate}
 use Rattle.qfs_base.specs.Shape.{Shape}
 use Rattle.qfs_base.specs.Table.{Each}
-use Rattle.qfs_base.specs.declared.image.ServerView.{ServerView}
 use Rattle.qfs_base.specs.declared.image.SlotRecord.{SlotRecord}
 use Rattle.qfs_base.specs.declared.image.SlotRow.{SlotRow}
 use Rattle.qfs_model_meta.specs.Servers.{no_server, server_at}
@@ -12,7 +11,7 @@ use Rattle.qfs_model_meta.specs.Slots.{slot_at}
 use Rattle.qfs_model_meta.specs.Step.{first_server}
 use Rattle.qfs_model_server.specs.Server.{Server}
 use Rattle.qfs_laws_first.proofs.Servers.{stored_at}
-use Rattle.qfs_laws_first.proofs.States.{first_block, first_key, first_copy, HasCurrent, IsFile}
+use Rattle.qfs_laws_first.proofs.States.{first_block, first_key, IsFile}
 
 -- a file stays whole where its slots and their copies stay
 pub file-kept : (layout : Shape) (n : ℕ) (servers changed : List Server) (slots new : List SlotRow) (file len : ℕ) (bytes : List ℕ)

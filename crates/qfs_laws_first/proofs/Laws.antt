@@ -1,9 +1,9 @@
 -- The laws of the first path, from how its world stands after each step.
-use Rattle.std.proofs.Common.{◌≡◌, ◌⊎◌, ℕ, zero, suc, ◌+◌, ◌*◌, ◌<◌, ◌≤◌, ◌==◌, ◌&&◌, Bool, true, false, List, [], ◌∷◌, ◌++◌, length, replicate, Option, Some, None, refl, sym, ap, subst, ◌∙◌, arith, inl, inr, append_assoc}
+use Rattle.std.proofs.Common.{◌≡◌, ℕ, zero, suc, ◌+◌, ◌<◌, ◌≤◌, ◌&&◌, Bool, true, false, List, [], ◌∷◌, ◌++◌, length, replicate, Option, Some, None, refl, sym, ap, subst, ◌∙◌, arith, inl, inr, append_assoc}
 use Rattle.std.proofs.lemmas.Bool.{eqb-true}
 use Rattle.std.proofs.lemmas.List.{append-nil}
 use Rattle.std.proofs.lemmas.Option.{slice_get_within}
-use Rattle.std.specs.Prelude.{slice_get, fold, flat_map, IsTrue, IfSome}
+use Rattle.std.specs.Prelude.{slice_get, fold, flat_map}
 use Rattle.std.specs.Option.{option_and_then}
 use Rattle.std.specs.List.{enumerate_from, cons_option}
 use Rattle.qfs_base.specs.FileReplies.{reply_at}
@@ -18,43 +18,39 @@ use Rattle.qfs_base.specs.declared.command.FileCommand.{FileCommand}
 use Rattle.qfs_base.specs.declared.command.FileCommand.TheVariants as File
 use Rattle.qfs_base.specs.declared.command.Range.{Range}
 use Rattle.qfs_base.specs.declared.command.Reply.TheVariants as Says
-use Rattle.qfs_base.specs.declared.history.Entry.{Entry}
 use Rattle.qfs_base.specs.declared.history.FileReply.TheVariants as Told
 use Rattle.qfs_base.specs.declared.history.Step.{Step}
-use Rattle.qfs_base.specs.declared.recipe.Form.{Form}
 use Rattle.qfs_base.specs.declared.recipe.Form.TheVariants as Of
-use Rattle.qfs_base.specs.declared.reply.Opened.{Opened}
 use Rattle.qfs_base.specs.declared.script.Script.{Script}
 use Rattle.qfs_model_actor.specs.Actor.{Actor, starting, present_command}
 use Rattle.qfs_model_actor.specs.Work.{Report}
 use Rattle.qfs_model_meta.specs.Step.{opening}
 use Rattle.qfs_model_server.specs.Server.{Server, fresh_server}
-use Rattle.qfs_model_world.specs.Agrees.{Agrees, AgreesFile, place_of_report}
+use Rattle.qfs_model_world.specs.Agrees.{Agrees, AgreesFile}
 use Rattle.qfs_model_world.specs.Deletion.{NoDeletion}
 use Rattle.qfs_model_world.specs.Events.{Event, event_in, events_from, events, is_step_of}
-use Rattle.qfs_model_world.specs.EveryGet.{OpensAt, ReleasesAt, IsServedWell, ReadsRight, EveryGet, is_release}
+use Rattle.qfs_model_world.specs.EveryGet.{ReleasesAt, ReadsRight, EveryGet}
 use Rattle.qfs_model_world.specs.FileHistory.{IsHistoryOf}
 use Rattle.qfs_model_world.specs.Puts.{command_of, puts_of}
 use Rattle.qfs_model_world.specs.Reports.{report_of, EachReport, IsPlaced, OneFileHistory}
 use Rattle.qfs_model_world.specs.World.{World, numbered_actors, start, numbered, move, after}
 use Rattle.qfs_model_world.proofs.OneActor.{done_step}
-use Rattle.qfs_laws_first.specs.FirstPath.{PutsAndGets, IsPutOrGet, IsFirst, IsFirstFile, IsFirstPath, AllDone}
+use Rattle.qfs_laws_first.specs.FirstPath.{IsPutOrGet, IsFirst, IsFirstFile, IsFirstPath, AllDone}
 use Rattle.qfs_laws_first.specs.Replies.{IsPlain, PlainReplies}
 use Rattle.qfs_laws_first.proofs.Deletes.{deletes_nothing}
 use Rattle.qfs_laws_first.proofs.GetRuns.{get-starts, get-goes}
 use Rattle.qfs_laws_first.proofs.Histories.{written-none}
 use Rattle.qfs_laws_first.proofs.Moves.{request-none}
 use Rattle.qfs_laws_first.proofs.PutRuns.{command-at, put-starts, put-stores-on, put-goes}
-use Rattle.qfs_laws_first.proofs.Reports.{IsBorneOut, HasPlace, IsGood, IsReadBy, ReadsWhereReleased, SoFar}
+use Rattle.qfs_laws_first.proofs.Reports.{IsBorneOut, IsGood, IsReadBy, ReadsWhereReleased}
 use Rattle.qfs_laws_first.proofs.Rows.{each_at, each_weaker}
-use Rattle.qfs_laws_first.proofs.Runs.{Resting, Granting, Storing, Fetching, Run, Next, no-step}
-use Rattle.qfs_laws_first.proofs.Servers.{IsUp, AreUp, stored_at}
-use Rattle.qfs_laws_first.proofs.States.{Steady, Between}
+use Rattle.qfs_laws_first.proofs.Runs.{Resting, Run, Next, no-step}
+use Rattle.qfs_laws_first.proofs.Servers.{IsUp, stored_at}
+use Rattle.qfs_laws_first.proofs.States.{Between}
 
 -- ---- one step
 
 module _ (script : Script) (commands : List Command) (steps : List Event) (w : World) (first_path : IsFirstPath script commands) (r : Run script commands steps w) where
-
   -- the actor is at its next command, if there is one
   file-starts : (command : FileCommand) → IsFirstFile command → present_command r.actor ≡ Some (Does.File command) → Resting script w.servers w.meta r.actor
       → command_of script 1 (length r.actor.ended + 1) ≡ Some (Does.File command) → length r.actor.ended ≤ 4096 → Next script commands steps w
@@ -104,12 +100,12 @@ module _ (script : Script) (commands : List Command) (steps : List Event) (w : W
       elim r.stage [
         | inl rest ↦ rests rest
         | inr busy ↦ elim busy [
-            | inl granting ↦ put-goes script commands steps w first_path r granting
-            | inr more ↦ elim more [
-                | inl storing ↦ put-stores-on script commands steps w first_path r storing
-                | inr fetching ↦ get-goes script commands steps w first_path r fetching
-              ]
+          | inl granting ↦ put-goes script commands steps w first_path r granting
+          | inr more ↦ elim more [
+            | inl storing ↦ put-stores-on script commands steps w first_path r storing
+            | inr fetching ↦ get-goes script commands steps w first_path r fetching
           ]
+        ]
       ]
 
 -- ---- all steps
@@ -196,12 +192,12 @@ module _ (script : Script) (commands : List Command) (steps : List Event) (w : W
       elim r.stage [
         | inl rest ↦ rest.between.steady.written.legal
         | inr busy ↦ elim busy [
-            | inl granting ↦ granting.puts.steady.written.legal
-            | inr more ↦ elim more [
-                | inl storing ↦ storing.puts.steady.written.legal
-                | inr fetching ↦ fetching.reads.steady.written.legal
-              ]
+          | inl granting ↦ granting.puts.steady.written.legal
+          | inr more ↦ elim more [
+            | inl storing ↦ storing.puts.steady.written.legal
+            | inr fetching ↦ fetching.reads.steady.written.legal
           ]
+        ]
       ]
 
   borne-agrees : (number : ℕ) (command : FileCommand) (report : Report) → IsBorneOut script w.meta.history number command report

@@ -1,5 +1,5 @@
 -- A step of the metaserver that came out done, by what was decided.
-use Rattle.std.proofs.Common.{◌≡◌, ℕ, ◌+◌, ◌<◌, ◌≤◌, nat_lt, ◌&&◌, Bool, true, false, List, [], ◌∷◌, length, Option, Some, None, refl, sym, ap, ◌∙◌, arith}
+use Rattle.std.proofs.Common.{◌≡◌, ℕ, ◌<◌, ◌≤◌, nat_lt, true, List, [], length, refl, ap, ◌∙◌, arith}
 use Rattle.std.proofs.lemmas.Bool.Decides.{nat_tests}
 use Rattle.qfs_base.specs.Shape.{Shape}
 use Rattle.qfs_base.specs.declared.history.Outcome.TheVariants as Ended
@@ -12,7 +12,7 @@ use Rattle.qfs_model_meta.specs.Counters.{counters_fit}
 use Rattle.qfs_model_meta.specs.Decide.{decide}
 use Rattle.qfs_model_meta.specs.Decision.{Decision, Tells, Makes}
 use Rattle.qfs_model_meta.specs.Dropped.{dropped_at}
-use Rattle.qfs_model_meta.specs.Step.{Served, stays, next_turn, take_step, carry_out, end_step, serve_unless_dropped, meta_step}
+use Rattle.qfs_model_meta.specs.Step.{stays, next_turn, take_step, carry_out, end_step, serve_unless_dropped, meta_step}
 
 -- few files, leases, condemned copies and entries
 pub record AreFew (m : MetaImage) : Type 0 where

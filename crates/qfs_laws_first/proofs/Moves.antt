@@ -1,7 +1,7 @@
 -- One step of a world with one actor: the actor's work goes on, or has ended.
-use Rattle.std.proofs.Common.{◌≡◌, ℕ, ◌+◌, List, [], ◌∷◌, ◌++◌, length, Option, Some, None, refl, sym, ap, subst, ◌∙◌}
+use Rattle.std.proofs.Common.{◌≡◌, ℕ, [], ◌∷◌, ◌++◌, Option, Some, None, refl, sym, ap, ◌∙◌}
 use Rattle.std.specs.Prelude.{slice_get}
-use Rattle.std.specs.Option.{option_map, option_and_then}
+use Rattle.std.specs.Option.{option_and_then}
 use Rattle.qfs_base.specs.declared.command.Command.{Command}
 use Rattle.qfs_base.specs.declared.history.Outcome.TheVariants as Ended
 use Rattle.qfs_base.specs.declared.image.MetaImage.{MetaImage}
@@ -13,13 +13,13 @@ use Rattle.qfs_base.specs.declared.request.ChunkRequest.{ChunkRequest}
 use Rattle.qfs_base.specs.declared.request.MetaRequest.{MetaRequest}
 use Rattle.qfs_base.specs.declared.request.NodeRequest.{NodeRequest}
 use Rattle.qfs_base.specs.declared.request.NodeRequest.TheVariants as To
-use Rattle.qfs_model_actor.specs.Actor.{Actor, present_command, command_number, work_left, request_of, moved_on, after_reply}
+use Rattle.qfs_model_actor.specs.Actor.{Actor, present_command, command_number, work_left, request_of, after_reply}
 use Rattle.qfs_model_actor.specs.Command.{work_of}
 use Rattle.qfs_model_actor.specs.Work.{Report, Work, ends, asks, goes_on, follow, request_in}
 use Rattle.qfs_model_actor.proofs.Works.{follow-append, after_reply-ends, after_reply-asks}
 use Rattle.qfs_model_meta.specs.Step.{meta_step}
 use Rattle.qfs_model_server.specs.Server.{Server, server_step}
-use Rattle.qfs_model_world.specs.Events.{Event, event_asking, event_by, event_in}
+use Rattle.qfs_model_world.specs.Events.{event_asking, event_by, event_in}
 use Rattle.qfs_model_world.specs.World.{World, numbered, renumbered, move}
 use Rattle.qfs_model_world.proofs.OneActor.{done_step, move-meta, move-chunk}
 

@@ -1,15 +1,11 @@
 -- A put whose nine slots are stored closes its file.
-use Rattle.std.proofs.Common.{◌≡◌, ℕ, zero, suc, ◌+◌, ◌*◌, ◌<◌, ◌≤◌, ◌==◌, nat_lt, ◌&&◌, ◌||◌, Bool, true, false, List, [], ◌∷◌, ◌++◌, length, map, find, filter, Option, Some, None, refl, sym, ap, subst, ◌∙◌, arith, inl, inr}
-use Rattle.std.proofs.lemmas.Bool.{eqb-true}
-use Rattle.std.proofs.lemmas.Bool.Decides.{nat_tests}
-use Rattle.std.proofs.lemmas.List.{length-append, append-nil}
+use Rattle.std.proofs.Common.{◌≡◌, ℕ, ◌+◌, ◌<◌, ◌≤◌, ◌==◌, ◌&&◌, ◌||◌, Bool, true, false, List, [], ◌∷◌, ◌++◌, length, map, find, filter, Some, None, refl, sym, ap, subst, ◌∙◌, arith}
+use Rattle.std.proofs.lemmas.List.{length-append}
 use Rattle.std.specs.Prelude.{is_none}
-use Rattle.std.specs.List.{list_any, range_with_len, flat_map}
-use Rattle.qfs_base.specs.Files.{FileEntry, IsUnclosed, is_unclosed_content, is_unclosed_entry}
+use Rattle.std.specs.List.{list_any}
+use Rattle.qfs_base.specs.Files.{is_unclosed_content, is_unclosed_entry}
 use Rattle.qfs_base.specs.Shape.{Shape}
-use Rattle.qfs_base.specs.Table.{Each, change_where}
-use Rattle.qfs_base.specs.declared.chunk.BlockId.{BlockId}
-use Rattle.qfs_base.specs.declared.chunk.Copy.{Copy}
+use Rattle.qfs_base.specs.Table.{Each}
 use Rattle.qfs_base.specs.declared.history.Entry.TheVariants as Wrote
 use Rattle.qfs_base.specs.declared.history.Outcome.TheVariants as Ended
 use Rattle.qfs_base.specs.declared.image.MetaImage.{MetaImage}
@@ -27,7 +23,7 @@ use Rattle.qfs_model_meta.specs.Decision.{Makes, refuse, unless, need}
 use Rattle.qfs_model_meta.specs.Lists.{block_count, slot_numbers}
 use Rattle.qfs_model_meta.specs.PutRequests.{decide_close, close_complete, incomplete, first_ungranted, block_slots, file_slots, lacks_grant, slot_id}
 use Rattle.qfs_model_meta.specs.Range.{in_range}
-use Rattle.qfs_model_meta.specs.Slots.{is_of_file, slot_at, slots_of, granted_copy, sealed_slot, change_state, seal_file}
+use Rattle.qfs_model_meta.specs.Slots.{is_of_file, slots_of, granted_copy, sealed_slot, change_state, seal_file}
 use Rattle.qfs_model_meta.specs.Step.{next_turn, meta_step}
 use Rattle.qfs_model_meta.specs.TreeRows.{file_row, close_row, close_file, has_file, unclosed_file, is_unclosed_of}
 use Rattle.qfs_model_server.specs.Server.{Server}
@@ -35,11 +31,11 @@ use Rattle.qfs_model_slot.specs.Slot.{slot_of}
 use Rattle.qfs_model_world.specs.Puts.{puts_of}
 use Rattle.qfs_laws_first.specs.Standing.{content_if, entry_of}
 use Rattle.qfs_laws_first.proofs.Histories.{written-closed}
-use Rattle.qfs_laws_first.proofs.Kept.{file-kept, each_with, apart-number}
+use Rattle.qfs_laws_first.proofs.Kept.{file-kept, each_with}
 use Rattle.qfs_laws_first.proofs.MetaSteps.{AreFew, step-makes}
 use Rattle.qfs_laws_first.proofs.Reading.{IsShort, blocks_of-one}
 use Rattle.qfs_laws_first.proofs.Rows.{each_weaker}
-use Rattle.qfs_laws_first.proofs.States.{first_block, first_key, first_copy, granted_once, HasCurrent, IsFile, IsRow, Between, Target, target_row, Puts}
+use Rattle.qfs_laws_first.proofs.States.{first_block, first_copy, granted_once, HasCurrent, IsFile, IsRow, Between, Target, target_row, Puts}
 use Rattle.qfs_laws_first.proofs.Tables.{each_test, each_changed, each_append, each_map, each_range, find-none, slot_at-sealed, slot_at-unsealed, same_number}
 use Rattle.qfs_laws_first.proofs.Trees.{MayClose}
 
@@ -61,7 +57,6 @@ any-found test other f (y ∷ ys) x found passes = one (test y) refl (any-found 
         at false any = any
 
 module _ (script : Script) (servers : List Server) (m : MetaImage) (commands : ℕ) (t : Target) (p : Puts script servers m commands t 9 9) where
-
   lacks-at : (slot : ℕ) → slot < 9 → lacks_grant m.slots (record { block = first_block t.file; slot = slot }) ≡ false
   unfolding lacks_grant
   lacks-at slot below = ap (λ (r : SlotRecord). is_none r.grant) (p.grants slot below).granted
@@ -120,7 +115,9 @@ module _ (script : Script) (servers : List Server) (m : MetaImage) (commands : �
   has-current slot below =
       let g = p.grants slot below in
       record {
-        server = g.server; first = g.first; last = g.last;
+        server = g.server;
+        first = g.first;
+        last = g.last;
         current = ap (λ (r : SlotRecord). r.current) (slot_at-sealed t.file (first_block t.file) slot m.slots refl ∙ ap sealed_slot g.granted) ∙ sealed-current g.server;
         stored = g.stored below;
       }

@@ -1,7 +1,6 @@
 -- A put creates its file.
-use Rattle.std.proofs.Common.{◌≡◌, ℕ, zero, suc, ◌+◌, ◌*◌, ◌<◌, ◌≤◌, ◌==◌, ◌&&◌, Bool, true, false, List, [], ◌∷◌, ◌++◌, length, Option, Some, None, refl, sym, ap, subst, ◌∙◌, arith}
+use Rattle.std.proofs.Common.{◌≡◌, ℕ, zero, suc, ◌+◌, ◌<◌, ◌≤◌, ◌==◌, ◌&&◌, Bool, true, false, List, [], ◌∷◌, length, Option, Some, None, refl, arith}
 use Rattle.std.proofs.lemmas.Bool.{eqb-true}
-use Rattle.std.proofs.lemmas.Bool.Decides.{nat_tests}
 use Rattle.std.proofs.lemmas.List.{length-append}
 use Rattle.qfs_base.specs.NameTree.{PathNames, row_cmp, added, add_refusal}
 use Rattle.qfs_base.specs.Shape.{Shape}
@@ -18,8 +17,8 @@ use Rattle.qfs_base.specs.declared.script.Script.{Script}
 use Rattle.qfs_model_meta.specs.Apply.{write_entry, add_file, apply, apply_all}
 use Rattle.qfs_model_meta.specs.Change.{AddFile}
 use Rattle.qfs_model_meta.specs.Decide.{decide, decide_request}
-use Rattle.qfs_model_meta.specs.Decision.{Tells, Makes, refuse, unless, refuse_file}
-use Rattle.qfs_model_meta.specs.PutRequests.{decide_create, lacks_grant, slot_id}
+use Rattle.qfs_model_meta.specs.Decision.{Tells, refuse, unless, refuse_file}
+use Rattle.qfs_model_meta.specs.PutRequests.{decide_create}
 use Rattle.qfs_model_meta.specs.Range.{in_range}
 use Rattle.qfs_model_meta.specs.Slots.{same_block, is_slot, is_of_block}
 use Rattle.qfs_model_meta.specs.Step.{next_turn, meta_step}
@@ -27,10 +26,10 @@ use Rattle.qfs_model_meta.specs.TreeRows.{standing, kind_of, file_row, row_path,
 use Rattle.qfs_model_server.specs.Server.{Server}
 use Rattle.qfs_model_world.specs.Puts.{put_path, puts_of}
 use Rattle.qfs_laws_first.proofs.Histories.{written-created, created-now}
-use Rattle.qfs_laws_first.proofs.Kept.{each_with, apart-number}
+use Rattle.qfs_laws_first.proofs.Kept.{apart-number}
 use Rattle.qfs_laws_first.proofs.MetaSteps.{AreFew, step-makes, step-tells}
 use Rattle.qfs_laws_first.proofs.Rows.{each_weaker}
-use Rattle.qfs_laws_first.proofs.States.{first_block, IsRow, Steady, Between, Target, target_row, Puts}
+use Rattle.qfs_laws_first.proofs.States.{first_block, IsRow, Between, Puts}
 use Rattle.qfs_laws_first.proofs.Tables.{each_placed, find-alone, slot_at-none, grants-none, same_number}
 
 -- the state once the file is there

@@ -1,15 +1,11 @@
 -- A put is granted a server for a slot.
-use Rattle.std.proofs.Common.{◌≡◌, ℕ, zero, suc, ◌+◌, ◌*◌, ◌<◌, ◌≤◌, ◌==◌, nat_lt, ◌&&◌, Bool, true, false, List, [], ◌∷◌, ◌++◌, length, replicate, Option, Some, None, refl, sym, ap, subst, ◌∙◌, arith, inl, inr}
-use Rattle.std.proofs.lemmas.Bool.{eqb-true, cases_lt}
+use Rattle.std.proofs.Common.{◌≡◌, ℕ, ◌+◌, ◌<◌, ◌≤◌, ◌==◌, nat_lt, Bool, true, false, List, [], ◌∷◌, length, Some, None, refl, sym, ap, subst, ◌∙◌, arith, inl, inr}
+use Rattle.std.proofs.lemmas.Bool.{cases_lt}
 use Rattle.std.proofs.lemmas.Bool.Decides.{nat_tests}
-use Rattle.std.proofs.lemmas.List.{length-replicate}
 use Rattle.std.specs.Prelude.{is_none}
 use Rattle.qfs_base.specs.Layout.{rows_of}
 use Rattle.qfs_base.specs.Shape.{Shape}
-use Rattle.qfs_base.specs.Table.{Each}
-use Rattle.qfs_base.specs.declared.chunk.BlockId.{BlockId}
 use Rattle.qfs_base.specs.declared.history.Outcome.TheVariants as Ended
-use Rattle.qfs_base.specs.declared.image.Grant.{Grant}
 use Rattle.qfs_base.specs.declared.image.MetaImage.{MetaImage}
 use Rattle.qfs_base.specs.declared.image.ServerView.{ServerView}
 use Rattle.qfs_base.specs.declared.image.SlotRecord.{SlotRecord}
@@ -22,7 +18,7 @@ use Rattle.qfs_base.specs.declared.script.Script.{Script}
 use Rattle.qfs_model_meta.specs.Apply.{with_slots, grant_slot, apply, apply_all}
 use Rattle.qfs_model_meta.specs.Change.{GrantSlot}
 use Rattle.qfs_model_meta.specs.Decide.{decide, decide_request}
-use Rattle.qfs_model_meta.specs.Decision.{Decision, Makes, refuse, unless, need}
+use Rattle.qfs_model_meta.specs.Decision.{Makes, refuse, unless, need}
 use Rattle.qfs_model_meta.specs.Lists.{no_sources, block_count, new_grant}
 use Rattle.qfs_model_meta.specs.Placing.{census, choose, barred_for_put, with_live_servers}
 use Rattle.qfs_model_meta.specs.PutRequests.{taken_refusal, failed_grant, chosen_for_put, put_granted, grant_for_put, grant_after, grant_in, decide_grant, lacks_grant, slot_id}
@@ -30,15 +26,15 @@ use Rattle.qfs_model_meta.specs.Range.{in_range, is_slot_number}
 use Rattle.qfs_model_meta.specs.Servers.{server_at}
 use Rattle.qfs_model_meta.specs.Slots.{never_granted, is_slot, slot_at, grants_of_block, granted_slot, with_slot}
 use Rattle.qfs_model_meta.specs.Step.{first_server, next_turn, meta_step}
-use Rattle.qfs_model_meta.specs.TreeRows.{unclosed_file, file_row}
+use Rattle.qfs_model_meta.specs.TreeRows.{file_row}
 use Rattle.qfs_model_server.specs.Server.{Server}
 use Rattle.qfs_model_slot.specs.Slot.{slot_of}
 use Rattle.qfs_laws_first.proofs.Chosen.{IsChosen, choose-first, barred-few}
-use Rattle.qfs_laws_first.proofs.Kept.{file-kept, each_with, view-first, apart-number}
+use Rattle.qfs_laws_first.proofs.Kept.{file-kept, each_with, view-first}
 use Rattle.qfs_laws_first.proofs.MetaSteps.{AreFew, step-makes}
 use Rattle.qfs_laws_first.proofs.Reading.{IsShort, blocks_of-one}
 use Rattle.qfs_laws_first.proofs.Rows.{each_weaker}
-use Rattle.qfs_laws_first.proofs.States.{first_block, first_key, granted_once, IsGranted, IsFile, IsRow, Target, target_row, Puts}
+use Rattle.qfs_laws_first.proofs.States.{first_block, granted_once, IsGranted, IsRow, Target, target_row, Puts}
 use Rattle.qfs_laws_first.proofs.Tables.{slot_at-placed, slot_at-other, is_slot-other, is_slot-same, is_slot-kind, each_with_slot, grants-more}
 
 -- the grant of a slot on a server
@@ -60,7 +56,6 @@ granted_state m file slot server = next_turn (apply_all (GrantSlot (first_block 
 
 module _ (script : Script) (servers : List Server) (m : MetaImage) (commands : ℕ) (t : Target) (slot : ℕ)
     (p : Puts script servers m commands t slot slot) (below : slot < 9) where
-
   never : slot_at m.slots (first_block t.file) slot ≡ never_granted
   never = p.ungranted slot (omega arith)
 
@@ -157,14 +152,18 @@ module _ (script : Script) (servers : List Server) (m : MetaImage) (commands : �
         | inl less ↦
             let old = p.grants number less in
             record {
-              server = old.server; first = old.first; last = old.last;
+              server = old.server;
+              first = old.first;
+              last = old.last;
               granted = stays-other server t.file number (λ same one. omega (arith, one, less)) ∙ old.granted;
               stored = old.stored;
             }
         | inr more ↦
             let here : slot ≡ number = omega arith in
             record {
-              server = server; first = first; last = last;
+              server = server;
+              first = first;
+              last = last;
               granted = subst (λ number. slot_at (new_slots server) (first_block t.file) number ≡ granted_once server) here (granted-now server first last);
               stored = λ less. absurd (omega (arith, less, here));
             }

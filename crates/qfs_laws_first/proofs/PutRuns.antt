@@ -1,21 +1,18 @@
 -- The steps of a put, from its first one to its last.
-use Rattle.std.proofs.Common.{◌≡◌, ◌⊎◌, ℕ, zero, suc, ◌+◌, ◌*◌, ◌<◌, ◌≤◌, Bool, true, false, List, [], ◌∷◌, ◌++◌, length, Option, Some, None, refl, sym, ap, subst, ◌∙◌, arith, inl, inr, add-one}
+use Rattle.std.proofs.Common.{◌≡◌, ℕ, ◌+◌, ◌*◌, ◌<◌, ◌≤◌, false, List, [], ◌∷◌, ◌++◌, length, Option, Some, None, refl, sym, ap, subst, ◌∙◌, arith, inl, inr, add-one}
 use Rattle.std.proofs.lemmas.Bool.{cases_lt}
 use Rattle.std.proofs.lemmas.List.{append-nil, length-append}
-use Rattle.std.specs.Prelude.{slice_get, flat_map}
+use Rattle.std.specs.Prelude.{slice_get}
 use Rattle.std.specs.Option.{option_and_then, option_map}
 use Rattle.qfs_base.specs.NameTree.{PathNames, add_refusal}
-use Rattle.qfs_base.specs.Recipe.{bytes_of}
 use Rattle.qfs_base.specs.Shape.{Shape}
 use Rattle.qfs_base.specs.declared.command.Command.{Command}
 use Rattle.qfs_base.specs.declared.command.Command.TheVariants as Does
-use Rattle.qfs_base.specs.declared.command.FileCommand.{FileCommand}
 use Rattle.qfs_base.specs.declared.command.FileCommand.TheVariants as File
 use Rattle.qfs_base.specs.declared.command.Reply.TheVariants as Report
 use Rattle.qfs_base.specs.declared.history.Entry.{Entry}
 use Rattle.qfs_base.specs.declared.history.Entry.TheVariants as Wrote
 use Rattle.qfs_base.specs.declared.history.Outcome.TheVariants as Ended
-use Rattle.qfs_base.specs.declared.image.MetaImage.{MetaImage}
 use Rattle.qfs_base.specs.declared.recipe.Form.TheVariants as Of
 use Rattle.qfs_base.specs.declared.reply.ChunkAnswer.TheVariants as Did
 use Rattle.qfs_base.specs.declared.reply.MetaReply.{MetaReply}
@@ -28,10 +25,10 @@ use Rattle.qfs_base.specs.declared.request.MetaRequest.TheVariants as Ask
 use Rattle.qfs_base.specs.declared.request.NodeRequest.{NodeRequest}
 use Rattle.qfs_base.specs.declared.request.NodeRequest.TheVariants as To
 use Rattle.qfs_base.specs.declared.script.Script.{Script}
-use Rattle.qfs_model_actor.specs.Actor.{Actor, present_command, command_number, work_left}
+use Rattle.qfs_model_actor.specs.Actor.{present_command, work_left}
 use Rattle.qfs_model_actor.specs.Command.{file_work, work_of}
 use Rattle.qfs_model_actor.specs.Put.{put_work}
-use Rattle.qfs_model_actor.specs.Work.{Work, goes_on, request_in}
+use Rattle.qfs_model_actor.specs.Work.{Work, request_in}
 use Rattle.qfs_model_meta.specs.Apply.{write_entry, add_file, grant_slot, with_slots, apply, apply_all}
 use Rattle.qfs_model_meta.specs.PutRequests.{chosen_for_put}
 use Rattle.qfs_model_meta.specs.Slots.{slot_at}
@@ -47,16 +44,16 @@ use Rattle.qfs_laws_first.specs.FirstPath.{IsFirstPath}
 use Rattle.qfs_laws_first.proofs.Chosen.{IsChosen}
 use Rattle.qfs_laws_first.proofs.Gets.{put-refused-there, between-later}
 use Rattle.qfs_laws_first.proofs.Histories.{slice_get-last}
-use Rattle.qfs_laws_first.proofs.Moves.{heard_more, ended_so, work_left-heard, work_left-next, meta_goes_on, meta_ends, chunk_goes_on, event-here}
+use Rattle.qfs_laws_first.proofs.Moves.{work_left-heard, work_left-next, meta_goes_on, meta_ends, chunk_goes_on, event-here}
 use Rattle.qfs_laws_first.proofs.PutCloses.{closed_state, close-served, put-closed}
 use Rattle.qfs_laws_first.proofs.PutCreates.{created_state, create-refused, create-made, create-few, put-created}
 use Rattle.qfs_laws_first.proofs.PutGrants.{grant_on, granted_state, grant-served, grant-chosen, granted-now, put-granted}
 use Rattle.qfs_laws_first.proofs.PutStores.{none-stored, put-stored}
 use Rattle.qfs_laws_first.proofs.Reading.{IsShort}
-use Rattle.qfs_laws_first.proofs.Reports.{HasPlace, IsGood, borne-more, no-release, place-here, placed-at, place-of-refused, place-of-stored}
+use Rattle.qfs_laws_first.proofs.Reports.{IsGood, borne-more, no-release, place-here, placed-at, place-of-refused, place-of-stored}
 use Rattle.qfs_laws_first.proofs.Runs.{Granting, Storing, Run, Next, goes-on-to, ends-with}
 use Rattle.qfs_laws_first.proofs.Servers.{IsUp, with_copy, put-stores}
-use Rattle.qfs_laws_first.proofs.States.{first_block, first_key, granted_once, Between, Target, Puts}
+use Rattle.qfs_laws_first.proofs.States.{first_block, first_key, granted_once, Between, Puts}
 use Rattle.qfs_laws_first.proofs.Works.{at_slot, at_store, put-asks, put-refused, put-goes_on, slot-asks, slot-goes_on, store-asks, store-goes_on, close-asks, close-ends}
 
 -- ---- the commands of the script
@@ -100,7 +97,6 @@ slot-asks-some layout bytes file slot within =
     ]
 
 module _ (script : Script) (commands : List Command) (steps : List Event) (w : World) (first_path : IsFirstPath script commands) (r : Run script commands steps w) where
-
   -- the number of the present command's steps' history
   abbrev c : ℕ
   c = length r.actor.ended
@@ -114,7 +110,6 @@ module _ (script : Script) (commands : List Command) (steps : List Event) (w : W
       (present : present_command r.actor ≡ Some (Does.File (File.Put path (Of.Hex bytes))))
       (is : command_of script 1 (c + 1) ≡ Some (Does.File (File.Put path (Of.Hex bytes))))
       (few : c ≤ 4096) (some : 1 ≤ length bytes) (most : length bytes ≤ 32) where
-
     abbrev request : NodeRequest
     request = To.Meta (Ask.Create path (c + 1) (length bytes))
 
@@ -287,7 +282,6 @@ module _ (script : Script) (commands : List Command) (steps : List Event) (w : W
 
   module _ (g : Granting script w.servers w.meta r.actor) (p : Puts script w.servers w.meta c g.t 9 9)
       (left : work_left r.actor ≡ Some (at_slot script.layout g.t.bytes g.t.file 9)) where
-
     abbrev close_request : NodeRequest
     close_request = To.Meta (Ask.Close g.t.file)
 

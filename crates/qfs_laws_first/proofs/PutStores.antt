@@ -1,5 +1,5 @@
 -- A put stores a slot on the server of its grant.
-use Rattle.std.proofs.Common.{◌≡◌, ℕ, zero, suc, ◌+◌, ◌*◌, ◌<◌, ◌≤◌, ◌==◌, Bool, true, false, List, [], ◌∷◌, ◌++◌, length, Option, Some, None, refl, sym, ap, subst, ◌∙◌, arith, inl, inr}
+use Rattle.std.proofs.Common.{◌≡◌, ℕ, ◌+◌, ◌<◌, ◌≤◌, ◌==◌, true, false, List, Some, None, refl, sym, ap, subst, ◌∙◌, arith, inl, inr}
 use Rattle.std.proofs.lemmas.Bool.{cases_lt}
 use Rattle.std.proofs.lemmas.Bool.Decides.{nat_tests}
 use Rattle.qfs_base.specs.declared.chunk.ChunkKey.{ChunkKey}
@@ -15,7 +15,7 @@ use Rattle.qfs_model_server.specs.Server.{Server}
 use Rattle.qfs_model_slot.specs.Slot.{slot_of}
 use Rattle.qfs_model_world.specs.World.{numbered, renumbered}
 use Rattle.qfs_laws_first.proofs.Kept.{file-kept, each_with}
-use Rattle.qfs_laws_first.proofs.Servers.{AreUp, with_copy, stored_at, stored-own, stored-other, are_up-changed}
+use Rattle.qfs_laws_first.proofs.Servers.{with_copy, stored_at, stored-own, stored-other, are_up-changed}
 use Rattle.qfs_laws_first.proofs.States.{first_block, first_key, granted_once, IsGranted, IsRow, Target, target_row, Puts}
 
 -- keys of different files, or of different slots
@@ -29,7 +29,6 @@ module _ (script : Script) (servers : List Server) (m : MetaImage) (commands : �
     (p : Puts script servers m commands t (slot + 1) slot) (server : ℕ) (first : 1 ≤ server) (last : server ≤ script.servers)
     (granted : slot_at m.slots (first_block t.file) slot ≡ granted_once server) (before : Server) (there : numbered servers server ≡ Some before)
     (up : before.up ≡ true) (life : before.life ≡ 1) where
-
   abbrev bytes_here : List ℕ
   bytes_here = slot_of script.layout t.bytes 0 slot
 
@@ -67,7 +66,9 @@ module _ (script : Script) (servers : List Server) (m : MetaImage) (commands : �
         | inl less ↦
             let old = p.grants number (omega (arith, less)) in
             record {
-              server = old.server; first = old.first; last = old.last;
+              server = old.server;
+              first = old.first;
+              last = old.last;
               granted = old.granted;
               stored = λ more. stays old.server (first_key t.file number) (apart_slots t.file slot number (λ same. omega (arith, same, less))) ∙ old.stored less;
             }
@@ -75,7 +76,9 @@ module _ (script : Script) (servers : List Server) (m : MetaImage) (commands : �
             let here : slot ≡ number = omega arith in
             subst (λ number. IsGranted script.servers new_servers m.slots t.file number (slot_of script.layout t.bytes 0 number) (number < slot + 1)) here
             (record {
-              server = server; first = first; last = last;
+              server = server;
+              first = first;
+              last = last;
               granted = granted;
               stored = λ more. stored-own servers server before (first_key t.file slot) bytes_here there;
             })

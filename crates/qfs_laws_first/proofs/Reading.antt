@@ -1,10 +1,9 @@
 -- The row of a get of a file of at most one row: its six stripes, and the bytes that they give.
-use Rattle.std.proofs.Common.{inl, inr, ◌≡◌, ◌∙◌, sym, ap, subst, refl, arith, ℕ, zero, suc, ◌+◌, ◌*◌, ◌/◌, ◌%◌, ◌-◌, ◌<◌, ◌≤◌, ◌==◌, nat_lt, min, Bool, true, false, Option, Some, None, Ok, Err, List, [], ◌∷◌, ◌++◌, length, take, drop, map, replicate, get_or, slice_index, append_assoc}
-use Rattle.std.specs.Prelude.{slice_get, slice_set}
+use Rattle.std.proofs.Common.{inl, inr, ◌≡◌, ◌∙◌, sym, ap, subst, refl, arith, ℕ, zero, suc, ◌+◌, ◌*◌, ◌/◌, ◌%◌, ◌<◌, ◌≤◌, nat_lt, min, true, List, [], ◌∷◌, ◌++◌, length, take, drop, map, slice_index}
 use Rattle.std.proofs.Math.Nat.{zero-mul, zero-div, sub-zero, div-eq_of_lt, mod-eq_of_lt, mod_self, div-eq_of_eq-mul_left, eq-or-lt_of_le}
 use Rattle.std.proofs.Math.Seq.{take-length}
 use Rattle.std.proofs.lemmas.Bool.Decides.{nat_tests}
-use Rattle.std.proofs.lemmas.Grind.{common_steps, same_number_lists}
+use Rattle.std.proofs.lemmas.Grind.{same_number_lists}
 use Rattle.std.proofs.lemmas.List.{append-nil}
 use Rattle.std.proofs.lemmas.List.FromFn.{length-map-range_with_len, get_or-map-range_with_len, take-map-range_with_len}
 use Rattle.std.specs.Int.{div_ceil}
@@ -214,6 +213,11 @@ pub row-kept : (layout : Shape) (bytes : List ℕ) → IsShort layout (length by
 unfolding cut_to_range window_offset rows_of_file
 row-kept layout bytes short =
     let none : 0 * block_bytes layout.s layout.r + 0 * row_bytes layout.s ≡ 0 = omega arith in
-    rw (none, data_of-six layout bytes, row_of-stripes layout.s (stripes_of layout bytes) (stripes-long layout bytes short (range_with_len 0 6)),
-        append-nil (flat_map (λ piece. piece) (stripes_of layout bytes)), sub-zero (length bytes))
+    rw (
+      none,
+      data_of-six layout bytes,
+      row_of-stripes layout.s (stripes_of layout bytes) (stripes-long layout bytes short (range_with_len 0 6)),
+      append-nil (flat_map (λ piece. piece) (stripes_of layout bytes)),
+      sub-zero (length bytes),
+    )
     (bytes-joined layout bytes short)

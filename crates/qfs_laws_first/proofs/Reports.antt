@@ -1,10 +1,9 @@
 -- The replies of an actor so far: what each of them says of the history, and that it was placed in a step of its command.
-use Rattle.std.proofs.Common.{◌≡◌, ℕ, zero, suc, ◌+◌, ◌<◌, ◌≤◌, ◌==◌, ◌&&◌, ◌||◌, Bool, true, false, List, [], ◌∷◌, ◌++◌, length, filter, Option, Some, None, refl, sym, ap, subst, ◌∙◌, arith, add-one}
-use Rattle.std.proofs.lemmas.Bool.Decides.{nat_tests}
+use Rattle.std.proofs.Common.{◌≡◌, ℕ, zero, suc, ◌+◌, ◌≤◌, ◌==◌, ◌||◌, Bool, true, false, List, [], ◌∷◌, ◌++◌, length, filter, Option, Some, None, refl, ap, subst, ◌∙◌, arith, add-one}
 use Rattle.std.proofs.lemmas.List.{length-append}
 use Rattle.std.proofs.lemmas.List.Elements.{filter-append}
 use Rattle.std.proofs.lemmas.List.Folds.{list_any-append}
-use Rattle.std.specs.Prelude.{⊤, IsTrue, IfSome, slice_get}
+use Rattle.std.specs.Prelude.{IsTrue, IfSome}
 use Rattle.std.specs.List.{list_any, enumerate_from}
 use Rattle.qfs_base.specs.FileReplies.{reply_at}
 use Rattle.qfs_base.specs.Table.{Each}
@@ -22,7 +21,6 @@ use Rattle.qfs_model_world.specs.Agrees.{AgreesStored, place_of_report}
 use Rattle.qfs_model_world.specs.Events.{Event, event_asking, place_before, is_step_of, steps_of}
 use Rattle.qfs_model_world.specs.EveryGet.{is_release}
 use Rattle.qfs_model_world.specs.Puts.{command_of, puts_of}
-use Rattle.qfs_model_world.specs.Reports.{IsPlaced}
 use Rattle.qfs_model_world.specs.World.{World, numbered}
 use Rattle.qfs_model_world.proofs.OneActor.{done_step}
 use Rattle.qfs_laws_first.proofs.Histories.{reply_at-more, slice_get-more, slice_get-last}
@@ -51,9 +49,10 @@ pub record IsGood (script : Script) (steps : List Event) (history : List Entry) 
 
 pub borne-more : (script : Script) (history more : List Entry) (number : ℕ) (command : FileCommand) (report : Report) → IsBorneOut script history number command report
     → IsBorneOut script (history ++ more) number command report
-borne-more script history more number command (Says.Stored place len) h =
-    (omega (arith, h.0, length-append history more),
-      record { file = h.1.file; written = slice_get-more history more place _ h.1.written; length_is = h.1.length_is })
+borne-more script history more number command (Says.Stored place len) h = (
+  omega (arith, h.0, length-append history more),
+  record { file = h.1.file; written = slice_get-more history more place _ h.1.written; length_is = h.1.length_is },
+)
 borne-more script history more number command (Says.Read place bytes) h =
     (omega (arith, h.0, length-append history more), reply_at-more (puts_of script) history more place command h.0 ∙ h.1)
 borne-more script history more number command (Says.Refused place refusal) h =

@@ -1,5 +1,5 @@
 -- The world of the first path at each step: where its actor is, and what holds there.
-use Rattle.std.proofs.Common.{◌≡◌, ◌⊎◌, ℕ, zero, suc, ◌+◌, ◌<◌, ◌≤◌, ◌==◌, Bool, true, false, List, [], ◌∷◌, ◌++◌, length, Option, Some, None, Ok, refl, sym, ap, subst, ◌∙◌, arith, inl, inr}
+use Rattle.std.proofs.Common.{◌≡◌, ◌⊎◌, ℕ, ◌+◌, ◌<◌, ◌≤◌, false, List, [], ◌∷◌, ◌++◌, length, Some, None, Ok, refl, sym, ap, subst, ◌∙◌, inl, inr}
 use Rattle.std.proofs.lemmas.List.{length-append}
 use Rattle.std.specs.Prelude.{slice_get}
 use Rattle.std.specs.Option.{option_and_then}
@@ -133,7 +133,6 @@ ended-long ended report = length-append ended (report ∷ [])
 
 module _ (script : Script) (commands : List Command) (steps : List Event) (w : World) (r : Run script commands steps w) (request : NodeRequest)
     (listed : event_in w done_step ≡ Some (event_asking w done_step r.actor request)) where
-
   abbrev this_step : Event
   this_step = event_asking w done_step r.actor request
 
@@ -143,17 +142,21 @@ module _ (script : Script) (commands : List Command) (steps : List Event) (w : W
       → move w done_step ≡ record w { meta = m; servers = servers; actors = heard_more r.actor reply ∷ [] }
       → Stage script (steps ++ this_step ∷ []) servers m (heard_more r.actor reply) → Next script commands steps w
   goes-on-to servers m reply more written none moved stage =
-      inr (this_step, listed, subst (Run script commands (steps ++ this_step ∷ [])) (sym moved) (record {
-        actor = heard_more r.actor reply;
-        layout = r.layout;
-        alone = refl;
-        number = r.number;
-        own_layout = r.own_layout;
-        own_commands = r.own_commands;
-        so_far = subst (λ history. SoFar script (steps ++ this_step ∷ []) history r.actor.ended) (sym written)
-            (so-far-more script steps w.meta.history more r.actor.ended this_step r.so_far none);
-        stage = stage;
-      }))
+      inr (
+        this_step,
+        listed,
+        subst (Run script commands (steps ++ this_step ∷ [])) (sym moved) (record {
+          actor = heard_more r.actor reply;
+          layout = r.layout;
+          alone = refl;
+          number = r.number;
+          own_layout = r.own_layout;
+          own_commands = r.own_commands;
+          so_far = subst (λ history. SoFar script (steps ++ this_step ∷ []) history r.actor.ended) (sym written)
+              (so-far-more script steps w.meta.history more r.actor.ended this_step r.so_far none);
+          stage = stage;
+        }),
+      )
 
   -- the command has ended
   pub ends-with : (m : MetaImage) (report : Report) (more : List Entry) → m.history ≡ w.meta.history ++ more
@@ -162,17 +165,21 @@ module _ (script : Script) (commands : List Command) (steps : List Event) (w : W
       → ReadsWhereReleased (r.actor.ended ++ report ∷ []) this_step
       → Between script w.servers m (length r.actor.ended + 1) → Next script commands steps w
   ends-with m report more written moved good release between =
-      inr (this_step, listed, subst (Run script commands (steps ++ this_step ∷ [])) (sym moved) (record {
-        actor = ended_so r.actor report;
-        layout = r.layout;
-        alone = refl;
-        number = r.number;
-        own_layout = r.own_layout;
-        own_commands = r.own_commands;
-        so_far = subst (λ history. SoFar script (steps ++ this_step ∷ []) history (r.actor.ended ++ report ∷ [])) (sym written)
-            (so-far-ended script steps w.meta.history more r.actor.ended this_step report r.so_far good release);
-        stage = inl (record {
-          silent = refl;
-          between = subst (Between script w.servers m) (sym (ended-long r.actor.ended report)) between;
-        });
-      }))
+      inr (
+        this_step,
+        listed,
+        subst (Run script commands (steps ++ this_step ∷ [])) (sym moved) (record {
+          actor = ended_so r.actor report;
+          layout = r.layout;
+          alone = refl;
+          number = r.number;
+          own_layout = r.own_layout;
+          own_commands = r.own_commands;
+          so_far = subst (λ history. SoFar script (steps ++ this_step ∷ []) history (r.actor.ended ++ report ∷ [])) (sym written)
+              (so-far-ended script steps w.meta.history more r.actor.ended this_step report r.so_far good release);
+          stage = inl (record {
+            silent = refl;
+            between = subst (Between script w.servers m) (sym (ended-long r.actor.ended report)) between;
+          });
+        }),
+      )

@@ -1,23 +1,23 @@
 -- The chunk servers of a world by number: what a Put or a Fetch leaves on each of them.
-use Rattle.std.proofs.Common.{◌≡◌, ℕ, zero, suc, ◌+◌, ◌*◌, ◌-◌, ◌<◌, ◌≤◌, ◌==◌, nat_le, Bool, true, false, cond, not, ◌&&◌, List, [], ◌∷◌, ◌++◌, length, take, drop, replicate, Option, Some, None, unwrap_or, refl, sym, ap, subst, ◌∙◌, arith}
+use Rattle.std.proofs.Common.{◌≡◌, ℕ, zero, suc, ◌+◌, ◌≤◌, ◌==◌, nat_le, Bool, true, false, cond, List, [], ◌∷◌, length, take, drop, replicate, Option, Some, None, unwrap_or, refl, sym, ap, subst, ◌∙◌, arith}
 use Rattle.std.proofs.Math.Seq.{take-length}
 use Rattle.std.proofs.lemmas.List.{length-replicate}
 use Rattle.std.proofs.lemmas.Bool.{eqb-true}
 use Rattle.std.proofs.lemmas.Bool.Decides.{nat_tests}
-use Rattle.std.specs.Prelude.{slice_get, slice_set, is_some}
-use Rattle.std.specs.Cmp.{IsTotalOrder, tied_itself}
+use Rattle.std.specs.Prelude.{slice_get, slice_set}
+use Rattle.std.specs.Cmp.{tied_itself}
 use Rattle.std.specs.Ordering.{is_eq, eq_by_cmp}
 use Rattle.std.specs.declared.cmp.Ordering.TheVariants.{Less, Equal, Greater}
 use Rattle.std.specs.Option.{option_and_then}
 use Rattle.qfs_base.specs.Key.{key_cmp}
 use Rattle.qfs_base.specs.KeyLaws.{key_cmp_total, key_cmp-Equal}
-use Rattle.qfs_base.specs.KeyMap.{value_at, has_key, with_entry}
+use Rattle.qfs_base.specs.KeyMap.{value_at, with_entry}
 use Rattle.qfs_base.specs.KeyMapLaws.{value_at-with_entry}
 use Rattle.qfs_base.specs.declared.chunk.ChunkKey.{ChunkKey}
 use Rattle.qfs_base.specs.declared.history.Outcome.TheVariants as Ended
 use Rattle.qfs_base.specs.declared.reply.ChunkAnswer.TheVariants as Answer
 use Rattle.qfs_base.specs.declared.request.ChunkRequest.TheVariants as Serve
-use Rattle.qfs_model_server.specs.Server.{Server, fresh_server, has_range, unless_away, chunk_refusal, room_of, chunk_served, chunk_attempted, chunk_decided, server_step}
+use Rattle.qfs_model_server.specs.Server.{Server, has_range, unless_away, chunk_refusal, chunk_served, chunk_attempted, chunk_decided, server_step}
 use Rattle.qfs_model_world.specs.World.{numbered, renumbered}
 
 -- ---- what stands at a number

@@ -1,20 +1,18 @@
 -- The name tree of the metaserver, and the files of the history: a tree of files that a history gives follows the same rules.
-use Rattle.std.proofs.Common.{◌≡◌, ℕ, zero, suc, ◌+◌, ◌*◌, ◌-◌, ◌<◌, ◌≤◌, ◌==◌, Bool, true, false, cond, not, ◌&&◌, List, [], ◌∷◌, ◌++◌, length, map, filter, find, Option, Some, None, refl, sym, ap, subst, ◌∙◌, arith}
+use Rattle.std.proofs.Common.{◌≡◌, ℕ, zero, suc, ◌≤◌, ◌==◌, Bool, true, false, cond, not, ◌&&◌, List, [], ◌∷◌, map, find, Option, Some, None, refl, sym, ap, subst, ◌∙◌, arith}
 use Rattle.std.proofs.lemmas.Bool.{eqb-true}
-use Rattle.std.proofs.lemmas.Bool.Decides.{nat_tests}
 use Rattle.std.specs.Option.{option_map, option_map_or, option_or}
 use Rattle.std.specs.declared.cmp.Ordering.{Ordering}
 use Rattle.std.specs.declared.cmp.Ordering.TheVariants.{Less, Equal, Greater}
 use Rattle.qfs_base.specs.FileReplies.{bytes_of_content, bytes_at}
-use Rattle.qfs_base.specs.Files.{Puts, Content, FileEntry, IsDirectory, IsUnclosed, IsClosed, kind_of_content, files_standing, is_unclosed_content, is_unclosed_entry, entry_path, close_entry}
-use Rattle.qfs_base.specs.NameTree.{PathNames, Standing, kind_at, stands_at, path_eq, row_cmp, added, parents_refusal, file_refusal, look_refusal}
-use Rattle.qfs_base.specs.Table.{Each, place, place_before, change_row, change_where}
+use Rattle.qfs_base.specs.Files.{Puts, FileEntry, kind_of_content, files_standing, is_unclosed_content, is_unclosed_entry, entry_path, close_entry}
+use Rattle.qfs_base.specs.NameTree.{PathNames, Standing, kind_at, stands_at, path_eq, row_cmp, added, file_refusal, look_refusal}
+use Rattle.qfs_base.specs.Table.{Each, place, change_row, change_where}
 use Rattle.qfs_base.specs.declared.image.TreeRow.{TreeRow}
-use Rattle.qfs_base.specs.declared.lists.NameKind.{NameKind}
 use Rattle.qfs_base.specs.declared.lists.NameKind.TheVariants as Is
 use Rattle.qfs_base.specs.declared.reply.TreeRefusal.{TreeRefusal}
 use Rattle.qfs_base.specs.declared.reply.TreeRefusal.TheVariants as Not
-use Rattle.qfs_model_meta.specs.TreeRows.{kind_of, standing, file_row, row_path, row_at, has_file, close_row, add_row, close_file, is_closed_row}
+use Rattle.qfs_model_meta.specs.TreeRows.{kind_of, standing, row_path, has_file, close_row, add_row, close_file}
 use Rattle.qfs_laws_first.specs.Standing.{content_if, entry_of}
 
 -- ---- what stands in the tree

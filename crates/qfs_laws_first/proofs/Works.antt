@@ -1,6 +1,6 @@
 -- What is left of a put and of a get at their stages, and what they ask there.
-use Rattle.std.proofs.Common.{inl, inr, ◌≡◌, ◌∙◌, refl, sym, ap, subst, arith, ℕ, zero, suc, ◌+◌, ◌-◌, ◌*◌, ◌<◌, ◌≤◌, ◌==◌, nat_lt, nat_le, ◌&&◌, min, Bool, true, false, Option, Some, None, Ok, Err, List, [], ◌∷◌, ◌++◌, length, replicate, unwrap_or}
-use Rattle.std.proofs.Math.Nat.{zero-mul, sub-zero}
+use Rattle.std.proofs.Common.{◌≡◌, ◌∙◌, refl, sym, ap, arith, ℕ, suc, ◌+◌, ◌-◌, ◌*◌, ◌<◌, ◌≤◌, ◌==◌, nat_lt, nat_le, min, true, false, Option, Some, None, Ok, Err, List, [], ◌∷◌, ◌++◌, length, replicate}
+use Rattle.std.proofs.Math.Nat.{zero-mul}
 use Rattle.std.specs.Prelude.{slice_get, slice_set}
 use Rattle.std.specs.List.{range_with_len}
 use Rattle.std.proofs.lemmas.Bool.Decides.{nat_tests}
@@ -22,17 +22,17 @@ use Rattle.qfs_base.specs.declared.request.MetaRequest.TheVariants as Ask
 use Rattle.qfs_base.specs.declared.request.NodeRequest.TheVariants as To
 use Rattle.qfs_model_slot.specs.Slot.{slot_of}
 use Rattle.qfs_model_actor.specs.Ask.{ask, on_served, on_chunk, ask_server, after_store, after_fetch, filled, fetch}
-use Rattle.qfs_model_actor.specs.Get.{MOST_BYTES, reading_of, listed_in, read_blocks, read_if_any, read_range, read_if_whole, is_whole, range_of, was_opened, get_work}
+use Rattle.qfs_model_actor.specs.Get.{reading_of, listed_in, read_blocks, read_if_any, read_range, read_if_whole, is_whole, range_of, was_opened, get_work}
 use Rattle.qfs_model_actor.specs.Grants.{is_grant_of, if_meant, with_grant_of}
-use Rattle.qfs_model_actor.specs.Hold.{opened, unclosed, nothing, on_answer, on_meta, ask_or, was_released, give_back, end_with}
+use Rattle.qfs_model_actor.specs.Hold.{opened, on_answer, on_meta, ask_or, was_released, give_back, end_with}
 use Rattle.qfs_model_actor.specs.Pieces.{Piece}
-use Rattle.qfs_model_actor.specs.Put.{slots_from, blocks_from, chosen, ask_grant, store, store_slot, store_slots, store_blocks, closed, close_file, put_blocks_from, created, put_work}
-use Rattle.qfs_model_actor.specs.Read.{Source, Reading, source_of_listed, sources_of, are_too_few, with_enough, go_on_or_stop, at_source, read_slots, read_windows, read_block}
+use Rattle.qfs_model_actor.specs.Put.{slots_from, chosen, ask_grant, store, store_slot, store_slots, store_blocks, closed, close_file, put_blocks_from, created, put_work}
+use Rattle.qfs_model_actor.specs.Read.{Source, source_of_listed, sources_of, are_too_few, with_enough, go_on_or_stop, at_source, read_slots, read_windows, read_block}
 use Rattle.qfs_model_actor.specs.Tree.{refused}
-use Rattle.qfs_model_actor.specs.Work.{Work, ends, asks, goes_on, request_in, for_each}
+use Rattle.qfs_model_actor.specs.Work.{Work, ends, goes_on, request_in, for_each}
 use Rattle.qfs_laws_first.proofs.PutGrants.{grant_on}
-use Rattle.qfs_laws_first.proofs.Reading.{IsShort, blocks_of-one, blocks_touched-one, windows_touched-one, first_row, piece, pieces_to, pieces_to-more, row-kept, slot_long}
-use Rattle.qfs_laws_first.proofs.States.{first_block, first_key, first_copy}
+use Rattle.qfs_laws_first.proofs.Reading.{IsShort, blocks_of-one, blocks_touched-one, windows_touched-one, first_row, pieces_to, pieces_to-more, row-kept}
+use Rattle.qfs_laws_first.proofs.States.{first_key, first_copy}
 
 -- ---- a put
 
@@ -165,7 +165,6 @@ get-goes_on layout path o bytes short few one listed =
 
 module _ (layout : Shape) (o : Opened) (sources : List Source) (bytes : List ℕ) (slot server : ℕ)
     (below : slot < 6) (listed : slice_get sources slot ≡ Some (Ok (first_copy server))) where
-
   -- what is left once the slot is fetched
   abbrev fetched : List ℕ → Work
   fetched room =
