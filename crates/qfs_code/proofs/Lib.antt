@@ -1,9 +1,10 @@
 mod Dot
 mod Columns
+mod Parity
 mod Spares
 mod Counts
 mod LeftOut
 mod Words
 mod WantedSlot
-mod Restoring
+pub mod Restoring
 mod Encoding

@@ -9,11 +9,12 @@ use Rattle.qfs_base.specs.declared.lists.SlotCause.{SlotCause}
 use Rattle.qfs_base.specs.declared.reply.MetaReply.{MetaReply}
 use Rattle.qfs_base.specs.declared.reply.MetaReply.TheVariants as Said
 use Rattle.qfs_base.specs.declared.reply.Opened.{Opened}
-use Rattle.qfs_model_slot.specs.CodeWord.{DATA_SLOTS, all_slots}
+use Rattle.qfs_base.specs.Mask.{all_slots}
+use Rattle.qfs_model_slot.specs.CodeWord.{DATA_SLOTS}
 use Rattle.qfs_model_actor.specs.Work.{Work}
 use Rattle.qfs_model_actor.specs.Hold.{nothing, opened}
 use Rattle.qfs_model_actor.specs.Pieces.{Piece}
-use Rattle.qfs_model_actor.specs.Windows.{blocks_touched, windows_touched}
+use Rattle.qfs_base.specs.Layout.{blocks_touched, windows_touched}
 use Rattle.qfs_model_actor.specs.Read.{Source, Reading, go_on_or_stop, with_enough, are_too_few, at_source, read_slots, read_windows, read_block, sources_of}
 use Rattle.qfs_model_actor.specs.Get.{reading_of, listed_in, read_blocks, read_if_any, read_range, read_if_whole, is_whole, was_opened, range_of, get_work}
 use Rattle.qfs_laws_first.specs.Asks.{AsksOfFiles}
@@ -71,11 +72,11 @@ unfolding read_blocks reading_of
 read_blocks-asks layout o from to [] got = end_with-asks (opened o.lease) tt _
 read_blocks-asks layout o from to (k ∷ ks) got =
     read_block-asks (reading_of layout o from to k) tt (λ causes. end_with-asks (opened o.lease) tt _)
-    (windows_touched layout from to k) (listed_in o k) got _ (λ more. read_blocks-asks layout o from to ks more)
+    (windows_touched layout.s layout.r from to k) (listed_in o k) got _ (λ more. read_blocks-asks layout o from to ks more)
 
 read_if_any-asks : (layout : Shape) (o : Opened) (from to : ℕ) (b : Bool) → AsksOfFiles (read_if_any layout o from to b)
 unfolding read_if_any
-read_if_any-asks layout o from to true = read_blocks-asks layout o from to (blocks_touched layout from to) []
+read_if_any-asks layout o from to true = read_blocks-asks layout o from to (blocks_touched layout.s layout.r from to) []
 read_if_any-asks layout o from to false = end_with-asks (opened o.lease) tt _
 
 read_if_whole-asks : (layout : Shape) (range : Range) (o : Opened) (b : Bool) → AsksOfFiles (read_if_whole layout range o b)

@@ -4,7 +4,7 @@ use Rattle.qfs_base.specs.Shape.{Shape}
 use Rattle.qfs_base.specs.declared.reply.Granted.{Granted}
 use Rattle.qfs_base.specs.declared.reply.MetaReply.{MetaReply}
 use Rattle.qfs_base.specs.declared.reply.MetaReply.TheVariants as Said
-use Rattle.qfs_model_slot.specs.CodeWord.{all_slots}
+use Rattle.qfs_base.specs.Mask.{all_slots}
 use Rattle.qfs_model_actor.specs.Work.{Work}
 use Rattle.qfs_model_actor.specs.Hold.{nothing, unclosed}
 use Rattle.qfs_model_actor.specs.Grants.{if_meant, with_grant_of}

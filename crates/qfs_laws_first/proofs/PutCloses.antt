@@ -20,7 +20,8 @@ use Rattle.qfs_model_meta.specs.Apply.{write_entry, with_slots, apply, apply_all
 use Rattle.qfs_model_meta.specs.Change.{CloseFile}
 use Rattle.qfs_model_meta.specs.Decide.{decide, decide_request}
 use Rattle.qfs_model_meta.specs.Decision.{Makes, refuse, unless, need}
-use Rattle.qfs_model_meta.specs.Lists.{block_count, slot_numbers}
+use Rattle.qfs_base.specs.Mask.{all_slots}
+use Rattle.qfs_model_meta.specs.Lists.{block_count}
 use Rattle.qfs_model_meta.specs.PutRequests.{decide_close, close_complete, incomplete, first_ungranted, block_slots, file_slots, lacks_grant, slot_id}
 use Rattle.qfs_model_meta.specs.Range.{in_range}
 use Rattle.qfs_model_meta.specs.Slots.{is_of_file, slots_of, granted_copy, sealed_slot, change_state, seal_file}
@@ -69,10 +70,10 @@ module _ (script : Script) (servers : List Server) (m : MetaImage) (commands : �
   unfolding first_ungranted file_slots block_slots slots_of
   all-granted layout short =
       let id : ℕ → SlotId = λ slot. record { block = first_block t.file; slot = slot } in
-      let ids : List SlotId = map id slot_numbers in
+      let ids : List SlotId = map id all_slots in
       let more : List SlotId = map slot_id (filter (is_of_file t.file) m.slots) in
       let Granted : SlotId → Type 0 = λ id. lacks_grant m.slots id ≡ false in
-      let in_block : Each Granted ids = each_map Granted id slot_numbers (each_range (λ slot. Granted (id slot)) 0 9 (λ slot above below. lacks-at slot (omega (arith, below)))) in
+      let in_block : Each Granted ids = each_map Granted id all_slots (each_range (λ slot. Granted (id slot)) 0 9 (λ slot above below. lacks-at slot (omega (arith, below)))) in
       let in_table : Each Granted more =
       each_map Granted slot_id (filter (is_of_file t.file) m.slots)
       (each_weaker _ _ (filter (is_of_file t.file) m.slots) (λ (row : SlotRow) both. of-file row both.0 both.1)

@@ -8,12 +8,12 @@ use Rattle.std.proofs.lemmas.List.{append-nil}
 use Rattle.std.proofs.lemmas.List.FromFn.{length-map-range_with_len, get_or-map-range_with_len, take-map-range_with_len}
 use Rattle.std.specs.Int.{div_ceil}
 use Rattle.std.specs.List.{All, flat_map, range_with_len}
-use Rattle.qfs_base.specs.Layout.{row_bytes, block_bytes, rows_of, blocks_of}
+use Rattle.qfs_base.specs.Layout.{row_bytes, block_bytes, rows_of, blocks_of, blocks_touched, windows_touched}
 use Rattle.qfs_base.specs.Shape.{Shape}
 use Rattle.qfs_base.specs.declared.layout.Window.{Window}
 use Rattle.qfs_model_slot.specs.Slot.{data_byte, byte_of_kind, slot_byte, slot_of}
 use Rattle.qfs_model_actor.specs.Pieces.{Piece, piece_of, given_or_restored, data_of, row_of, rows_of_file}
-use Rattle.qfs_model_actor.specs.Windows.{window_at, windows_of_rows, blocks_touched, windows_touched, window_offset, cut_to_range}
+use Rattle.qfs_model_actor.specs.Windows.{window_offset, cut_to_range}
 
 -- ---- one row
 
@@ -50,8 +50,7 @@ rows_of-one layout len short =
     let all : min len (block_bytes layout.s layout.r) ≡ len = omega arith in
     rw (none, sub-zero len, all) (div_ceil-one len (row_bytes layout.s) short.some short.most)
 
-pub blocks_touched-one : (layout : Shape) (len : ℕ) → IsShort layout len → blocks_touched layout 0 len ≡ 0 ∷ []
-unfolding blocks_touched
+pub blocks_touched-one : (layout : Shape) (len : ℕ) → IsShort layout len → blocks_touched layout.s layout.r 0 len ≡ 0 ∷ []
 blocks_touched-one layout len short =
     rw (zero-div (block_bytes layout.s layout.r), blocks_of-one layout len short) refl
 
@@ -59,8 +58,7 @@ blocks_touched-one layout len short =
 abbrev pub first_row : Window
 first_row = record { index = 0; first_row = 0; rows = 1 }
 
-pub windows_touched-one : (layout : Shape) (len : ℕ) → IsShort layout len → windows_touched layout 0 len 0 ≡ first_row ∷ []
-unfolding windows_touched windows_of_rows window_at
+pub windows_touched-one : (layout : Shape) (len : ℕ) → IsShort layout len → windows_touched layout.s layout.r 0 len 0 ≡ first_row ∷ []
 windows_touched-one layout len short =
     let none : 0 * block_bytes layout.s layout.r ≡ 0 = zero-mul (block_bytes layout.s layout.r) in
     let inside : len ≤ block_bytes layout.s layout.r = inside_block layout.s layout.r len short.most short.rows in

@@ -1,5 +1,7 @@
 -- The changes of the metaserver's state. A request that isn't refused makes a few of them, one after
--- another; between two of them the state is sound too.
+-- another. Each is meant to leave the lists of the state fitting together as those of an image do. What
+-- the state owes to its actors holds again only behind the last one, when the reply has been told: a
+-- lease that was just given, say, is one that nobody knows of yet.
 use Rattle.std.specs.Prelude.{ℕ}
 use Rattle.qfs_base.specs.declared.chunk.BlockId.{BlockId}
 use Rattle.qfs_base.specs.declared.chunk.ChunkKey.{ChunkKey}

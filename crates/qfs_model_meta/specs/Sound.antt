@@ -70,8 +70,8 @@ is_blocked_copy lease c row =
 
 -- a copy that a live lease lists is readable, unless its server was emptied: it is current, or
 -- condemned and blocked by the lease
-abbrev pub IsKept : MetaImage → ListedCopy → Type 0
-IsKept m listed =
+abbrev pub KeepsListed : MetaImage → ListedCopy → Type 0
+KeepsListed m listed =
     IsTrue (is_live_lease listed.lease m.leases && is_live m.servers listed.of_slot.copy)
     → ((slot_at m.slots listed.of_slot.block listed.of_slot.slot).current ≡ Some listed.of_slot.copy)
     ⊎ IsTrue (list_any (is_blocked_copy listed.lease listed.of_slot) m.condemned)
@@ -88,7 +88,7 @@ pub record LeasesHold (past : Past) (m : MetaImage) : Type 0 where
   pub once : IsDistinct same_lease_number past.leases
   pub numbers : Each (λ (lease : Lease). lease.lease < m.next_lease) past.leases
   pub given : Each (λ lease. IsTrue (list_any (same_lease lease) past.leases)) m.leases
-  pub kept : Each (IsKept m) past.listed
+  pub kept : Each (KeepsListed m) past.listed
 
 -- a copy that was ordered deleted
 pub record IsLetGo (past : Past) (m : MetaImage) (c : Condemned) : Type 0 where

@@ -2,7 +2,6 @@
 -- unfolds `whole_metaserver` unfolds each of them.
 use Rattle.std.specs.Prelude.{⊤}
 use Rattle.qfs_base.specs.Files.{kind_of_content, files_standing, is_unclosed_content, is_unclosed_entry, close_entry, files_after, files_of, path_of_unclosed, may_follow, creates, created_count, closing_command, closing_commands}
-use Rattle.qfs_base.specs.Layout.{place_of}
 use Rattle.qfs_base.specs.NameTree.{kind_at, through_refusal, parents_refusal, new_refusal, file_refusal, source_refusal, is_filled, add_refusal, directory_refusal, rmdir_refusal, look_refusal, grows_too_deep, rename_refusal, only_name, name_in, names_below, added, taken, renamed}
 use Rattle.qfs_base.specs.Outcome.{meta_outcome, chunk_outcome, outcome_of}
 use Rattle.qfs_model_meta.specs.Apply.{write_entry, add_file, with_slots, change_record, grant_slot, give_up, fail_grant, confirm_slot, empty_slot, finish_lease, is_that_copy, is_known_copy, condemn_unknown, condemn_stray, bring_up, apply, apply_all}

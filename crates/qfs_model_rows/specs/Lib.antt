@@ -6,4 +6,5 @@ pub mod Repairs
 pub mod Refusals
 pub mod Restarts
 pub mod Audits
+pub mod GivenOrders
 pub mod Meanings

@@ -27,7 +27,7 @@ use Rattle.qfs_model_world.specs.Drawn.{is_drawn}
 use Rattle.qfs_model_world.specs.Events.{Event, events}
 use Rattle.qfs_model_world.specs.FileHistory.{IsHistoryOf}
 use Rattle.qfs_model_world.specs.Heard.{Holding, holding_of}
-use Rattle.qfs_model_world.specs.Held.{is_held}
+use Rattle.qfs_model_world.specs.HeldBlock.{is_held}
 use Rattle.qfs_model_world.specs.Made.{made, right_bytes}
 use Rattle.qfs_model_world.specs.Puts.{command_of}
 use Rattle.qfs_model_world.specs.Reports.{IsPlaced}
@@ -132,10 +132,10 @@ anew_history =
     ∷ Wrote.Closed 2 2 2
     ∷ []
 
--- a reply agrees with this history, whatever the steps were
+-- a reply agrees with this history
 abbrev pub AgreesAnew : ℕ → ℕ → Report → Type 0
 AgreesAnew actor number report =
-    Agrees put_anew [] anew_history actor number report (command_of put_anew actor number)
+    Agrees put_anew (events put_anew anew_order) anew_history actor number report (command_of put_anew actor number)
 
 pub record AgreeingReplies : Type 0 where
   pub written : (after put_anew anew_order).meta.history ≡ anew_history

@@ -5,6 +5,7 @@
 
 mod audits;
 mod failures;
+mod given_orders;
 mod meanings;
 mod plain_paths;
 mod refusals;

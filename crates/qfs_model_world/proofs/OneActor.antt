@@ -1,5 +1,5 @@
 -- The steps of a script whose one phase has one actor.
-use Rattle.std.proofs.Common.{◌≡◌, ℕ, ◌+◌, Bool, true, false, cond, List, [], ◌∷◌, ◌++◌, length, Option, Some, None, refl, sym, ◌∙◌, ap, ap₂, subst, eq-eqb}
+use Rattle.std.proofs.Common.{◌≡◌, ℕ, Bool, true, false, cond, List, [], ◌∷◌, Option, Some, refl, ◌∙◌, ap, ap₂}
 use Rattle.std.specs.Prelude.{◌&&◌, ◌==◌, is_none, slice_get, slice_set}
 use Rattle.std.specs.List.{list_any}
 use Rattle.qfs_base.specs.Outcome.{outcome_of}
@@ -20,7 +20,7 @@ use Rattle.qfs_model_actor.specs.Actor.{Actor, request_of, has_finished, after_r
 use Rattle.qfs_model_meta.specs.Step.{Served, meta_step}
 use Rattle.qfs_model_server.specs.Server.{Server, Answered, server_step}
 use Rattle.qfs_model_text.specs.Order.{same_outcome}
-use Rattle.qfs_model_world.specs.World.{World, Turned, numbered, renumbered, meta_turned, chunk_turn, chunk_turned, node_turn, handed_over, move_asking, move_actor, move}
+use Rattle.qfs_model_world.specs.World.{World, numbered, renumbered, meta_turned, chunk_turn, chunk_turned, node_turn, handed_over, move_asking, move_actor, move}
 use Rattle.qfs_model_world.specs.Fits.{unfinished, by_phase, first_filled, turn, may_end, is_possible, is_possible_for, is_possible_of, may_come, is_over}
 
 -- a step of the one actor that came out done

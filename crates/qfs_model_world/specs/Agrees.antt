@@ -1,5 +1,5 @@
 -- When a reply with a place agrees with the file history.
-use Rattle.std.specs.Prelude.{◌≡◌, ℕ, ⊤, ◌+◌, ◌==◌, ◌&&◌, ◌<◌, min, Bool, List, length, take, find, slice_get, Option, Some, None, IsTrue}
+use Rattle.std.specs.Prelude.{◌≡◌, ℕ, ⊤, ◌+◌, ◌==◌, ◌&&◌, ◌<◌, nat_lt, min, Bool, List, length, take, find, slice_get, Option, Some, None, IsTrue}
 use Rattle.std.specs.Option.{option_map}
 use Rattle.std.specs.List.{list_any}
 use Rattle.qfs_base.specs.FileReplies.{reply_at}
@@ -16,9 +16,9 @@ use Rattle.qfs_base.specs.declared.history.Entry.TheVariants as Wrote
 use Rattle.qfs_base.specs.declared.history.FileReply.TheVariants as Told
 use Rattle.qfs_base.specs.declared.script.Script.{Script}
 use Rattle.qfs_model_actor.specs.Get.{range_of}
-use Rattle.qfs_model_actor.specs.Windows.{blocks_touched}
+use Rattle.qfs_base.specs.Layout.{blocks_touched}
 use Rattle.qfs_model_actor.specs.Work.{Report}
-use Rattle.qfs_model_world.specs.Events.{Event}
+use Rattle.qfs_model_world.specs.Events.{Event, is_step_of, place_before, world_behind}
 use Rattle.qfs_model_world.specs.FileHistory.{files_left}
 use Rattle.qfs_model_world.specs.Made.{Creation, creations}
 use Rattle.qfs_model_world.specs.Puts.{puts_of}
@@ -42,12 +42,20 @@ own_entry (File.Remove path) = Some (Wrote.Removed path)
 own_entry (File.Rename from to) = Some (Wrote.Renamed from to)
 own_entry command = None
 
--- done: it is so at this place, and the entry there is the command's own
-pub record AgreesDone (script : Script) (history : List Entry) (place : ℕ) (command : FileCommand) : Type 0 where
+-- whether a step is one of this command that wrote the entry at this place: so long was the history before it, and longer behind
+unfoldable pub wrote_at : ℕ → ℕ → ℕ → Event → Bool
+wrote_at actor number place event =
+    is_step_of actor number event
+    && (place_before event == place)
+    && nat_lt place (length (world_behind event).meta.history)
+
+-- done: it is so at this place, and the entry there is the command's own, which a step of the command wrote
+pub record AgreesDone (script : Script) (steps : List Event) (history : List Entry) (place actor number : ℕ) (command : FileCommand) : Type 0 where
   pub reply : reply_at (puts_of script) history place command ≡ Told.Done
   pub own : Entry
   pub writes : own_entry command ≡ Some own
   pub written : slice_get history place ≡ Some own
+  pub by_step : IsTrue (list_any (wrote_at actor number place) steps)
 
 -- stored: the entry there closed a file by this command, and so long are the bytes of the put
 pub record AgreesStored (script : Script) (history : List Entry) (place actor number len : ℕ) : Type 0 where
@@ -79,7 +87,7 @@ pub record AgreesTooFew (script : Script) (history : List Entry) (place index : 
   pub closed : content_at (files_left script (take place history)) path ≡ Some (IsClosed file bytes)
   pub some : range.from < end_of_range range (length bytes)
   pub touched : IsTrue (list_any (λ k. k == index)
-      (blocks_touched script.layout range.from (end_of_range range (length bytes))))
+      (blocks_touched script.layout.s script.layout.r range.from (end_of_range range (length bytes))))
 
 abbrev pub AgreesTooFewOf : Script → List Entry → ℕ → ℕ → FileCommand → Type 0
 AgreesTooFewOf script history place index (File.Get path range) =
@@ -89,7 +97,8 @@ AgreesTooFewOf script history place index command = ⊥
 -- a reply of a file command agrees with the history: it is the reply at its place, which follows from the entries before
 -- alone. A reply without a place says nothing of the history
 abbrev pub AgreesFile : Script → List Event → List Entry → ℕ → ℕ → FileCommand → Report → Type 0
-AgreesFile script steps history actor number command (Says.Done place) = AgreesDone script history place command
+AgreesFile script steps history actor number command (Says.Done place) =
+    AgreesDone script steps history place actor number command
 AgreesFile script steps history actor number command (Says.Listed place names) =
     reply_at (puts_of script) history place command ≡ Told.Names names
 AgreesFile script steps history actor number command (Says.Stored place len) =

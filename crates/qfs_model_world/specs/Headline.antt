@@ -1,6 +1,6 @@
 -- The headline, as far as it speaks of a script and an order alone: what is printed, one file history, every get, no deletion,
 -- and the replayed metaserver.
-use Rattle.std.specs.Prelude.{◌≡◌, ℕ, ◌<◌, ◌==◌, ◌&&◌, Bool, List, count_by, length, Option, IsTrue}
+use Rattle.std.specs.Prelude.{◌≡◌, ℕ, ◌<◌, ◌==◌, ◌&&◌, Bool, List, count_by, length, Option, Some, IsTrue}
 use Rattle.qfs_base.specs.declared.history.Outcome.TheVariants as Ended
 use Rattle.qfs_base.specs.declared.history.Step.{Step}
 use Rattle.qfs_base.specs.declared.image.MetaImage.{MetaImage}
@@ -12,6 +12,7 @@ use Rattle.qfs_model_world.specs.Drawn.{is_drawn}
 use Rattle.qfs_model_world.specs.Events.{Event}
 use Rattle.qfs_model_world.specs.EveryGet.{EveryGet}
 use Rattle.qfs_model_world.specs.Fits.{fits, is_whole}
+use Rattle.qfs_model_world.specs.GivenOrder.{IsFollowed}
 use Rattle.qfs_model_world.specs.Replayed.{Replayed}
 use Rattle.qfs_model_world.specs.Reports.{OneFileHistory}
 use Rattle.qfs_model_world.specs.Text.{text}
@@ -26,6 +27,12 @@ pub record IsPrinted (script : Script) (order : List Step) (written : List ℕ) 
 pub record IsPrintedDrawn (number : ℕ) (script : Script) (order : List Step) (written : List ℕ) : Type 0 where
   pub printed : IsPrinted script order written
   pub drawn : IsTrue (is_drawn number script order)
+
+-- the same of the order that the script gives, which can be followed to its end: all its steps come out done
+pub record IsPrintedGiven (script : Script) (order : List Step) (written : List ℕ) : Type 0 where
+  pub printed : IsPrinted script order written
+  pub given : script.order ≡ Some order
+  pub followed : IsFollowed script order
 
 -- an order is short: a version fits its 32 bits
 abbrev pub IsShort : List Step → Type 0

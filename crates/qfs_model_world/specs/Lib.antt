@@ -7,7 +7,8 @@ pub mod Made
 pub mod Audit
 pub mod Text
 pub mod Drawn
-pub mod Held
+pub mod GivenOrder
+pub mod HeldBlock
 pub mod Agrees
 pub mod Deletion
 pub mod Heard
@@ -16,3 +17,5 @@ pub mod Reports
 pub mod EveryGet
 pub mod Replayed
 pub mod Headline
+pub mod MadeRun
+pub mod Run

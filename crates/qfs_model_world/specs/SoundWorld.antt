@@ -31,9 +31,10 @@ use Rattle.qfs_base.specs.declared.request.NodeRequest.{NodeRequest}
 use Rattle.qfs_base.specs.declared.request.NodeRequest.TheVariants as To
 use Rattle.qfs_base.specs.declared.script.Script.{Script}
 use Rattle.qfs_model_actor.specs.Actor.{Actor}
+use Rattle.qfs_model_meta.specs.Asked.{WasGrantedOn}
 use Rattle.qfs_model_meta.specs.Dropped.{dropped_at}
 use Rattle.qfs_model_meta.specs.Grammar.{IsImage}
-use Rattle.qfs_model_meta.specs.Past.{Past, SlotCopy, ListedCopy, was_granted}
+use Rattle.qfs_model_meta.specs.Past.{Past, SlotCopy, ListedCopy}
 use Rattle.qfs_model_meta.specs.Servers.{server_at, is_live}
 use Rattle.qfs_model_meta.specs.Slots.{slot_at, same_block, granted_copy}
 use Rattle.qfs_model_meta.specs.Sound.{GrantedOnce, LivesRise, LeasesHold, IsLetGo, OneServerEach, TreeIsHistory, is_live_lease, same_lease}
@@ -89,11 +90,6 @@ pub record RightCopies (world : World) (bytes : ℕ → List ℕ) : Type 0 where
   pub lengths : Each (λ (e : Exchange). ToldLengths world.layout bytes e.1) (all_exchanges world)
 
 -- ---- granted once
-
--- the copy of a key on this server in this life was granted
-abbrev pub WasGrantedOn : Past → ℕ → ℕ → ChunkKey → Type 0
-WasGrantedOn past server life key =
-    IsTrue (was_granted past key.block key.slot (record { server = server; life = life; version = key.version }))
 
 -- each version of a slot was granted once, to one server and life; each copy on a server, and each key that a server told an
 -- actor, was granted to that server in that life

@@ -1,2 +1,5 @@
 //! The world of a script as definitions: chunk servers, steps, orders, and what a run prints.
 #![tactic(auto)]
+
+mod given;
+mod starts;

@@ -13,7 +13,7 @@ returns c =
       legal = record { legal = record { in_order = (refl, (refl, (refl, (refl, (refl, tt))))); once = ((refl, tt), (tt, tt)) }; own_puts = (tt, (record { path = path_a; created = refl; put = refl }, (tt, (tt, (record { path = path_a; created = refl; put = refl }, tt))))) };
       first_put = record { file = 1; written = refl; length_is = refl };
       first_get = refl;
-      remove_done = record { reply = refl; own = Wrote.Removed path_a; writes = refl; written = refl };
+      remove_done = record { reply = refl; own = Wrote.Removed path_a; writes = refl; written = refl; by_step = refl };
       second_put = record { file = 2; written = refl; length_is = refl };
       second_get = refl;
       get_place = refl;

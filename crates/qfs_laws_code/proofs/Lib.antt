@@ -1,0 +1,3 @@
+pub mod BlockBytes
+pub mod Blocks
+pub mod Parted

@@ -1,0 +1,4 @@
+pub mod InScript
+pub mod ScriptText
+pub mod MadeScript
+pub mod Examples

@@ -1,0 +1,68 @@
+-- The actors of a script start with a bounded number of steps.
+use Rattle.std.proofs.Common.{ℕ, zero, suc, ◌+◌, ◌<◌, ◌≤◌, ◌^◌, List, [], ◌∷◌, length, arith, All}
+use Rattle.qfs_base.specs.Shape.{Shape, IsRowCount}
+use Rattle.qfs_base.specs.Table.{Each}
+use Rattle.qfs_base.specs.declared.command.Command.{Command}
+use Rattle.qfs_base.specs.declared.command.Command.TheVariants as Does
+use Rattle.qfs_base.specs.declared.command.FileCommand.{FileCommand}
+use Rattle.qfs_base.specs.declared.command.FileCommand.TheVariants as File
+use Rattle.qfs_base.specs.declared.script.Script.{Script}
+use Rattle.qfs_model_actor.specs.Actor.{Actor}
+use Rattle.qfs_model_actor.specs.Steps.{IsFileInRange, IsInRange, left}
+use Rattle.qfs_model_actor.proofs.Left.{left-starting}
+use Rattle.qfs_model_script.specs.InScript.{IsFileCommand, IsCommand, IsScript, actors_of}
+use Rattle.qfs_model_world.specs.World.{numbered_actors, start}
+
+-- what holds of each holds at every place
+each_all : {X : Type 0} (P : X → Type 0) (xs : List X) → Each P xs → All P xs
+each_all P [] each k d inside = absurd (omega arith)
+each_all P (x ∷ xs) each zero d inside = each.0
+each_all P (x ∷ xs) each (suc k) d inside = each_all P xs each.1 k d (omega arith)
+
+-- a command of a script keeps to what bounds its steps
+file_in_range : (command : FileCommand) → IsFileCommand command → IsFileInRange command
+file_in_range (File.Put path recipe) is = is.1
+file_in_range (File.Mkdir path) is = tt
+file_in_range (File.Rmdir path) is = tt
+file_in_range (File.Remove path) is = tt
+file_in_range (File.Rename from to) is = tt
+file_in_range (File.List path) is = tt
+file_in_range (File.Get path range) is = tt
+
+in_range : (servers : ℕ) (command : Command) → IsCommand servers command → IsInRange command
+in_range servers (Does.File command) is = file_in_range command is
+in_range servers (Does.Recover path index slot) is = tt
+in_range servers (Does.Move path index slot server) is = tt
+in_range servers (Does.Heal budget) is = is.1
+in_range servers (Does.Rebalance budget) is = is.1
+in_range servers (Does.Evacuate server budget) is = is.1.1
+in_range servers (Does.Sweep budget) is = is.1
+in_range servers (Does.Stop server) is = tt
+in_range servers (Does.Start server) is = tt
+in_range servers (Does.Wipe server) is = tt
+in_range servers (Does.Hibernate server ticks) is = tt
+in_range servers Does.Tick is = tt
+in_range servers (Does.Drop actor) is = tt
+in_range servers Does.Checkpoint is = tt
+in_range servers Does.Restart is = tt
+
+all_in_range : (servers : ℕ) (commands : List Command) → Each (IsCommand servers) commands → All IsInRange commands
+all_in_range servers commands each k d inside = in_range servers _ (each_all (IsCommand servers) commands each k d inside)
+
+-- an actor has fewer than 2 ^ 56 steps left
+abbrev pub IsBounded : Actor → Type 0
+IsBounded actor = left actor < 2 ^ 56
+
+actors_bounded : (layout : Shape) (servers number : ℕ) (actors : List (List Command)) → IsRowCount layout.r
+    → Each (λ commands. length commands ≤ 4096) actors → Each (Each (IsCommand servers)) actors
+    → Each IsBounded (numbered_actors layout number actors)
+unfolding numbered_actors
+actors_bounded layout servers number [] rows short each = tt
+actors_bounded layout servers number (commands ∷ more) rows short each = (
+  left-starting layout number commands rows short.0 (all_in_range servers commands each.0),
+  actors_bounded layout servers (number + 1) more rows short.1 each.1,
+)
+
+pub start_bounded : (script : Script) → IsScript script → Each IsBounded (start script).actors
+unfolding start
+start_bounded script is = actors_bounded script.layout script.servers 1 (actors_of script) is.rows is.few_commands is.commands

@@ -1,0 +1,112 @@
+-- Where an order that a script gives can be followed, and where it can't.
+use Rattle.std.proofs.Common.{◌≡◌, ℕ, suc, ◌+◌, Bool, true, false, cond, List, [], ◌∷◌, take, Option, Some, refl, sym, ap, subst, arith, true≢false}
+use Rattle.std.specs.Prelude.{◌&&◌, fold, is_none, unwrap_or, slice_get, IsTrue}
+use Rattle.std.specs.List.{list_all}
+use Rattle.qfs_base.specs.declared.history.Step.{Step}
+use Rattle.qfs_base.specs.declared.script.Script.{Script}
+use Rattle.qfs_model_world.specs.Fits.{may_come, fits_from, fits, is_over, is_whole}
+use Rattle.qfs_model_world.specs.GivenOrder.{is_done, may_be_given, bad_end, bad_from, bad_place, CantGoOn, IsBadAt}
+use Rattle.qfs_model_world.specs.World.{World, start, move, after}
+
+-- ---- orders that are followed to their end
+
+at_end : (index : ℕ) (over : Bool) → is_none (bad_end index over) ≡ (true && (true && over))
+unfolding bad_end
+at_end index true = refl
+at_end index false = refl
+
+and-false : (f d : Bool) → (f && (false && d)) ≡ false
+and-false true d = refl
+and-false false d = refl
+
+at_step : (index : ℕ) (may done fitting all over : Bool) (rest : Option ℕ) → is_none rest ≡ (fitting && (all && over))
+    → is_none (cond (may && done) rest (Some index)) ≡ ((may && fitting) && ((done && all) && over))
+at_step index false done fitting all over rest is = refl
+at_step index true false fitting all over rest is = sym (and-false fitting (over))
+at_step index true true fitting all over rest is = is
+
+followed_from : (script : Script) (steps : List Step) (world : World) (index : ℕ)
+    → is_none (bad_from script world index steps)
+    ≡ (fits_from script world steps && (list_all is_done steps && is_over script (fold move world steps)))
+unfolding bad_from fits_from may_be_given
+followed_from script [] world index = at_end index (is_over script world)
+followed_from script (step ∷ steps) world index =
+    at_step index (may_come script world step) (is_done step)
+    (fits_from script (move world step) steps) (list_all is_done steps) (is_over script (fold move (move world step) steps))
+    (bad_from script (move world step) (index + 1) steps)
+    (followed_from script steps (move world step) (index + 1))
+
+pub followed : (script : Script) (order : List Step)
+    → is_none (bad_place script order) ≡ (fits script order && (list_all is_done order && is_whole script order))
+unfolding bad_place fits is_whole after
+followed script order = followed_from script order (start script) 0
+
+-- ---- the place where an order is bad
+
+-- an order is bad so many steps behind a world
+record IsBadFrom (script : Script) (world : World) (steps : List Step) (count : ℕ) : Type 0 where
+  fitting : IsTrue (fits_from script world (take count steps))
+  done : IsTrue (list_all is_done (take count steps))
+  stuck : CantGoOn script (fold move world (take count steps)) (slice_get steps count)
+
+same_place : (a b : ℕ) → Some a ≡ Some b → a ≡ b
+same_place a b is = ap (λ o. unwrap_or o 0) is
+
+both : (a b : Bool) → a ≡ true → b ≡ true → (a && b) ≡ true
+both true b _ is = is
+both false b is _ = absurd (true≢false (sym is))
+
+first_of : (a b : Bool) → (a && b) ≡ true → a ≡ true
+first_of true b _ = refl
+first_of false b is = is
+
+second_of : (a b : Bool) → (a && b) ≡ true → b ≡ true
+second_of true b is = is
+second_of false b is = absurd (true≢false (sym is))
+
+bad_at_end : (script : Script) (world : World) (index i : ℕ) (over : Bool) → is_over script world ≡ over
+    → bad_end index over ≡ Some i → (count : ℕ) × (i ≡ index + count) × IsBadFrom script world [] count
+unfolding bad_end fits_from
+bad_at_end script world index i true is bad = absurd (true≢false (ap is_none bad))
+bad_at_end script world index i false is bad =
+    (0, omega (arith, same_place index i bad), record { fitting = refl; done = refl; stuck = is })
+
+-- the same behind a step, where it holds of the rest
+bad_at_step : (script : Script) (step : Step) (steps : List Step) (world : World) (index i : ℕ)
+    → (bad_from script (move world step) (index + 1) steps ≡ Some i
+    → (count : ℕ) × (i ≡ index + 1 + count) × IsBadFrom script (move world step) steps count)
+    → (may : Bool) → may_be_given script world step ≡ may
+    → cond may (bad_from script (move world step) (index + 1) steps) (Some index) ≡ Some i
+    → (count : ℕ) × (i ≡ index + count) × IsBadFrom script world (step ∷ steps) count
+unfolding fits_from may_be_given
+bad_at_step script step steps world index i more false is bad =
+    (0, omega (arith, same_place index i bad), record { fitting = refl; done = refl; stuck = is })
+bad_at_step script step steps world index i more true is bad =
+    let rest = more bad in
+    let found : IsBadFrom script (move world step) steps rest.0 = rest.2 in
+    let may : may_come script world step ≡ true = first_of (may_come script world step) (is_done step) is in
+    let done : is_done step ≡ true = second_of (may_come script world step) (is_done step) is in (
+      suc rest.0,
+      omega (arith, rest.1),
+      record {
+        fitting = both (may_come script world step) (fits_from script (move world step) (take rest.0 steps)) may found.fitting;
+        done = both (is_done step) (list_all is_done (take rest.0 steps)) done found.done;
+        stuck = found.stuck;
+      },
+    )
+
+bad_from_at : (script : Script) (steps : List Step) (world : World) (index i : ℕ)
+    → bad_from script world index steps ≡ Some i → (count : ℕ) × (i ≡ index + count) × IsBadFrom script world steps count
+unfolding bad_from
+bad_from_at script [] world index i bad = bad_at_end script world index i (is_over script world) refl bad
+bad_from_at script (step ∷ steps) world index i bad =
+    bad_at_step script step steps world index i (bad_from_at script steps (move world step) (index + 1) i)
+    (may_be_given script world step) refl bad
+
+pub bad_there : (script : Script) (order : List Step) (i : ℕ) → bad_place script order ≡ Some i → IsBadAt script order i
+unfolding bad_place fits after
+bad_there script order i bad =
+    let found = bad_from_at script order (start script) 0 i bad in
+    let here : found.0 ≡ i = omega (arith, found.1) in
+    subst (IsBadAt script order) here
+    (record { fitting = found.2.fitting; done = found.2.done; stuck = found.2.stuck })
