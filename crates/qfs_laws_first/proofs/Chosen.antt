@@ -17,6 +17,8 @@ use Rattle.qfs_base.specs.declared.image.SlotRow.{SlotRow}
 use Rattle.qfs_model_meta.specs.Placing.{Numbered, load_of, census, is_open, open_servers, lighter, choose, with_live_servers}
 use Rattle.qfs_model_meta.specs.Servers.{is_live}
 use Rattle.qfs_model_meta.specs.Step.{first_server}
+use Rattle.qfs_laws_first.proofs.Rows.{each_weaker}
+use Rattle.qfs_laws_first.proofs.Tests.{and-false}
 
 -- ---- barred numbers
 
@@ -73,12 +75,6 @@ from_on-all k (n ∷ ns) = from_on-one k n ns (nat_le k n) refl (from_on-all k n
 abbrev IsReady : Load → Type 0
 IsReady load = (load.up ≡ true) × (load.leaving ≡ false)
 
-and_false : (a b : Bool) → (a && b && false) ≡ false
-and_false true true = refl
-and_false true false = refl
-and_false false true = refl
-and_false false false = refl
-
 -- where none is open, all of them are barred
 none_open-next : (barred : List ℕ) (number : ℕ) (load : Load) (loads : List Load) (b : Bool) → has barred number ≡ b → IsReady load
     → filter (is_open barred) (enumerate_from number (load ∷ loads)) ≡ []
@@ -86,7 +82,7 @@ none_open-next : (barred : List ℕ) (number : ℕ) (load : Load) (loads : List 
     → length (load ∷ loads) ≤ from_on number barred
 unfolding is_open
 none_open-next barred number load loads true p ready none rest =
-    let shut : is_open barred (number, load) ≡ false = ap (λ b. load.up && not load.leaving && not b) p ∙ and_false load.up (not load.leaving) in
+    let shut : is_open barred (number, load) ≡ false = rw p (and-false (load.up && not load.leaving)) in
     let further = rest (rw shut at none) in
     omega (arith, further, from_on-has number barred p)
 none_open-next barred number load loads false p ready none rest =
@@ -106,10 +102,6 @@ IsNumbered from to s = (from ≤ s.0) × (s.0 < to)
 
 numbers-wider : (from to : ℕ) (s : Numbered) → IsNumbered (from + 1) to s → IsNumbered from to s
 numbers-wider from to s is = (omega (arith, is.0), is.1)
-
-each_weaker : {X : Type 0} (P Q : X → Type 0) (xs : List X) → ((x : X) → P x → Q x) → Each P xs → Each Q xs
-each_weaker P Q [] weaker each = tt
-each_weaker P Q (x ∷ xs) weaker each = (weaker x each.0, each_weaker P Q xs weaker each.1)
 
 enumerated : (from : ℕ) (loads : List Load) → Each (IsNumbered from (from + length loads)) (enumerate_from from loads)
 enumerated from [] = tt

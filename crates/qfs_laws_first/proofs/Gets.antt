@@ -40,8 +40,7 @@ use Rattle.qfs_model_world.specs.World.{numbered, renumbered}
 use Rattle.qfs_laws_first.specs.Standing.{entry_of}
 use Rattle.qfs_laws_first.proofs.Histories.{written-later}
 use Rattle.qfs_laws_first.proofs.Kept.{file-kept, view-first}
-use Rattle.qfs_laws_first.proofs.MetaSteps.{AreFew, step-makes, step-tells}
-use Rattle.qfs_laws_first.proofs.PutCreates.{refused-file, accepted-file}
+use Rattle.qfs_laws_first.proofs.MetaSteps.{refused-file, accepted-file, AreFew, step-makes, step-tells}
 use Rattle.qfs_laws_first.proofs.Reading.{IsShort, blocks_of-one}
 use Rattle.qfs_laws_first.proofs.Rows.{each_weaker}
 use Rattle.qfs_laws_first.proofs.Servers.{stored_at, stored-same, are_up-changed}

@@ -19,7 +19,8 @@ use Rattle.qfs_model_meta.specs.TreeRows.{standing, file_row, add_row, close_fil
 use Rattle.qfs_model_world.specs.FileHistory.{path_if, created_in, created_path, IsOwnPut, IsHistoryOf}
 use Rattle.qfs_model_world.specs.Puts.{put_path, puts_of}
 use Rattle.qfs_laws_first.specs.Standing.{content_if, entry_of}
-use Rattle.qfs_laws_first.proofs.Tables.{each_append, same_number}
+use Rattle.qfs_laws_first.proofs.Tables.{each_append}
+use Rattle.qfs_laws_first.proofs.Tests.{same-number, and-false}
 use Rattle.qfs_laws_first.proofs.Trees.{standing-files, map-added, map-closed, MayClose}
 
 -- ---- one entry more
@@ -123,7 +124,7 @@ unfolding may_follow files_of created_count closing_commands closing_command fil
 written-created script history tree next_file commands command len path w above free =
     let puts : Puts = puts_of script in
     let entry : Entry = Wrote.Created next_file path in
-    let number : (next_file == created_count history + 1) ≡ true = rw w.count (same_number (created_count history + 1)) in
+    let number : (next_file == created_count history + 1) ≡ true = rw w.count (same-number (created_count history + 1)) in
     let new : is_none (add_refusal (files_standing (files_of puts history)) path) ≡ true = rw (w.files, standing-files puts tree above, free) refl in
     let may : IsTrue (may_follow (created_count history) (files_of puts history) entry) = rw (number, new) refl in
     record {
@@ -151,11 +152,7 @@ apart commands [] each = tt
 apart commands (pair ∷ pairs) each =
     let below : pair.1 ≤ commands = each.0.1 in
     let other : (pair.1 == commands + 1) ≡ false = grind (arith, nat_tests) in
-    (ap (λ b. (pair.0 == 1) && b) other ∙ and_false (pair.0 == 1), apart commands pairs each.1)
-  where
-    and_false : (b : Bool) → (b && false) ≡ false
-    and_false true = refl
-    and_false false = refl
+    (ap (λ b. (pair.0 == 1) && b) other ∙ and-false (pair.0 == 1), apart commands pairs each.1)
 
 later : (commands : ℕ) (pairs : List (ℕ × ℕ)) → Each (λ (pair : ℕ × ℕ). (pair.0 ≡ 1) × (pair.1 ≤ commands)) pairs → Each (λ (pair : ℕ × ℕ). (pair.0 ≡ 1) × (pair.1 ≤ commands + 1)) pairs
 later commands [] each = tt
@@ -194,7 +191,7 @@ written-closed script history tree next_file commands file path w may_close uncl
 pub created-now : (file : ℕ) (path : PathNames) (history : List Entry) → created_path file history ≡ None → created_path file (history ++ Wrote.Created file path ∷ []) ≡ Some path
 unfolding created_path created_in path_if
 created-now file path history none =
-    let own : (file == file) ≡ true = same_number file in
+    let own : (file == file) ≡ true = same-number file in
     first_of-last (created_in file) history (Wrote.Created file path) path none (rw own refl)
 
 -- the start

@@ -1,17 +1,20 @@
 -- What a change of other files leaves of a file, and what the servers are to the metaserver.
-use Rattle.std.proofs.Common.{◌≡◌, ℕ, zero, suc, ◌<◌, ◌≤◌, ◌==◌, false, List, [], ◌∷◌, replicate, ap, ◌∙◌, arith}
+use Rattle.std.proofs.Common.{◌≡◌, ℕ, zero, suc, ◌<◌, ◌≤◌, ◌==◌, true, false, List, [], ◌∷◌, replicate, refl, ap, ◌∙◌, arith}
+use Rattle.std.proofs.lemmas.Bool.Decides.{nat_tests}
 use Rattle.std.proofs.lemmas.Bool.Decides.{nat_tests}
 use Rattle.std.proofs.lemmas.List.{get_or-replicate}
 use Rattle.qfs_base.specs.Shape.{Shape}
 use Rattle.qfs_base.specs.Table.{Each}
 use Rattle.qfs_base.specs.declared.image.SlotRecord.{SlotRecord}
 use Rattle.qfs_base.specs.declared.image.SlotRow.{SlotRow}
+use Rattle.qfs_base.specs.declared.image.TreeRow.{TreeRow}
+use Rattle.qfs_model_meta.specs.TreeRows.{file_row}
 use Rattle.qfs_model_meta.specs.Servers.{no_server, server_at}
 use Rattle.qfs_model_meta.specs.Slots.{slot_at}
 use Rattle.qfs_model_meta.specs.Step.{first_server}
 use Rattle.qfs_model_server.specs.Server.{Server}
 use Rattle.qfs_laws_first.proofs.Servers.{stored_at}
-use Rattle.qfs_laws_first.proofs.States.{first_block, first_key, IsFile}
+use Rattle.qfs_laws_first.proofs.States.{Target, target_row, first_block, first_key, IsFile}
 
 -- a file stays whole where its slots and their copies stay
 pub file-kept : (layout : Shape) (n : ℕ) (servers changed : List Server) (slots new : List SlotRow) (file len : ℕ) (bytes : List ℕ)
@@ -45,5 +48,10 @@ unfolding server_at
 view-first n zero first last = absurd (omega arith)
 view-first n (suc k) first last = get_or-replicate n k first_server no_server (omega arith)
 
-pub apart-number : (a b : ℕ) → (a ≡ b → ⊥) → (a == b) ≡ false
-apart-number a b differ = grind (arith, nat_tests)
+-- a closed file isn't the one that is put
+pub closed-elsewhere : (commands : ℕ) (t : Target) (row : TreeRow) → ((row.file == t.file) ≡ true → row ≡ target_row commands t) → row.closed ≡ true → row.file ≡ t.file → ⊥
+unfolding file_row
+closed-elsewhere commands t row own closed same =
+    let equal : (row.file == t.file) ≡ true = grind (arith, nat_tests) in
+    let unshut : row.closed ≡ false = ap (λ (r : TreeRow). r.closed) (own equal) in
+    absurd (cc)

@@ -44,6 +44,7 @@ use Rattle.qfs_laws_first.proofs.Moves.{request-none}
 use Rattle.qfs_laws_first.proofs.PutRuns.{command-at, put-starts, put-stores-on, put-goes}
 use Rattle.qfs_laws_first.proofs.Reports.{IsBorneOut, IsGood, IsReadBy, ReadsWhereReleased}
 use Rattle.qfs_laws_first.proofs.Rows.{each_at, each_weaker}
+use Rattle.qfs_laws_first.proofs.Tests.{and-both}
 use Rattle.qfs_laws_first.proofs.Runs.{Resting, Run, Next, no-step}
 use Rattle.qfs_laws_first.proofs.Servers.{IsUp, stored_at}
 use Rattle.qfs_laws_first.proofs.States.{Between}
@@ -95,7 +96,8 @@ module _ (script : Script) (commands : List Command) (steps : List Event) (w : W
           (command-at script commands (length r.actor.ended) command first_path.alone here)
           (omega (arith, slice_get_within commands (length r.actor.ended) command here, first_path.few))
 
-  next : Next script commands steps w
+  -- each step leads on
+  pub next : Next script commands steps w
   next =
       elim r.stage [
         | inl rest ↦ rests rest
@@ -167,7 +169,7 @@ between-none script = record {
   none_to_come = λ server key above. none-stored script.servers server key;
 }
 
-run-none : (script : Script) (commands : List Command) → IsFirstPath script commands → Run script commands [] (start script)
+pub run-none : (script : Script) (commands : List Command) → IsFirstPath script commands → Run script commands [] (start script)
 unfolding start numbered_actors starting opening
 run-none script commands first_path = record {
   actor = starting script.layout 1 commands;
@@ -262,13 +264,9 @@ reply-numbered P xs (suc k) x each found =
     let e : k + 1 ≡ suc k = omega arith in
     subst (λ n. P (n, x)) e (reply-at-number P 1 xs k x each found)
 
-both : (a b : Bool) → (a && b) ≡ true → (a ≡ true) × (b ≡ true)
-both true b h = (refl, h)
-both false b h = absurd (cc)
-
 own-step-of : (actor number : ℕ) (event : Event) → is_step_of actor number event ≡ true → (event.actor ≡ actor) × (event.command ≡ number)
 unfolding is_step_of
-own-step-of actor number event is = let parts = both _ _ is in (eqb-true event.actor actor parts.0, eqb-true event.command number parts.1)
+own-step-of actor number event is = let parts = and-both _ _ is in (eqb-true event.actor actor parts.0, eqb-true event.command number parts.1)
 
 module _ (script : Script) (commands : List Command) (order : List Step) (r : Run script commands (events script order) (after script order)) where
   report-found : (number : ℕ) (report : Report) → numbered r.actor.ended number ≡ Some report → report_of (after script order) 1 number ≡ Some report

@@ -3,6 +3,7 @@ pub mod AsksOfGets
 pub mod AsksOfPuts
 pub mod Chosen
 pub mod Deletes
+pub mod Fitting
 pub mod GetRuns
 pub mod Gets
 pub mod Histories
@@ -22,5 +23,6 @@ pub mod Runs
 pub mod Servers
 pub mod States
 pub mod Tables
+pub mod Tests
 pub mod Trees
 pub mod Works

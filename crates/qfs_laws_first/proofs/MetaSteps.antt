@@ -1,16 +1,18 @@
 -- A step of the metaserver that came out done, by what was decided.
-use Rattle.std.proofs.Common.{◌≡◌, ℕ, ◌<◌, ◌≤◌, nat_lt, true, List, [], length, refl, ap, ◌∙◌, arith}
+use Rattle.std.proofs.Common.{◌≡◌, ℕ, ◌<◌, ◌≤◌, nat_lt, true, List, [], length, Option, Some, None, refl, ap, ◌∙◌, arith}
 use Rattle.std.proofs.lemmas.Bool.Decides.{nat_tests}
 use Rattle.qfs_base.specs.Shape.{Shape}
 use Rattle.qfs_base.specs.declared.history.Outcome.TheVariants as Ended
 use Rattle.qfs_base.specs.declared.image.MetaImage.{MetaImage}
 use Rattle.qfs_base.specs.declared.reply.MetaReply.{MetaReply}
+use Rattle.qfs_base.specs.declared.reply.MetaReply.TheVariants as Told
+use Rattle.qfs_base.specs.declared.reply.TreeRefusal.{TreeRefusal}
 use Rattle.qfs_base.specs.declared.request.MetaRequest.{MetaRequest}
 use Rattle.qfs_model_meta.specs.Apply.{apply_all}
 use Rattle.qfs_model_meta.specs.Change.{Change}
 use Rattle.qfs_model_meta.specs.Counters.{counters_fit}
 use Rattle.qfs_model_meta.specs.Decide.{decide}
-use Rattle.qfs_model_meta.specs.Decision.{Decision, Tells, Makes}
+use Rattle.qfs_model_meta.specs.Decision.{Decision, Tells, Makes, refuse, refuse_file}
 use Rattle.qfs_model_meta.specs.Dropped.{dropped_at}
 use Rattle.qfs_model_meta.specs.Step.{stays, next_turn, take_step, carry_out, end_step, serve_unless_dropped, meta_step}
 
@@ -48,3 +50,13 @@ module _ (layout : Shape) (m : MetaImage) (request : MetaRequest) (none : m.drop
   pub step-tells : (reply : MetaReply) → decide layout 1 m request ≡ Tells reply → meta_step layout 1 request Ended.Done m ≡ record { meta = m; reply = reply }
   unfolding carry_out stays
   step-tells reply decided = step-decided (Tells reply) decided
+
+-- ---- refusals of the name tree
+
+pub refused-file : (place : ℕ) (refusal : Option TreeRefusal) (why : TreeRefusal) (further : _) → refusal ≡ Some why → refuse_file place refusal further ≡ Tells (Told.Refused why place)
+unfolding refuse_file refuse
+refused-file place refusal why further is = rw is refl
+
+pub accepted-file : (place : ℕ) (refusal : Option TreeRefusal) (further : _) → refusal ≡ None → refuse_file place refusal further ≡ further
+unfolding refuse_file refuse
+accepted-file place refusal further is = rw is refl

@@ -37,7 +37,8 @@ use Rattle.qfs_laws_first.proofs.MetaSteps.{AreFew, step-makes}
 use Rattle.qfs_laws_first.proofs.Reading.{IsShort, blocks_of-one}
 use Rattle.qfs_laws_first.proofs.Rows.{each_weaker}
 use Rattle.qfs_laws_first.proofs.States.{first_block, first_copy, granted_once, HasCurrent, IsFile, IsRow, Between, Target, target_row, Puts}
-use Rattle.qfs_laws_first.proofs.Tables.{each_test, each_changed, each_append, each_map, each_range, find-none, slot_at-sealed, slot_at-unsealed, same_number}
+use Rattle.qfs_laws_first.proofs.Tables.{each_test, each_changed, each_append, each_map, each_range, find-none, slot_at-sealed, slot_at-unsealed}
+use Rattle.qfs_laws_first.proofs.Tests.{same-number}
 use Rattle.qfs_laws_first.proofs.Trees.{MayClose}
 
 -- the state once the file is closed
@@ -157,7 +158,7 @@ module _ (script : Script) (servers : List Server) (m : MetaImage) (commands : �
 
   is-unclosed : is_unclosed_entry t.file (entry_of (puts_of script) (target_row commands t)) ≡ true
   unfolding is_unclosed_entry entry_of content_if is_unclosed_content file_row
-  is-unclosed = same_number t.file
+  is-unclosed = same-number t.file
 
   any-unclosed : list_any (is_unclosed_entry t.file) (map (entry_of (puts_of script)) m.tree) ≡ true
   unfolding unclosed_file

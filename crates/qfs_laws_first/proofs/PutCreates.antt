@@ -26,23 +26,16 @@ use Rattle.qfs_model_meta.specs.TreeRows.{standing, kind_of, file_row, row_path,
 use Rattle.qfs_model_server.specs.Server.{Server}
 use Rattle.qfs_model_world.specs.Puts.{put_path, puts_of}
 use Rattle.qfs_laws_first.proofs.Histories.{written-created, created-now}
-use Rattle.qfs_laws_first.proofs.Kept.{apart-number}
-use Rattle.qfs_laws_first.proofs.MetaSteps.{AreFew, step-makes, step-tells}
+use Rattle.qfs_laws_first.proofs.MetaSteps.{refused-file, accepted-file, AreFew, step-makes, step-tells}
 use Rattle.qfs_laws_first.proofs.Rows.{each_weaker}
 use Rattle.qfs_laws_first.proofs.States.{first_block, IsRow, Between, Puts}
-use Rattle.qfs_laws_first.proofs.Tables.{each_placed, find-alone, slot_at-none, grants-none, same_number}
+use Rattle.qfs_laws_first.proofs.Tables.{each_placed, find-alone, slot_at-none, grants-none}
+use Rattle.qfs_laws_first.proofs.Tests.{same-number, apart-number, and-false}
 
 -- the state once the file is there
 abbrev pub created_state : MetaImage → PathNames → ℕ → ℕ → MetaImage
 created_state m path command len = next_turn (apply_all (AddFile path 1 command len ∷ []) m)
 
-pub refused-file : (place : ℕ) (refusal : Option TreeRefusal) (why : TreeRefusal) (further : _) → refusal ≡ Some why → refuse_file place refusal further ≡ Tells (Told.Refused why place)
-unfolding refuse_file refuse
-refused-file place refusal why further is = rw is refl
-
-pub accepted-file : (place : ℕ) (refusal : Option TreeRefusal) (further : _) → refusal ≡ None → refuse_file place refusal further ≡ further
-unfolding refuse_file refuse
-accepted-file place refusal further is = rw is refl
 
 module _ (layout : Shape) (m : MetaImage) (path : PathNames) (command len : ℕ) (none : m.dropped ≡ []) where
   pub create-refused : (why : TreeRefusal) → add_refusal (standing m.tree) path ≡ Some why
@@ -87,16 +80,12 @@ module _ (script : Script) (servers : List Server) (m : MetaImage) (commands : �
   unfolding has_file
   not-unclosed row below =
       let other = apart-number row.file m.next_file (λ same. omega (arith, same, below)) in
-      rw other (and_false (is_unclosed_of 1 row))
-    where
-      and_false : (b : Bool) → (b && false) ≡ false
-      and_false true = refl
-      and_false false = refl
+      rw other (and-false (is_unclosed_of 1 row))
 
   own-unclosed : (file : ℕ) → 1 ≤ file → (is_unclosed_of 1 (file_row path file 1 (commands + 1) (length bytes)) && has_file file (file_row path file 1 (commands + 1) (length bytes))) ≡ true
   unfolding file_row has_file is_unclosed_of is_unclosed_row is_unclosed kind_of
   own-unclosed zero above = absurd (omega arith)
-  own-unclosed (suc k) above = same_number (suc k)
+  own-unclosed (suc k) above = same-number (suc k)
 
   open-row : (closed : Bool) → closed ≡ false → closed ≡ true → ⊥
   open-row closed shut is = absurd (cc)

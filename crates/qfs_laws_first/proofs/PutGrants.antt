@@ -30,7 +30,7 @@ use Rattle.qfs_model_meta.specs.TreeRows.{file_row}
 use Rattle.qfs_model_server.specs.Server.{Server}
 use Rattle.qfs_model_slot.specs.Slot.{slot_of}
 use Rattle.qfs_laws_first.proofs.Chosen.{IsChosen, choose-first, barred-few}
-use Rattle.qfs_laws_first.proofs.Kept.{file-kept, each_with, view-first}
+use Rattle.qfs_laws_first.proofs.Kept.{closed-elsewhere, file-kept, each_with, view-first}
 use Rattle.qfs_laws_first.proofs.MetaSteps.{AreFew, step-makes}
 use Rattle.qfs_laws_first.proofs.Reading.{IsShort, blocks_of-one}
 use Rattle.qfs_laws_first.proofs.Rows.{each_weaker}
@@ -128,21 +128,13 @@ module _ (script : Script) (servers : List Server) (m : MetaImage) (commands : �
   pub granted-now : (server : ℕ) → 1 ≤ server → server ≤ script.servers → slot_at (new_slots server) (first_block t.file) slot ≡ granted_once server
   granted-now server first last = slot_at-placed (first_block t.file) slot _ m.slots ∙ granted-record server first last
 
-  -- a closed file isn't the put's
-  not-own : (row : TreeRow) → ((row.file == t.file) ≡ true → row ≡ target_row commands t) → row.closed ≡ true → t.file ≡ row.file → ⊥
-  unfolding file_row
-  not-own row own closed same =
-      let equal : (row.file == t.file) ≡ true = grind (arith, nat_tests) in
-      let unshut : row.closed ≡ false = ap (λ (r : TreeRow). r.closed) (own equal) in
-      absurd (cc)
-
   row-kept : (server : ℕ) (row : TreeRow) → IsRow script servers m.slots m.next_file row → ((row.file == t.file) ≡ true → row ≡ target_row commands t)
       → IsRow script servers (new_slots server) m.next_file row
   row-kept server row is own = record {
     above = is.above;
     below = is.below;
     whole = λ closed. file-kept script.layout script.servers servers servers m.slots (new_slots server) row.file row.len _
-        (λ number within. stays-other server row.file number (λ same one. not-own row own closed same)) (λ server number. refl) (is.whole closed);
+        (λ number within. stays-other server row.file number (λ same one. closed-elsewhere commands t row own closed (sym same))) (λ server number. refl) (is.whole closed);
   }
 
   grant-one : (server number : ℕ) → 1 ≤ server → server ≤ script.servers → number < slot + 1

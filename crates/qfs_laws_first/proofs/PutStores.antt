@@ -14,7 +14,7 @@ use Rattle.qfs_model_meta.specs.TreeRows.{file_row}
 use Rattle.qfs_model_server.specs.Server.{Server}
 use Rattle.qfs_model_slot.specs.Slot.{slot_of}
 use Rattle.qfs_model_world.specs.World.{numbered, renumbered}
-use Rattle.qfs_laws_first.proofs.Kept.{file-kept, each_with}
+use Rattle.qfs_laws_first.proofs.Kept.{closed-elsewhere, file-kept, each_with}
 use Rattle.qfs_laws_first.proofs.Servers.{with_copy, stored_at, stored-own, stored-other, are_up-changed}
 use Rattle.qfs_laws_first.proofs.States.{first_block, first_key, granted_once, IsGranted, IsRow, Target, target_row, Puts}
 
@@ -43,20 +43,13 @@ module _ (script : Script) (servers : List Server) (m : MetaImage) (commands : �
   stays : (other : ℕ) (key : ChunkKey) → (key ≡ first_key t.file slot → ⊥) → stored_at new_servers other key ≡ stored_at servers other key
   stays other key differ = stored-other servers server other before (first_key t.file slot) key bytes_here there differ
 
-  not-own : (row : TreeRow) → ((row.file == t.file) ≡ true → row ≡ target_row commands t) → row.closed ≡ true → row.file ≡ t.file → ⊥
-  unfolding file_row
-  not-own row own closed same =
-      let equal : (row.file == t.file) ≡ true = grind (arith, nat_tests) in
-      let unshut : row.closed ≡ false = ap (λ (r : TreeRow). r.closed) (own equal) in
-      absurd (cc)
-
   row-kept : (row : TreeRow) → IsRow script servers m.slots m.next_file row → ((row.file == t.file) ≡ true → row ≡ target_row commands t)
       → IsRow script new_servers m.slots m.next_file row
   row-kept row is own = record {
     above = is.above;
     below = is.below;
     whole = λ closed. file-kept script.layout script.servers servers new_servers m.slots m.slots row.file row.len _ (λ number within. refl)
-        (λ other number. stays other (first_key row.file number) (apart_files (first_key row.file number) t.file slot (not-own row own closed))) (is.whole closed);
+        (λ other number. stays other (first_key row.file number) (apart_files (first_key row.file number) t.file slot (closed-elsewhere commands t row own closed))) (is.whole closed);
   }
 
   grant-one : (number : ℕ) → number < slot + 1

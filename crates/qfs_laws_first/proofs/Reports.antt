@@ -24,7 +24,8 @@ use Rattle.qfs_model_world.specs.Puts.{command_of, puts_of}
 use Rattle.qfs_model_world.specs.World.{World, numbered}
 use Rattle.qfs_model_world.proofs.OneActor.{done_step}
 use Rattle.qfs_laws_first.proofs.Histories.{reply_at-more, slice_get-more, slice_get-last}
-use Rattle.qfs_laws_first.proofs.Tables.{each_append, same_number}
+use Rattle.qfs_laws_first.proofs.Tables.{each_append}
+use Rattle.qfs_laws_first.proofs.Tests.{same-number}
 
 -- ---- replies
 
@@ -79,7 +80,7 @@ pub place-last : (steps : List Event) (event : Event) (number : ℕ) → is_step
 unfolding steps_of
 place-last steps event number own =
     let at : Event → Bool = λ other. place_before other == place_before event in
-    let here : list_any at (filter (is_step_of 1 number) (event ∷ [])) ≡ true = rw (own, same_number (place_before event)) refl in
+    let here : list_any at (filter (is_step_of 1 number) (event ∷ [])) ≡ true = rw (own, same-number (place_before event)) refl in
     ap (list_any at) (filter-append (is_step_of 1 number) steps (event ∷ []))
     ∙ list_any-append at (filter (is_step_of 1 number) steps) (filter (is_step_of 1 number) (event ∷ []))
     ∙ or-right _ _ here
@@ -165,7 +166,7 @@ so-far-ended script steps history more ended event report so good release = reco
 
 pub own-step : (w : World) (actor : Actor) (request : NodeRequest) → is_step_of 1 (length actor.ended + 1) (event_asking w done_step actor request) ≡ true
 unfolding is_step_of event_asking
-own-step w actor request = rw (same_number 1, same_number (length actor.ended + 1)) refl
+own-step w actor request = rw (same-number 1, same-number (length actor.ended + 1)) refl
 
 pub request-kept : (w : World) (actor : Actor) (request : NodeRequest) → (event_asking w done_step actor request).request ≡ request
 unfolding event_asking

@@ -16,6 +16,7 @@ use Rattle.qfs_base.specs.declared.image.Grant.{Grant}
 use Rattle.qfs_base.specs.declared.image.SlotRecord.{SlotRecord}
 use Rattle.qfs_base.specs.declared.image.SlotRow.{SlotRow}
 use Rattle.qfs_model_meta.specs.Slots.{never_granted, same_block, slot_cmp, is_slot, is_of_block, is_of_file, slot_at, granted_copy, grants_of_block, sealed_slot, change_state, with_slot, seal_file}
+use Rattle.qfs_laws_first.proofs.Tests.{same-number, and-both}
 
 -- ---- any table
 
@@ -67,23 +68,16 @@ each_range P from (suc n) h = (h from (omega arith) (omega arith), each_range P 
 
 -- ---- slots
 
-pub same_number : (n : ℕ) → (n == n) ≡ true
-same_number n = grind (arith, nat_tests)
-
-both : (a b : Bool) → (a && b) ≡ true → (a ≡ true) × (b ≡ true)
-both true b h = (refl, h)
-both false b h = absurd (cc)
-
 pub is_slot-self : (row : SlotRow) → is_slot row.block row.slot row ≡ true
 unfolding is_slot same_block
-is_slot-self row = rw (same_number row.block.file, same_number row.block.index, same_number row.slot) refl
+is_slot-self row = rw (same-number row.block.file, same-number row.block.index, same-number row.slot) refl
 
 -- a row of a slot has its block and its number
 pub is_slot-same : (block : BlockId) (slot : ℕ) (row : SlotRow) → is_slot block slot row ≡ true → (row.block ≡ block) × (row.slot ≡ slot)
 unfolding is_slot same_block
 is_slot-same block slot row is =
-    let parts = both _ _ is in
-    let keys = both _ _ parts.0 in
+    let parts = and-both _ _ is in
+    let keys = and-both _ _ parts.0 in
     let file : row.block.file ≡ block.file = eqb-true _ _ keys.0 in
     let index : row.block.index ≡ block.index = eqb-true _ _ keys.1 in
     ((λ i. record { file = file i; index = index i }), eqb-true _ _ parts.1)
@@ -195,7 +189,7 @@ find-sealed file block slot (row ∷ rows) own = one (is_slot block slot row) re
         → find (is_slot block slot) (seal_file file (row ∷ rows)) ≡ option_map (change_state sealed_slot) (find (is_slot block slot) (row ∷ rows))
     one true is rest =
         let same = is_slot-same block slot row is in
-        let of : (row.block.file == file) ≡ true = rw (same.0, own) (same_number file) in
+        let of : (row.block.file == file) ≡ true = rw (same.0, own) (same-number file) in
         rw (sealed-key file block slot row (row.block.file == file), is, of) refl
     one false is rest = rw (sealed-key file block slot row (row.block.file == file), is) rest
 

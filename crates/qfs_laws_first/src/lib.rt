@@ -2,14 +2,15 @@
 //! speaks of the definitions alone, and so of every run that they allow.
 #![tactic(auto)]
 
-ghost use Rattle.std.specs.Prelude.{◌≡◌, List};
+ghost use Rattle.std.specs.Prelude.{List, IsTrue};
 ghost use Rattle.qfs_base.specs.declared.command.Command.{Command};
 ghost use Rattle.qfs_base.specs.declared.history.Step.{Step};
 ghost use Rattle.qfs_base.specs.declared.script.Script.{Script};
 ghost use Rattle.qfs_model_world.specs.Deletion.{NoDeletion};
 ghost use Rattle.qfs_model_world.specs.EveryGet.{EveryGet};
+ghost use Rattle.qfs_model_world.specs.Fits.{fits};
 ghost use Rattle.qfs_model_world.specs.Reports.{OneFileHistory};
-ghost use Rattle.qfs_laws_first.specs.FirstPath.{PutsAndGets, IsFirstPath, AllDone};
+ghost use Rattle.qfs_laws_first.specs.FirstPath.{PutsAndGets, IsFirstPath, AllDone, CameOutDone};
 ghost use Rattle.qfs_laws_first.specs.Replies.{PlainReplies};
 
 /// In a script of puts and gets nothing is deleted, by any number of actors, in any order of steps,
@@ -32,4 +33,11 @@ pub fn first_path_keeps_its_promises()
         → IsFirstPath script commands → AllDone order → EveryGet script order }
     ensures deletion { (script : Script) (commands : List Command) (order : List Step)
         → IsFirstPath script commands → NoDeletion script order }
+{}
+
+/// An order that fits such a script, and in which every step came out done, has steps of actor 1
+/// alone: so the laws of the first path speak of it.
+pub fn fitting_orders_are_of_one_actor()
+    ensures { (script : Script) (commands : List Command) (order : List Step)
+        → IsFirstPath script commands → IsTrue (fits script order) → CameOutDone order → AllDone order }
 {}
