@@ -1,5 +1,5 @@
 -- What may be asked of a metaserver so that it stays sound: paths are paths, lengths are in their range, and a server tells
--- only of copies that were granted to it. The actors of a script ask nothing else.
+-- only of copies that were granted to it. The actors of a script are meant to ask nothing else.
 use Rattle.std.specs.Prelude.{ℕ, ⊤, ◌<◌, ◌≤◌, IsTrue}
 use Rattle.qfs_base.specs.Path.{IsPath}
 use Rattle.qfs_base.specs.Shape.{Shape}

@@ -1,5 +1,5 @@
--- What holds of every metaserver that started with nothing, as far as it alone can tell: how its state
--- keeps to what it told its actors so far.
+-- What is to hold of a metaserver that started with nothing, as far as it alone can tell: how its state
+-- keeps to what it told its actors so far. What it may be asked for that is said in `Asked`.
 use Rattle.std.specs.Prelude.{ℕ, ◌≡◌, ◌≢◌, ◌<◌, ◌≤◌, ◌+◌, ◌⊎◌, ◌==◌, ◌&&◌, Bool, true, not, nat_eq, List, [], ◌++◌, map, filter, find, Some, is_some, IsTrue}
 use Rattle.std.specs.Option.{option_to_list}
 use Rattle.std.specs.List.{list_any, IsDistinct}

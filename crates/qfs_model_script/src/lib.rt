@@ -4,6 +4,8 @@
 
 ghost use Rattle.qfs_model_script.specs.Examples.{MadeOfFive, SmallScript};
 
+mod limits;
+
 /// A script of two commands is printed in seven lines, and keeps all limits.
 pub fn small_script_is_printed_so()
     ensures { SmallScript }

@@ -38,7 +38,7 @@ pub record IsPrintedGiven (script : Script) (order : List Step) (written : List 
 abbrev pub IsShort : List Step → Type 0
 IsShort order = length order < 4294967296
 
--- what holds of every order that fits and is short, where the disks spell this in the end
+-- what is to hold of every run, where the disks spell this in the end
 pub record HoldsOf (script : Script) (order : List Step) (spelled : Option MetaImage) : Type 0 where
   pub one_history : OneFileHistory script order
   pub every_get : EveryGet script order

@@ -1,4 +1,4 @@
--- The sound world: what holds after every order that fits, in nine parts. What the metaserver alone can tell of each part is
+-- The sound world: what is to hold after every run, in nine parts. What the metaserver alone can tell of each part is
 -- a fact of its own; here stand what ties it to the chunk servers and to the actors.
 use Rattle.std.specs.Prelude.{◌≡◌, ℕ, ⊤, ◌<◌, ◌≤◌, ◌⊎◌, ◌==◌, ◌&&◌, Bool, false, List, map, flat_map, length, take, drop, Option, Some, None, IfSome, is_some, IsTrue}
 use Rattle.std.specs.List.{list_any, IsDistinct, enumerate_from}
