@@ -1,4 +1,4 @@
--- Puts and gets delete nothing.
+-- Puts and gets delete nothing, and restart nothing.
 use Rattle.std.proofs.Common.{◌≡◌, ℕ, ◌+◌, Bool, true, false, cond, List, [], ◌∷◌, length, Option, Some, None, refl, sym, subst}
 use Rattle.std.specs.List.{cons_option}
 use Rattle.qfs_base.specs.Shape.{Shape}
@@ -39,13 +39,14 @@ use Rattle.qfs_model_meta.specs.Range.{in_range}
 use Rattle.qfs_model_meta.specs.Step.{Served, stays, take_step, carry_out, fail_disks, end_step, serve_unless_dropped, meta_step}
 use Rattle.qfs_model_server.specs.Server.{Server}
 use Rattle.qfs_model_world.specs.Deletion.{NoDeletion, ordered_copy, erased_copy, erased_at, deleted_by, deleted_in}
+use Rattle.qfs_model_world.specs.Replayed.{says_restarted, has_restarted, KeepsAtRestart}
 use Rattle.qfs_model_world.specs.Events.{Event, event_asking, event_by, event_in, events_from, events}
 use Rattle.qfs_model_world.specs.World.{World, numbered_actors, start, numbered, meta_turned, chunk_turned, chunk_turn, node_turn, handed_over, move_asking, move_actor, move}
 use Rattle.qfs_laws_first.specs.Asks.{IsMetaOfFiles, IsChunkOfFiles, IsOfFiles, AsksOfFiles}
 use Rattle.qfs_laws_first.specs.FirstPath.{IsPutOrGet, PutsAndGets}
 use Rattle.qfs_laws_first.proofs.AsksOfGets.{get_work-asks}
 use Rattle.qfs_laws_first.proofs.AsksOfPuts.{put_work-asks}
-use Rattle.qfs_laws_first.proofs.Rows.{each_at, each_numbered, each_renumbered}
+use Rattle.qfs_laws_first.proofs.Rows.{each_weaker, each_at, each_numbered, each_renumbered}
 
 -- ---- what a put or get asks
 
@@ -109,73 +110,77 @@ request_of-asks actor only = present (present_command actor) refl
 
 -- ---- what the metaserver answers
 
+-- a reply that orders no deletion, and doesn't say that the metaserver restarted
+abbrev IsQuiet : MetaReply → Type 0
+IsQuiet reply = (ordered_copy reply ≡ None) × (says_restarted reply ≡ false)
+
 abbrev IsSilent : Decision → Type 0
-IsSilent (Tells reply) = ordered_copy reply ≡ None
-IsSilent (UsesDisks reply) = ordered_copy reply ≡ None
-IsSilent (Makes changes reply) = ordered_copy reply ≡ None
+IsSilent (Tells reply) = IsQuiet reply
+IsSilent (UsesDisks reply) = IsQuiet reply
+IsSilent (Makes changes reply) = IsQuiet reply
 
 -- a refusal that orders nothing
 abbrev OrdersNothing : Option MetaReply → Type 0
 OrdersNothing None = Unit {0}
-OrdersNothing (Some reply) = ordered_copy reply ≡ None
+OrdersNothing (Some reply) = IsQuiet reply
 
 refuse-silent : (refusal : Option MetaReply) (further : Decision) → OrdersNothing refusal → IsSilent further → IsSilent (refuse refusal further)
 unfolding refuse
 refuse-silent None further r f = f
 refuse-silent (Some reply) further r f = r
 
-unless-silent : (test : Bool) (reply : MetaReply) (further : Decision) → ordered_copy reply ≡ None → IsSilent further → IsSilent (unless test reply further)
+unless-silent : (test : Bool) (reply : MetaReply) (further : Decision) → IsQuiet reply → IsSilent further → IsSilent (unless test reply further)
 unfolding unless
 unless-silent true reply further r f = f
 unless-silent false reply further r f = r
 
-need-silent : {X : Type 0} (reply : MetaReply) (further : X → Decision) (found : Option X) → ordered_copy reply ≡ None → ((x : X) → IsSilent (further x))
+need-silent : {X : Type 0} (reply : MetaReply) (further : X → Decision) (found : Option X) → IsQuiet reply → ((x : X) → IsSilent (further x))
     → IsSilent (need reply further found)
 unfolding need
 need-silent reply further None r f = r
 need-silent reply further (Some x) r f = f x
 
 refuse_file-silent : (place : ℕ) (refusal : Option TreeRefusal) (further : Decision) → IsSilent further → IsSilent (refuse_file place refusal further)
-unfolding refuse_file refuse ordered_copy
+unfolding refuse_file refuse ordered_copy says_restarted
 refuse_file-silent place None further f = f
-refuse_file-silent place (Some why) further f = refl
+refuse_file-silent place (Some why) further f = (refl, refl)
 
 taken-silent : (again : Bool) (grant : Option Grant) → OrdersNothing (taken_refusal again grant)
-unfolding taken_refusal ordered_copy
+unfolding taken_refusal ordered_copy says_restarted
 taken-silent again None = tt
 taken-silent true (Some grant) = tt
-taken-silent false (Some grant) = refl
+taken-silent false (Some grant) = (refl, refl)
 
 incomplete-silent : (found : Option SlotId) → OrdersNothing (incomplete found)
-unfolding incomplete ordered_copy
+unfolding incomplete ordered_copy says_restarted
 incomplete-silent None = tt
-incomplete-silent (Some id) = refl
+incomplete-silent (Some id) = (refl, refl)
 
 decide_grant-silent : (layout : Shape) (actor : ℕ) (block : BlockId) (slot : ℕ) (again : Bool) (m : MetaImage) → IsSilent (decide_grant layout actor block slot again m)
-unfolding decide_grant grant_in grant_after grant_for_put put_granted ordered_copy
+unfolding decide_grant grant_in grant_after grant_for_put put_granted ordered_copy says_restarted
 decide_grant-silent layout actor block slot again m =
-    need-silent Told.Gone _ _ refl (λ (row : TreeRow).
-    unless-silent _ Told.NoBlock _ refl
+    need-silent Told.Gone _ _ (refl, refl) (λ (row : TreeRow).
+    unless-silent _ Told.NoBlock _ (refl, refl)
     (refuse-silent (taken_refusal again _) _ (taken-silent again _)
-    (need-silent (Told.NoServer block slot) _ _ refl (λ server. refl))))
+    (need-silent (Told.NoServer block slot) _ _ (refl, refl) (λ server. (refl, refl)))))
 
 decide_close-silent : (layout : Shape) (actor file : ℕ) (m : MetaImage) → IsSilent (decide_close layout actor file m)
-unfolding decide_close close_complete ordered_copy
+unfolding decide_close close_complete ordered_copy says_restarted
 decide_close-silent layout actor file m =
-    need-silent Told.Gone _ _ refl (λ (row : TreeRow). refuse-silent (incomplete _) _ (incomplete-silent _) refl)
+    need-silent Told.Gone _ _ (refl, refl) (λ (row : TreeRow). refuse-silent (incomplete _) _ (incomplete-silent _) (refl, refl))
 
 decide_abort-silent : (actor file : ℕ) (m : MetaImage) → IsSilent (decide_abort actor file m)
-unfolding decide_abort abort_unclosed ordered_copy
-decide_abort-silent actor file m = need-silent Told.Gone _ _ refl (λ (row : TreeRow). refl)
+unfolding decide_abort abort_unclosed ordered_copy says_restarted
+decide_abort-silent actor file m = need-silent Told.Gone _ _ (refl, refl) (λ (row : TreeRow). (refl, refl))
 
 decide_request-silent : (layout : Shape) (actor : ℕ) (m : MetaImage) (request : MetaRequest) → IsMetaOfFiles request → IsSilent (decide_request layout actor m request)
-unfolding decide_request decide_create decide_open decide_release ordered_copy
-decide_request-silent layout actor m (Ask.Create path command len) of = refuse_file-silent _ _ _ refl
+unfolding decide_request decide_create decide_open decide_release ordered_copy says_restarted
+decide_request-silent layout actor m (Ask.Create path command len) of = refuse_file-silent _ _ _ (refl, refl)
 decide_request-silent layout actor m (Ask.Grant file index slot again) of = decide_grant-silent layout actor _ slot again m
 decide_request-silent layout actor m (Ask.Close file) of = decide_close-silent layout actor file m
 decide_request-silent layout actor m (Ask.Abort file) of = decide_abort-silent actor file m
-decide_request-silent layout actor m (Ask.OpenFile path) of = refuse_file-silent _ _ _ refl
-decide_request-silent layout actor m (Ask.Release lease) of = unless-silent _ Told.Gone _ refl refl
+decide_request-silent layout actor m (Ask.OpenFile path) of = refuse_file-silent _ _ _ (refl, refl)
+decide_request-silent layout actor m (Ask.Release lease) of = unless-silent _ Told.Gone _ (refl, refl) (refl, refl)
 decide_request-silent layout actor m (Ask.Mkdir path) of = absurd of
 decide_request-silent layout actor m (Ask.Rmdir path) of = absurd of
 decide_request-silent layout actor m (Ask.Remove path) of = absurd of
@@ -200,48 +205,52 @@ decide_request-silent layout actor m (Ask.LeftOn server) of = absurd of
 decide_request-silent layout actor m Ask.Checkpoint of = absurd of
 decide_request-silent layout actor m Ask.Restart of = absurd of
 
-take_step-silent : (m next : MetaImage) (reply : MetaReply) (fits : Bool) → ordered_copy reply ≡ None → ordered_copy (take_step m next reply fits).reply ≡ None
-unfolding take_step stays ordered_copy
+take_step-silent : (m next : MetaImage) (reply : MetaReply) (fits : Bool) → IsQuiet reply → IsQuiet (take_step m next reply fits).reply
+unfolding take_step stays ordered_copy says_restarted
 take_step-silent m next reply true silent = silent
-take_step-silent m next reply false silent = refl
+take_step-silent m next reply false silent = (refl, refl)
 
-failed-silent : (b : Bool) → ordered_copy (cond b Told.LogFault Told.NoMemory) ≡ None
-unfolding ordered_copy
-failed-silent true = refl
-failed-silent false = refl
+failed-silent : (b : Bool) → IsQuiet (cond b Told.LogFault Told.NoMemory)
+unfolding ordered_copy says_restarted
+failed-silent true = (refl, refl)
+failed-silent false = (refl, refl)
 
-end_step-silent : (m : MetaImage) (decision : Decision) (outcome : Outcome) → IsSilent decision → ordered_copy (end_step m decision outcome).reply ≡ None
-unfolding end_step carry_out fail_disks stays ordered_copy
+end_step-silent : (m : MetaImage) (decision : Decision) (outcome : Outcome) → IsSilent decision → IsQuiet (end_step m decision outcome).reply
+unfolding end_step carry_out fail_disks stays ordered_copy says_restarted
 end_step-silent m (Tells reply) Ended.Done silent = silent
 end_step-silent m (UsesDisks reply) Ended.Done silent = silent
 end_step-silent m (Makes changes reply) Ended.Done silent = take_step-silent m (apply_all changes m) reply (counters_fit (apply_all changes m)) silent
 end_step-silent m (Tells reply) Ended.Failed silent = silent
-end_step-silent m (UsesDisks reply) Ended.Failed silent = refl
+end_step-silent m (UsesDisks reply) Ended.Failed silent = (refl, refl)
 end_step-silent m (Makes changes reply) Ended.Failed silent = failed-silent (counters_fit (apply_all changes m))
-end_step-silent m decision Ended.NoMemory silent = refl
+end_step-silent m decision Ended.NoMemory silent = (refl, refl)
 
-served-silent : (m : MetaImage) (served : Served) (turn : Option ℕ) → ordered_copy served.reply ≡ None → ordered_copy (serve_unless_dropped m served turn).reply ≡ None
-unfolding serve_unless_dropped stays ordered_copy
+served-silent : (m : MetaImage) (served : Served) (turn : Option ℕ) → IsQuiet served.reply → IsQuiet (serve_unless_dropped m served turn).reply
+unfolding serve_unless_dropped stays ordered_copy says_restarted
 served-silent m served None silent = silent
-served-silent m served (Some turn) silent = refl
+served-silent m served (Some turn) silent = (refl, refl)
 
 meta_step-silent : (layout : Shape) (actor : ℕ) (request : MetaRequest) (outcome : Outcome) (m : MetaImage) → IsMetaOfFiles request
-    → ordered_copy (meta_step layout actor request outcome m).reply ≡ None
-unfolding meta_step decide ordered_copy
+    → IsQuiet (meta_step layout actor request outcome m).reply
+unfolding meta_step decide ordered_copy says_restarted
 meta_step-silent layout actor request outcome m of =
     served-silent m _ (dropped_at actor m.dropped)
-    (end_step-silent m _ outcome (unless-silent (in_range (length m.servers) request) Told.Nothing _ refl (decide_request-silent layout actor m request of)))
+    (end_step-silent m _ outcome (unless-silent (in_range (length m.servers) request) Told.Nothing _ (refl, refl) (decide_request-silent layout actor m request of)))
 
 -- ---- steps
 
+-- the answer deletes nothing, and is no restart
+abbrev IsIdleAt : NodeRequest → NodeReply → Type 0
+IsIdleAt request reply = (deleted_by request reply ≡ None) × (has_restarted reply ≡ false)
+
 -- a chunk server that stores or hands out bytes erases nothing
 chunk-silent : (world : World) (number : ℕ) (request : ChunkRequest) (outcome : Outcome) (found : Option Server) → IsChunkOfFiles request
-    → deleted_by (To.Chunk number request) (chunk_turn world number request outcome found).reply ≡ None
-unfolding chunk_turn chunk_turned deleted_by erased_at erased_copy
-chunk-silent world number (Serve.Put key life bytes) outcome None of = refl
-chunk-silent world number (Serve.Put key life bytes) outcome (Some server) of = refl
-chunk-silent world number (Serve.Fetch key life from room) outcome None of = refl
-chunk-silent world number (Serve.Fetch key life from room) outcome (Some server) of = refl
+    → IsIdleAt (To.Chunk number request) (chunk_turn world number request outcome found).reply
+unfolding chunk_turn chunk_turned deleted_by erased_at erased_copy has_restarted
+chunk-silent world number (Serve.Put key life bytes) outcome None of = (refl, refl)
+chunk-silent world number (Serve.Put key life bytes) outcome (Some server) of = (refl, refl)
+chunk-silent world number (Serve.Fetch key life from room) outcome None of = (refl, refl)
+chunk-silent world number (Serve.Fetch key life from room) outcome (Some server) of = (refl, refl)
 chunk-silent world number (Serve.Erase key life) outcome found of = absurd of
 chunk-silent world number Serve.Stop outcome found of = absurd of
 chunk-silent world number Serve.Start outcome found of = absurd of
@@ -249,29 +258,29 @@ chunk-silent world number Serve.Wipe outcome found of = absurd of
 chunk-silent world number Serve.Inventory outcome found of = absurd of
 
 turn-silent : (world : World) (actor : ℕ) (outcome : Outcome) (request : NodeRequest) → IsOfFiles request
-    → deleted_by request (node_turn world actor outcome request).reply ≡ None
-unfolding node_turn meta_turned deleted_by
+    → IsIdleAt request (node_turn world actor outcome request).reply
+unfolding node_turn meta_turned deleted_by has_restarted
 turn-silent world actor outcome (To.Meta request) of = meta_step-silent world.layout actor request outcome world.meta of
 turn-silent world actor outcome (To.Chunk number request) of = chunk-silent world number request outcome (numbered world.servers number) of
 
-abbrev DeletesNothing : Event → Type 0
-DeletesNothing event = deleted_in event ≡ None
+abbrev IsIdle : Event → Type 0
+IsIdle event = (deleted_in event ≡ None) × (has_restarted event.reply ≡ false)
 
-abbrev IfDeletesNothing : Option Event → Type 0
-IfDeletesNothing None = Unit {0}
-IfDeletesNothing (Some event) = DeletesNothing event
+abbrev IfIdle : Option Event → Type 0
+IfIdle None = Unit {0}
+IfIdle (Some event) = IsIdle event
 
 event_by-silent : (world : World) (step : Step) (actor : Actor) (request : Option NodeRequest) → IfOfFiles request
-    → IfDeletesNothing (event_by world step actor request)
+    → IfIdle (event_by world step actor request)
 unfolding event_by event_asking deleted_in
 event_by-silent world step actor None of = tt
 event_by-silent world step actor (Some request) of = turn-silent world step.actor step.outcome request of
 
-event_in-silent : (world : World) (step : Step) → Each PutsAndGetsOnly world.actors → IfDeletesNothing (event_in world step)
+event_in-silent : (world : World) (step : Step) → Each PutsAndGetsOnly world.actors → IfIdle (event_in world step)
 unfolding event_in
 event_in-silent world step only = at (numbered world.actors step.actor) refl
   where
-    at : (found : Option Actor) → numbered world.actors step.actor ≡ found → IfDeletesNothing (event_in world step)
+    at : (found : Option Actor) → numbered world.actors step.actor ≡ found → IfIdle (event_in world step)
     at None is = rw is tt
     at (Some actor) is =
         rw is (event_by-silent world step actor (request_of actor)
@@ -321,11 +330,11 @@ move-only world step all = at (numbered world.actors step.actor) refl
         rw is (asking-only world step.actor step.outcome actor (request_of actor) all
         (each_numbered PutsAndGetsOnly world.actors step.actor actor all is))
 
-cons-silent : (first : Option Event) (rest : List Event) → IfDeletesNothing first → Each DeletesNothing rest → Each DeletesNothing (cons_option first rest)
+cons-silent : (first : Option Event) (rest : List Event) → IfIdle first → Each IsIdle rest → Each IsIdle (cons_option first rest)
 cons-silent None rest f r = r
 cons-silent (Some event) rest f r = (f, r)
 
-events_from-silent : (world : World) (order : List Step) → Each PutsAndGetsOnly world.actors → Each DeletesNothing (events_from world order)
+events_from-silent : (world : World) (order : List Step) → Each PutsAndGetsOnly world.actors → Each IsIdle (events_from world order)
 unfolding events_from
 events_from-silent world [] all = tt
 events_from-silent world (step ∷ steps) all =
@@ -337,11 +346,17 @@ unfolding numbered_actors starting
 actors-only layout number [] each = tt
 actors-only layout number (commands ∷ more) each = (each.0, actors-only layout (number + 1) more each.1)
 
-events-silent : (script : Script) (order : List Step) → PutsAndGets script → Each DeletesNothing (events script order)
+events-silent : (script : Script) (order : List Step) → PutsAndGets script → Each IsIdle (events script order)
 unfolding events start
 events-silent script order all = events_from-silent (start script) order (actors-only script.layout 1 _ all)
 
 pub deletes_nothing : (script : Script) (order : List Step) → PutsAndGets script → NoDeletion script order
 deletes_nothing script order all i n event c at deleted later within =
-    let silent : deleted_in event ≡ None = each_at DeletesNothing (events script order) i event (events-silent script order all) at in
+    let silent : deleted_in event ≡ None = (each_at IsIdle (events script order) i event (events-silent script order all) at).0 in
     absurd (cc)
+
+keeps : (event : Event) → IsIdle event → KeepsAtRestart event
+keeps event idle restarted = let none = idle.1 in absurd (cc)
+
+pub restarts_nothing : (script : Script) (order : List Step) → PutsAndGets script → Each KeepsAtRestart (events script order)
+restarts_nothing script order all = each_weaker IsIdle KeepsAtRestart (events script order) keeps (events-silent script order all)

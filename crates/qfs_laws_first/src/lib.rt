@@ -3,20 +3,26 @@
 #![tactic(auto)]
 
 ghost use Rattle.std.specs.Prelude.{List, IsTrue};
+ghost use Rattle.qfs_base.specs.Table.{Each};
 ghost use Rattle.qfs_base.specs.declared.command.Command.{Command};
 ghost use Rattle.qfs_base.specs.declared.history.Step.{Step};
 ghost use Rattle.qfs_base.specs.declared.script.Script.{Script};
 ghost use Rattle.qfs_model_world.specs.Deletion.{NoDeletion};
+ghost use Rattle.qfs_model_world.specs.Events.{events};
 ghost use Rattle.qfs_model_world.specs.EveryGet.{EveryGet};
 ghost use Rattle.qfs_model_world.specs.Fits.{fits};
+ghost use Rattle.qfs_model_world.specs.Replayed.{KeepsAtRestart};
 ghost use Rattle.qfs_model_world.specs.Reports.{OneFileHistory};
 ghost use Rattle.qfs_laws_first.specs.FirstPath.{PutsAndGets, IsFirstPath, AllDone, CameOutDone};
 ghost use Rattle.qfs_laws_first.specs.Replies.{PlainReplies};
 
 /// In a script of puts and gets nothing is deleted, by any number of actors, in any order of steps,
-/// however they come out: so no deletion names a current copy.
+/// however they come out: so no deletion names a current copy. Nor does the metaserver restart, so
+/// every restart leaves it as it was.
 pub fn puts_and_gets_delete_nothing()
-    ensures { (script : Script) (order : List Step) → PutsAndGets script → NoDeletion script order }
+    ensures deletion { (script : Script) (order : List Step) → PutsAndGets script → NoDeletion script order }
+    ensures restarts { (script : Script) (order : List Step)
+        → PutsAndGets script → Each KeepsAtRestart (events script order) }
 {}
 
 /// Where one actor puts files of 1 to 32 bytes and gets whole files, and all steps so far came out
