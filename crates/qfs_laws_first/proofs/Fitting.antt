@@ -1,5 +1,5 @@
 -- An order that fits a script of the first path, and whose steps came out done, is one of actor 1 alone.
-use Rattle.std.proofs.Common.{◌≡◌, ℕ, ◌==◌, ◌&&◌, ◌||◌, Bool, true, false, cond, List, [], ◌∷◌, ◌++◌, refl, sym, ap, subst, ◌∙◌, inl, inr}
+use Rattle.std.proofs.Common.{◌≡◌, ℕ, ◌==◌, ◌||◌, Bool, true, false, cond, List, [], ◌∷◌, ◌++◌, refl, sym, ap, ◌∙◌, inl, inr}
 use Rattle.std.proofs.lemmas.Bool.{eqb-true}
 use Rattle.std.specs.Prelude.{IsTrue}
 use Rattle.std.specs.List.{list_any}
@@ -42,11 +42,13 @@ module _ (script : Script) (commands : List Command) (first_path : IsFirstPath s
   done-from (step ∷ order) steps w r fit done =
       let parts = and-both _ _ fit in
       let is : step ≡ done_step = step-is steps w step r parts.0 done.0 in
-      let rest : fits_from script (move w done_step) order ≡ true = ap (λ step. fits_from script (move w step) order) (sym is) ∙ parts.1 in
-      (is, elim (next script commands steps w first_path r) [
+      let rest : fits_from script (move w done_step) order ≡ true = ap (λ step. fits_from script (move w step) order) (sym is) ∙ parts.1 in (
+        is,
+        elim (next script commands steps w first_path r) [
           | inl none ↦ done-from order steps w r (ap (λ v. fits_from script v order) (sym none.1) ∙ rest) done.1
           | inr some ↦ done-from order (steps ++ some.0 ∷ []) (move w done_step) some.2 rest done.1
-        ])
+        ],
+      )
 
   pub fitting-done : (order : List Step) → IsTrue (fits script order) → CameOutDone order → AllDone order
   unfolding fits

@@ -1,10 +1,10 @@
 -- A put creates its file.
-use Rattle.std.proofs.Common.{◌≡◌, ℕ, zero, suc, ◌+◌, ◌<◌, ◌≤◌, ◌==◌, ◌&&◌, Bool, true, false, List, [], ◌∷◌, length, Option, Some, None, refl, arith}
+use Rattle.std.proofs.Common.{◌≡◌, ℕ, zero, suc, ◌+◌, ◌<◌, ◌≤◌, ◌==◌, ◌&&◌, Bool, true, false, List, [], ◌∷◌, length, Some, None, refl, arith}
 use Rattle.std.proofs.lemmas.Bool.{eqb-true}
 use Rattle.std.proofs.lemmas.List.{length-append}
 use Rattle.qfs_base.specs.NameTree.{PathNames, row_cmp, added, add_refusal}
 use Rattle.qfs_base.specs.Shape.{Shape}
-use Rattle.qfs_base.specs.Table.{Each, place}
+use Rattle.qfs_base.specs.Table.{Each}
 use Rattle.qfs_base.specs.declared.history.Entry.TheVariants as Wrote
 use Rattle.qfs_base.specs.declared.history.Outcome.TheVariants as Ended
 use Rattle.qfs_base.specs.declared.image.MetaImage.{MetaImage}
@@ -17,7 +17,7 @@ use Rattle.qfs_base.specs.declared.script.Script.{Script}
 use Rattle.qfs_model_meta.specs.Apply.{write_entry, add_file, apply, apply_all}
 use Rattle.qfs_model_meta.specs.Change.{AddFile}
 use Rattle.qfs_model_meta.specs.Decide.{decide, decide_request}
-use Rattle.qfs_model_meta.specs.Decision.{Tells, refuse, unless, refuse_file}
+use Rattle.qfs_model_meta.specs.Decision.{unless}
 use Rattle.qfs_model_meta.specs.PutRequests.{decide_create}
 use Rattle.qfs_model_meta.specs.Range.{in_range}
 use Rattle.qfs_model_meta.specs.Slots.{same_block, is_slot, is_of_block}
@@ -35,7 +35,6 @@ use Rattle.qfs_laws_first.proofs.Tests.{same-number, apart-number, and-false}
 -- the state once the file is there
 abbrev pub created_state : MetaImage → PathNames → ℕ → ℕ → MetaImage
 created_state m path command len = next_turn (apply_all (AddFile path 1 command len ∷ []) m)
-
 
 module _ (layout : Shape) (m : MetaImage) (path : PathNames) (command len : ℕ) (none : m.dropped ≡ []) where
   pub create-refused : (why : TreeRefusal) → add_refusal (standing m.tree) path ≡ Some why

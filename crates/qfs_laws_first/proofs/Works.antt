@@ -81,7 +81,8 @@ module _ (layout : Shape) (bytes : List ℕ) (file slot : ℕ) where
   slot-goes_on server below =
       let own : (slot == slot) ≡ true = grind (arith, nat_tests) in
       ap (λ work. goes_on work (From.Meta (Said.Granted (grant_on layout (length bytes) file slot server)))) (slot-is below)
-      ∙ rw own refl
+      ∙ ap (if_meant (store layout bytes file 0 slot (at_slot layout bytes file (slot + 1)) (store_slot 63 true layout bytes file 0 slot (at_slot layout bytes file (slot + 1))))
+      (grant_on layout (length bytes) file slot server)) own
 
   pub store-asks : (server : ℕ) → request_in (at_store layout bytes file slot server)
       ≡ Some (To.Chunk server (Serve.Put (first_key file slot) 1 (slot_of layout bytes 0 slot)))
