@@ -55,7 +55,3 @@ pub record IsFirstPath (script : Script) (commands : List Command) : Type 0 wher
 -- every step is one of actor 1, and came out done
 abbrev pub AllDone : List Step → Type 0
 AllDone order = Each (λ step. step ≡ record { actor = 1; outcome = Ended.Done }) order
-
--- every step came out done
-abbrev pub CameOutDone : List Step → Type 0
-CameOutDone order = Each (λ (step : Step). step.outcome ≡ Ended.Done) order

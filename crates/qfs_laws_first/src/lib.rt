@@ -3,6 +3,7 @@
 #![tactic(auto)]
 
 ghost use Rattle.std.specs.Prelude.{List, IsTrue};
+ghost use Rattle.std.specs.List.{list_all};
 ghost use Rattle.qfs_base.specs.Table.{Each};
 ghost use Rattle.qfs_base.specs.declared.command.Command.{Command};
 ghost use Rattle.qfs_base.specs.declared.history.Step.{Step};
@@ -11,9 +12,10 @@ ghost use Rattle.qfs_model_world.specs.Deletion.{NoDeletion};
 ghost use Rattle.qfs_model_world.specs.Events.{events};
 ghost use Rattle.qfs_model_world.specs.EveryGet.{EveryGet};
 ghost use Rattle.qfs_model_world.specs.Fits.{fits};
+ghost use Rattle.qfs_model_world.specs.GivenOrder.{is_done};
 ghost use Rattle.qfs_model_world.specs.Replayed.{KeepsAtRestart};
 ghost use Rattle.qfs_model_world.specs.Reports.{OneFileHistory};
-ghost use Rattle.qfs_laws_first.specs.FirstPath.{PutsAndGets, IsFirstPath, AllDone, CameOutDone};
+ghost use Rattle.qfs_laws_first.specs.FirstPath.{PutsAndGets, IsFirstPath, AllDone};
 ghost use Rattle.qfs_laws_first.specs.Replies.{PlainReplies};
 
 /// In a script of puts and gets nothing is deleted, by any number of actors, in any order of steps,
@@ -45,5 +47,5 @@ pub fn first_path_keeps_its_promises()
 /// alone: so the laws of the first path speak of it.
 pub fn fitting_orders_are_of_one_actor()
     ensures { (script : Script) (commands : List Command) (order : List Step)
-        → IsFirstPath script commands → IsTrue (fits script order) → CameOutDone order → AllDone order }
+        → IsFirstPath script commands → IsTrue (fits script order) → IsTrue (list_all is_done order) → AllDone order }
 {}
