@@ -1,0 +1,189 @@
+-- Some server is chosen where there are more servers, all of them up, than are barred.
+use Rattle.std.proofs.Common.{◌≡◌, ℕ, zero, suc, ◌+◌, ◌<◌, ◌≤◌, nat_le, nat_lt, nat_eq, Bool, true, false, cond, not, ◌&&◌, List, [], ◌∷◌, length, map, filter, fold, replicate, Option, Some, refl, ap, subst, arith}
+use Rattle.std.specs.Option.{option_map}
+use Rattle.std.specs.List.{reduce, enumerate_from}
+use Rattle.std.proofs.lemmas.Bool.{eqb-true}
+use Rattle.std.proofs.lemmas.Bool.Decides.{nat_tests}
+use Rattle.std.specs.Ordering.{nat_cmp}
+use Rattle.std.specs.BTreeSet.{insert_key}
+use Rattle.std.specs.declared.cmp.Ordering.TheVariants.{Less, Equal, Greater}
+use Rattle.std.specs.Ordering.{match_ordering}
+use Rattle.qfs_base.specs.NumberSet.{has, with_member}
+use Rattle.qfs_base.specs.Table.{Each}
+use Rattle.qfs_base.specs.declared.chunk.Copy.{Copy}
+use Rattle.qfs_base.specs.declared.image.Load.{Load}
+use Rattle.qfs_base.specs.declared.image.ServerView.{ServerView}
+use Rattle.qfs_base.specs.declared.image.SlotRow.{SlotRow}
+use Rattle.qfs_model_meta.specs.Placing.{Numbered, load_of, census, is_open, open_servers, lighter, choose, with_live_servers}
+use Rattle.qfs_model_meta.specs.Servers.{is_live}
+use Rattle.qfs_model_meta.specs.Step.{first_server}
+use Rattle.qfs_laws_first.proofs.Rows.{each_weaker}
+use Rattle.qfs_laws_first.proofs.Tests.{and-false}
+
+-- ---- barred numbers
+
+-- how many of these numbers are k or more
+abbrev from_on : ℕ → List ℕ → ℕ
+from_on k numbers = length (filter (λ n. nat_le k n) numbers)
+
+from_on-step : (k n : ℕ) (ns : List ℕ) (a b : Bool) → nat_le (k + 1) n ≡ a → nat_le k n ≡ b → from_on (k + 1) ns ≤ from_on k ns
+    → from_on (k + 1) (n ∷ ns) ≤ from_on k (n ∷ ns)
+from_on-step k n ns true true p q h = rw (p, q) (omega (arith, h))
+from_on-step k n ns true false p q h = absurd (grind (arith, nat_tests))
+from_on-step k n ns false true p q h = rw (p, q) (omega (arith, h))
+from_on-step k n ns false false p q h = rw (p, q) h
+
+from_on-next : (k : ℕ) (numbers : List ℕ) → from_on (k + 1) numbers ≤ from_on k numbers
+from_on-next k [] = omega arith
+from_on-next k (n ∷ ns) = from_on-step k n ns (nat_le (k + 1) n) (nat_le k n) refl refl (from_on-next k ns)
+
+from_on-fewer : (k n : ℕ) (ns : List ℕ) (a b : Bool) → nat_le (k + 1) n ≡ a → nat_le k n ≡ b → from_on (k + 1) ns + 1 ≤ from_on k ns
+    → from_on (k + 1) (n ∷ ns) + 1 ≤ from_on k (n ∷ ns)
+from_on-fewer k n ns true true p q h = rw (p, q) (omega (arith, h))
+from_on-fewer k n ns true false p q h = absurd (grind (arith, nat_tests))
+from_on-fewer k n ns false true p q h = rw (p, q) (omega (arith, h))
+from_on-fewer k n ns false false p q h = rw (p, q) h
+
+from_on-here : (k n : ℕ) (ns : List ℕ) → n ≡ k → from_on (k + 1) ns ≤ from_on k ns → from_on (k + 1) (n ∷ ns) + 1 ≤ from_on k (n ∷ ns)
+from_on-here k n ns same h =
+    let above : nat_le (k + 1) n ≡ false = grind (arith, nat_tests) in
+    let at : nat_le k n ≡ true = grind (arith, nat_tests) in
+    rw (above, at) (omega (arith, h))
+
+from_on-split : (k n : ℕ) (ns : List ℕ) (b : Bool) → nat_eq n k ≡ b → has (n ∷ ns) k ≡ true → from_on (k + 1) ns ≤ from_on k ns
+    → (has ns k ≡ true → from_on (k + 1) ns + 1 ≤ from_on k ns) → from_on (k + 1) (n ∷ ns) + 1 ≤ from_on k (n ∷ ns)
+from_on-split k n ns true p member less further = from_on-here k n ns (eqb-true n k p) less
+from_on-split k n ns false p member less further =
+    from_on-fewer k n ns (nat_le (k + 1) n) (nat_le k n) refl refl (further (rw p at member))
+
+-- a number that is among them counts
+from_on-has : (k : ℕ) (numbers : List ℕ) → has numbers k ≡ true → from_on (k + 1) numbers + 1 ≤ from_on k numbers
+from_on-has k [] member = absurd (cc)
+from_on-has k (n ∷ ns) member = from_on-split k n ns (nat_eq n k) refl member (from_on-next k ns) (from_on-has k ns)
+
+from_on-one : (k n : ℕ) (ns : List ℕ) (b : Bool) → nat_le k n ≡ b → from_on k ns ≤ length ns → from_on k (n ∷ ns) ≤ length (n ∷ ns)
+from_on-one k n ns true p h = rw p (omega (arith, h))
+from_on-one k n ns false p h = rw p (omega (arith, h))
+
+from_on-all : (k : ℕ) (numbers : List ℕ) → from_on k numbers ≤ length numbers
+from_on-all k [] = omega arith
+from_on-all k (n ∷ ns) = from_on-one k n ns (nat_le k n) refl (from_on-all k ns)
+
+-- ---- open servers
+
+-- a server that takes chunks
+abbrev IsReady : Load → Type 0
+IsReady load = (load.up ≡ true) × (load.leaving ≡ false)
+
+-- where none is open, all of them are barred
+none_open-next : (barred : List ℕ) (number : ℕ) (load : Load) (loads : List Load) (b : Bool) → has barred number ≡ b → IsReady load
+    → filter (is_open barred) (enumerate_from number (load ∷ loads)) ≡ []
+    → (filter (is_open barred) (enumerate_from (number + 1) loads) ≡ [] → length loads ≤ from_on (number + 1) barred)
+    → length (load ∷ loads) ≤ from_on number barred
+unfolding is_open
+none_open-next barred number load loads true p ready none rest =
+    let shut : is_open barred (number, load) ≡ false = rw p (and-false (load.up && not load.leaving)) in
+    let further = rest (rw shut at none) in
+    omega (arith, further, from_on-has number barred p)
+none_open-next barred number load loads false p ready none rest =
+    let open_now : is_open barred (number, load) ≡ true = rw (ready.0, ready.1, p) refl in
+    let nothing : (number, load) ∷ filter (is_open barred) (enumerate_from (number + 1) loads) ≡ [] = rw open_now at none in
+    absurd (cc)
+
+none_open : (barred : List ℕ) (number : ℕ) (loads : List Load) → Each IsReady loads
+    → filter (is_open barred) (enumerate_from number loads) ≡ [] → length loads ≤ from_on number barred
+none_open barred number [] ready none = omega arith
+none_open barred number (load ∷ loads) ready none =
+    none_open-next barred number load loads (has barred number) refl ready.0 none (none_open barred (number + 1) loads ready.1)
+
+-- a server of a number in a range
+abbrev IsNumbered : ℕ → ℕ → Numbered → Type 0
+IsNumbered from to s = (from ≤ s.0) × (s.0 < to)
+
+numbers-wider : (from to : ℕ) (s : Numbered) → IsNumbered (from + 1) to s → IsNumbered from to s
+numbers-wider from to s is = (omega (arith, is.0), is.1)
+
+enumerated : (from : ℕ) (loads : List Load) → Each (IsNumbered from (from + length loads)) (enumerate_from from loads)
+enumerated from [] = tt
+enumerated from (load ∷ loads) =
+    let to : from + 1 + length loads ≡ from + length (load ∷ loads) = omega arith in
+    let rest : Each (IsNumbered (from + 1) (from + length (load ∷ loads))) (enumerate_from (from + 1) loads) =
+    subst (λ to. Each (IsNumbered (from + 1) to) (enumerate_from (from + 1) loads)) to (enumerated (from + 1) loads) in
+    ((omega arith, omega arith), each_weaker _ _ _ (numbers-wider from (from + length (load ∷ loads))) rest)
+
+each_filter-one : {X : Type 0} (P : X → Type 0) (test : X → Bool) (x : X) (xs : List X) (b : Bool) → test x ≡ b → P x → Each P (filter test xs) → Each P (filter test (x ∷ xs))
+each_filter-one P test x xs true is here rest = rw is (here, rest)
+each_filter-one P test x xs false is here rest = rw is rest
+
+pub each_filter : {X : Type 0} (P : X → Type 0) (test : X → Bool) (xs : List X) → Each P xs → Each P (filter test xs)
+each_filter P test [] each = tt
+each_filter P test (x ∷ xs) each = each_filter-one P test x xs (test x) refl each.0 (each_filter P test xs each.1)
+
+lighter-one : (P : Numbered → Type 0) (best next : Numbered) → P best → P next → P (lighter best next)
+unfolding lighter
+lighter-one P best next b n = elim (nat_lt next.1.count best.1.count) as (λ t. P (cond t next best)) [ true ↦ n | false ↦ b ]
+
+lightest-one : (P : Numbered → Type 0) (best : Numbered) (servers : List Numbered) → P best → Each P servers → P (fold lighter best servers)
+lightest-one P best [] b each = b
+lightest-one P best (next ∷ servers) b each = lightest-one P (lighter best next) servers (lighter-one P best next b each.0) each.1
+
+-- a server that was chosen of so many
+pub record IsChosen (servers : ℕ) (found : Option ℕ) : Type 0 where
+  pub server : ℕ
+  pub first : 1 ≤ server
+  pub last : server ≤ servers
+  pub chosen : found ≡ Some server
+
+chosen_of : (servers : ℕ) (candidates : List Numbered) → Each (IsNumbered 1 (1 + servers)) candidates → (candidates ≡ [] → ⊥)
+    → IsChosen servers (option_map (λ (s : Numbered). s.0) (reduce lighter candidates))
+chosen_of servers [] each some = absurd (some refl)
+chosen_of servers (best ∷ rest) each some =
+    let lightest = lightest-one (IsNumbered 1 (1 + servers)) best rest each.0 each.1 in
+    record { server = (fold lighter best rest).0; first = lightest.0; last = omega (arith, lightest.1); chosen = refl }
+
+choose-some : (loads : List Load) (barred : List ℕ) → Each IsReady loads → length barred < length loads → IsChosen (length loads) (choose loads barred)
+unfolding choose open_servers
+choose-some loads barred ready few =
+    chosen_of (length loads) (filter (is_open barred) (enumerate_from 1 loads))
+    (each_filter (IsNumbered 1 (1 + length loads)) (is_open barred) (enumerate_from 1 loads) (enumerated 1 loads))
+    (λ none. omega (arith, none_open barred 1 loads ready none, from_on-all 1 barred, few))
+
+-- ---- the servers of the first path
+
+ready_from : (slots : List SlotRow) (from n : ℕ) → Each IsReady (map (λ (s : ℕ × ServerView). load_of slots s.0 s.1) (enumerate_from from (replicate n first_server)))
+unfolding load_of first_server
+ready_from slots from zero = tt
+ready_from slots from (suc n) = ((refl, refl), ready_from slots (from + 1) n)
+
+census_long : (slots : List SlotRow) (from n : ℕ) → length (map (λ (s : ℕ × ServerView). load_of slots s.0 s.1) (enumerate_from from (replicate n first_server))) ≡ n
+census_long slots from zero = refl
+census_long slots from (suc n) = ap suc (census_long slots (from + 1) n)
+
+pub choose-first : (slots : List SlotRow) (n : ℕ) (barred : List ℕ) → length barred < n → IsChosen n (choose (census (replicate n first_server) slots) barred)
+unfolding census
+choose-first slots n barred few =
+    let long = census_long slots 1 n in
+    let loads : List Load = map (λ (s : ℕ × ServerView). load_of slots s.0 s.1) (enumerate_from 1 (replicate n first_server)) in
+    subst (λ k. IsChosen k (choose loads barred)) long (choose-some loads barred (ready_from slots 1 n) (omega (arith, few, long)))
+
+-- ---- how many are barred
+
+insert_key-longer : (k : ℕ) (ks : List ℕ) → length (insert_key nat_cmp ks k) ≤ length ks + 1
+insert_key-longer k [] = omega arith
+insert_key-longer k (x ∷ xs) =
+    let rest = insert_key-longer k xs in
+    elim (nat_cmp k x) as (λ r. length (match_ordering r (k ∷ x ∷ xs) (x ∷ xs) (x ∷ insert_key nat_cmp xs k)) ≤ length (x ∷ xs) + 1)
+    [ Less ↦ omega arith | Equal ↦ omega arith | Greater ↦ omega (arith, rest) ]
+
+barred-one : (servers : List ServerView) (set : List ℕ) (copy : Copy) → length (cond (is_live servers copy) (with_member set copy.server) set) ≤ length set + 1
+barred-one servers set copy =
+    elim (is_live servers copy) as (λ b. length (cond b (with_member set copy.server) set) ≤ length set + 1)
+    [ true ↦ insert_key-longer copy.server set | false ↦ omega arith ]
+
+pub barred-few : (servers : List ServerView) (set : List ℕ) (copies : List Copy) → length (with_live_servers servers set copies) ≤ length set + length copies
+unfolding with_live_servers
+barred-few servers set [] = omega arith
+barred-few servers set (copy ∷ copies) =
+    let next : List ℕ = cond (is_live servers copy) (with_member set copy.server) set in
+    let rest = barred-few servers next copies in
+    omega (arith, rest, barred-one servers set copy)

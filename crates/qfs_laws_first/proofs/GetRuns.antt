@@ -1,0 +1,330 @@
+-- The steps of a get, from its first one to its last.
+use Rattle.std.proofs.Common.{◌≡◌, ℕ, ◌+◌, ◌*◌, ◌<◌, ◌≤◌, Bool, true, false, List, [], ◌∷◌, ◌++◌, length, replicate, Option, Some, None, refl, sym, ap, subst, ◌∙◌, arith, inl, inr}
+use Rattle.std.proofs.lemmas.Bool.{cases_lt}
+use Rattle.std.proofs.lemmas.List.{append-nil}
+use Rattle.std.specs.Prelude.{slice_get}
+use Rattle.qfs_base.specs.FileReplies.{reply_at}
+use Rattle.qfs_base.specs.NameTree.{PathNames, look_refusal}
+use Rattle.qfs_base.specs.Shape.{Shape}
+use Rattle.qfs_base.specs.declared.command.Command.{Command}
+use Rattle.qfs_base.specs.declared.command.Command.TheVariants as Does
+use Rattle.qfs_base.specs.declared.command.FileCommand.TheVariants as File
+use Rattle.qfs_base.specs.declared.command.Reply.TheVariants as Report
+use Rattle.qfs_base.specs.declared.history.FileReply.TheVariants as Told
+use Rattle.qfs_base.specs.declared.history.Outcome.TheVariants as Ended
+use Rattle.qfs_base.specs.declared.reply.ChunkAnswer.TheVariants as Did
+use Rattle.qfs_base.specs.declared.reply.ChunkReply.{ChunkReply}
+use Rattle.qfs_base.specs.declared.reply.MetaReply.{MetaReply}
+use Rattle.qfs_base.specs.declared.reply.MetaReply.TheVariants as Said
+use Rattle.qfs_base.specs.declared.reply.NodeReply.TheVariants as From
+use Rattle.qfs_base.specs.declared.reply.Opened.{Opened}
+use Rattle.qfs_base.specs.declared.reply.TreeRefusal.{TreeRefusal}
+use Rattle.qfs_base.specs.declared.request.ChunkRequest.TheVariants as Serve
+use Rattle.qfs_base.specs.declared.request.MetaRequest.{MetaRequest}
+use Rattle.qfs_base.specs.declared.request.MetaRequest.TheVariants as Ask
+use Rattle.qfs_base.specs.declared.request.NodeRequest.{NodeRequest}
+use Rattle.qfs_base.specs.declared.request.NodeRequest.TheVariants as To
+use Rattle.qfs_base.specs.declared.script.Script.{Script}
+use Rattle.qfs_model_actor.specs.Actor.{present_command, work_left}
+use Rattle.qfs_model_actor.specs.Command.{file_work, work_of}
+use Rattle.qfs_model_actor.specs.Get.{listed_in, get_work}
+use Rattle.qfs_model_actor.specs.Read.{Source, sources_of}
+use Rattle.qfs_model_actor.specs.Work.{Work, request_in}
+use Rattle.qfs_model_meta.specs.Apply.{finish_lease, apply, apply_all}
+use Rattle.qfs_model_meta.specs.GetRequests.{opened}
+use Rattle.qfs_model_meta.specs.Leases.{holds_lease}
+use Rattle.qfs_model_meta.specs.Step.{Served, next_turn, meta_step}
+use Rattle.qfs_model_meta.specs.TreeRows.{standing}
+use Rattle.qfs_model_server.specs.Server.{Server}
+use Rattle.qfs_model_slot.specs.Slot.{slot_of}
+use Rattle.qfs_model_world.specs.Events.{Event, event_asking, event_in}
+use Rattle.qfs_model_world.specs.EveryGet.{is_release}
+use Rattle.qfs_model_world.specs.Puts.{command_of, puts_of}
+use Rattle.qfs_model_world.specs.World.{World, renumbered}
+use Rattle.qfs_model_world.proofs.OneActor.{done_step}
+use Rattle.qfs_base.specs.Key.{key_cmp}
+use Rattle.qfs_base.specs.KeyMap.{value_at}
+use Rattle.std.specs.Option.{option_and_then}
+use Rattle.qfs_laws_first.specs.FirstPath.{IsFirstPath}
+use Rattle.qfs_laws_first.proofs.Gets.{get-refused-there, get-read-there, closed-file, between-later, opened_state, open-refused, open-served, get-opened, listed-slot, blocks-one, listed-nine, stays-stored, get-fetched, released_state, release-served, release-gone-served, reads-ended, get-released}
+use Rattle.qfs_laws_first.proofs.Moves.{work_left-heard, work_left-next, meta_goes_on, meta_ends, chunk_goes_on, event-here}
+use Rattle.qfs_laws_first.proofs.PutRuns.{short-file}
+use Rattle.qfs_laws_first.proofs.Reading.{IsShort, slot_long}
+use Rattle.qfs_laws_first.proofs.Reports.{HasPlace, IsGood, borne-more, place-more, no-release, place-here, placed-at, place-of-refused, place-of-read, read-here}
+use Rattle.qfs_laws_first.proofs.Runs.{CanFetch, Fetching, Run, Next, goes-on-to, ends-with}
+use Rattle.qfs_laws_first.proofs.Servers.{IsUp, fetch-hands}
+use Rattle.qfs_laws_first.proofs.States.{first_key, first_copy, IsFile, Between}
+use Rattle.qfs_laws_first.proofs.Trees.{ClosedAt, closed-at}
+use Rattle.qfs_laws_first.proofs.Works.{at_fetch, get-asks, get-refused, get-goes_on, ListsSlots, source-at, fetch-asks, fetch-goes_on, release-asks, release-done, release-gone}
+
+module _ (script : Script) (commands : List Command) (steps : List Event) (w : World) (first_path : IsFirstPath script commands) (r : Run script commands steps w) where
+  abbrev c : ℕ
+  c = length r.actor.ended
+
+  served-here : (request : MetaRequest) (served : Served) → meta_step script.layout 1 request Ended.Done w.meta ≡ served → meta_step w.layout 1 request Ended.Done w.meta ≡ served
+  served-here request served is = ap (λ layout. meta_step layout 1 request Ended.Done w.meta) r.layout ∙ is
+
+  -- ---- OpenFile
+
+  module _ (path : PathNames) (silent : r.actor.heard ≡ []) (b : Between script w.servers w.meta c)
+      (present : present_command r.actor ≡ Some (Does.File (File.Get path None)))
+      (is : command_of script 1 (c + 1) ≡ Some (Does.File (File.Get path None))) (few : c ≤ 4096) where
+    abbrev request : NodeRequest
+    request = To.Meta (Ask.OpenFile path)
+
+    abbrev work : Work
+    work = get_work script.layout path None
+
+    left : work_left r.actor ≡ Some work
+    unfolding work_of file_work
+    left = work_left-next r.actor (Does.File (File.Get path None)) silent present ∙ ap (λ layout. Some (get_work layout path None)) r.own_layout
+
+    listed : event_in w done_step ≡ Some (event_asking w done_step r.actor request)
+    listed = event-here w r.actor work r.alone left request (get-asks script.layout path)
+
+    no-release-here : is_release (event_asking w done_step r.actor request).request ≡ false
+    unfolding event_asking is_release
+    no-release-here = refl
+
+    refused : (why : TreeRefusal) → look_refusal (standing w.meta.tree) path ≡ Some why → Next script commands steps w
+    refused why not_free =
+        let place : ℕ = length w.meta.history in
+        let good : IsGood script (steps ++ event_asking w done_step r.actor request ∷ []) (w.meta.history ++ []) (c + 1) (Report.Refused place why) = record {
+          command = File.Get path None;
+          is = is;
+          says = borne-more script w.meta.history [] (c + 1) (File.Get path None) (Report.Refused place why)
+              (omega arith, get-refused-there script w.servers w.meta c (c + 1) (c + 1) (2 * c) b.steady path why not_free);
+          placed = placed-at (steps ++ event_asking w done_step r.actor request ∷ []) (c + 1) place (Report.Refused place why) (place-of-refused place why) (place-here steps w r.actor request);
+        } in
+        ends-with script commands steps w r request listed w.meta (Report.Refused place why) [] (sym (append-nil w.meta.history))
+        (meta_ends w r.actor work r.alone left (Ask.OpenFile path) w.meta (Said.Refused why place) (Report.Refused place why)
+        (get-asks script.layout path)
+        (open-refused script w.servers w.meta c b w.layout path why not_free)
+        (get-refused script.layout path why place))
+        good (no-release _ _ no-release-here) (between-later script w.servers w.meta c b)
+
+    written : (file : ℕ) → (opened_state w.meta file).history ≡ w.meta.history
+    unfolding next_turn apply_all apply
+    written file = refl
+
+    slots-kept : (file : ℕ) → (opened_state w.meta file).slots ≡ w.meta.slots
+    unfolding next_turn apply_all apply
+    slots-kept file = refl
+
+    module _ (at : ClosedAt w.meta.tree path) (free : look_refusal (standing w.meta.tree) path ≡ None) where
+      abbrev o : Opened
+      o = opened script.layout at.row w.meta
+
+      abbrev bytes : List ℕ
+      bytes = puts_of script at.row.actor at.row.command
+
+      file-here : IsFile script.layout script.servers w.servers w.meta.slots at.row.file at.row.len bytes
+      file-here = closed-file script w.servers w.meta c (c + 1) (c + 1) (2 * c) b.steady path at
+
+      short-bytes : IsShort script.layout (length bytes)
+      short-bytes = short-file script commands (length bytes) first_path file-here.some file-here.most
+
+      short-len : IsShort script.layout at.row.len
+      short-len = subst (IsShort script.layout) (sym file-here.length_is) short-bytes
+
+      lists : (slot : ℕ) (h : slot < 9) → slice_get (listed_in o 0) slot ≡ Some (Some (first_copy (file-here.copies slot h).server))
+      lists slot h =
+          let copy = file-here.copies slot h in
+          ap (λ nine. slice_get nine slot) (listed-nine script w.servers w.meta c b script.layout at.row short-len)
+          ∙ listed-slot script w.servers w.meta c b at.row.file slot copy.server h copy.first copy.last copy.current
+
+      lists-slots : ListsSlots (listed_in o 0)
+      lists-slots slot below = let h : slot < 9 = omega arith in ((file-here.copies slot h).server, lists slot h)
+
+      fetchable : (slot : ℕ) → slot < 6 → CanFetch script w.servers (sources_of (listed_in o 0)) at.row.file bytes slot
+      fetchable slot below =
+          let h : slot < 9 = omega arith in
+          let copy = file-here.copies slot h in
+          record {
+            server = copy.server;
+            first = copy.first;
+            last = copy.last;
+            listed = source-at (listed_in o 0) slot copy.server below (lists slot h);
+            stored = copy.stored;
+          }
+
+      opens-on : o.len ≡ at.row.len → o.place ≡ length w.meta.history → o.file ≡ at.row.file → Next script commands steps w
+      opens-on len place file =
+          let reply : MetaReply = Said.Opened o in
+          let sources : List Source = sources_of (listed_in o 0) in
+          let few_bytes : o.len ≤ 32 = omega (arith, len, file-here.length_is, file-here.most) in
+          let more = get-goes_on script.layout path o bytes (subst (IsShort script.layout) (sym len) short-len) few_bytes
+          (blocks-one script w.servers w.meta c b script.layout at.row short-len) lists-slots in
+          let start = fetchable 0 (omega arith) in
+          goes-on-to script commands steps w r request listed w.servers (opened_state w.meta at.row.file) (From.Meta reply) []
+          (written at.row.file ∙ sym (append-nil w.meta.history)) no-release-here
+          (meta_goes_on w r.actor work r.alone left (Ask.OpenFile path) (opened_state w.meta at.row.file) reply
+          (To.Chunk start.server (Serve.Fetch (first_key o.file 0) 1 0 (replicate script.layout.s 0)))
+          (get-asks script.layout path)
+          (served-here (Ask.OpenFile path) _ (open-served script w.servers w.meta c b script.layout path at free few))
+          (ap request_in more ∙ fetch-asks script.layout o sources bytes 0 start.server (omega arith) start.listed))
+          (inr (inr (inr (record {
+            o = o;
+            sources = sources;
+            bytes = bytes;
+            slot = 0;
+            within = omega arith;
+            left = work_left-heard r.actor work (From.Meta reply) left ∙ ap Some more;
+            reads = get-opened script w.servers w.meta c b at.row.file;
+            few = few;
+            len = len ∙ file-here.length_is;
+            short = short-bytes;
+            copies = λ slot below. subst (λ file. CanFetch script w.servers sources file bytes slot) (sym file) (fetchable slot below);
+            path = path;
+            is = is;
+            before = subst (λ history. o.place ≤ length history) (sym (written at.row.file)) (omega (arith, place));
+            right = subst (λ history. reply_at (puts_of script) history o.place (File.Get path None) ≡ Told.Read bytes) (sym (written at.row.file))
+                (subst (λ p. reply_at (puts_of script) w.meta.history p (File.Get path None) ≡ Told.Read bytes) (sym place)
+                (get-read-there script w.servers w.meta c (c + 1) (c + 1) (2 * c) b.steady path at free));
+            placed = subst (HasPlace (steps ++ event_asking w done_step r.actor request ∷ []) (c + 1)) (sym place) (place-here steps w r.actor request);
+          }))))
+
+      opens : Next script commands steps w
+      unfolding opened
+      opens = opens-on refl refl refl
+
+    pub get-starts : Next script commands steps w
+    get-starts = at (look_refusal (standing w.meta.tree) path) refl
+      where
+        at : (found : Option TreeRefusal) → look_refusal (standing w.meta.tree) path ≡ found → Next script commands steps w
+        at None free = opens (closed-at w.meta.tree path free) free
+        at (Some why) not_free = refused why not_free
+
+  -- ---- Fetch
+
+  module _ (f : Fetching script steps w.servers w.meta r.actor) where
+    abbrev fetch_work : Work
+    fetch_work = at_fetch script.layout f.o f.sources f.bytes f.slot
+
+    -- what a get asks before a slot, or at its end
+    fetch-asks-some : (slot : ℕ) → slot ≤ 6 → (request : NodeRequest) × (request_in (at_fetch script.layout f.o f.sources f.bytes slot) ≡ Some request)
+    fetch-asks-some slot within =
+        elim (cases_lt slot 6) [
+          | inl below ↦
+              let copy = f.copies slot below in (
+                To.Chunk copy.server (Serve.Fetch (first_key f.o.file slot) 1 0 (replicate script.layout.s 0)),
+                fetch-asks script.layout f.o f.sources f.bytes slot copy.server below copy.listed,
+              )
+          | inr above ↦
+              let end : 6 ≡ slot = omega arith in (
+                To.Meta (Ask.Release f.o.lease),
+                subst (λ slot. request_in (at_fetch script.layout f.o f.sources f.bytes slot) ≡ Some (To.Meta (Ask.Release f.o.lease))) end
+                    (release-asks script.layout f.o f.sources f.bytes f.short f.len),
+              )
+        ]
+
+    module _ (below : f.slot < 6) (copy : CanFetch script w.servers f.sources f.o.file f.bytes f.slot) (up : IsUp w.servers copy.server) where
+      abbrev slot_bytes : List ℕ
+      slot_bytes = slot_of script.layout f.bytes 0 f.slot
+
+      abbrev fetch_request : NodeRequest
+      fetch_request = To.Chunk copy.server (Serve.Fetch (first_key f.o.file f.slot) 1 0 (replicate script.layout.s 0))
+
+      fetch-no-release : is_release (event_asking w done_step r.actor fetch_request).request ≡ false
+      unfolding event_asking is_release
+      fetch-no-release = refl
+
+      has-copy : value_at key_cmp up.server.copies (first_key f.o.file f.slot) ≡ Some slot_bytes
+      has-copy = sym (ap (option_and_then (λ (s : Server). value_at key_cmp s.copies (first_key f.o.file f.slot))) up.there) ∙ copy.stored
+
+      fetches : Next script commands steps w
+      fetches =
+          let layout : Shape = script.layout in
+          let reply : ChunkReply = record { answer = Did.Fetched; room = slot_bytes } in
+          let handed : ℕ = up.server.handed_out + length {A = ℕ} (replicate layout.s 0) in
+          let servers : List Server = renumbered w.servers copy.server (record up.server { handed_out = handed }) in
+          let asks = fetch-asks layout f.o f.sources f.bytes f.slot copy.server below copy.listed in
+          let more = fetch-goes_on layout f.o f.sources f.bytes f.slot copy.server below copy.listed slot_bytes refl (slot_long layout f.bytes f.slot f.short) in
+          let then = fetch-asks-some (f.slot + 1) (omega (arith, below)) in
+          goes-on-to script commands steps w r fetch_request
+          (event-here w r.actor fetch_work r.alone f.left fetch_request asks)
+          servers w.meta (From.Chunk reply) [] (sym (append-nil w.meta.history)) fetch-no-release
+          (chunk_goes_on w r.actor fetch_work r.alone f.left copy.server (Serve.Fetch (first_key f.o.file f.slot) 1 0 (replicate layout.s 0))
+          up.server (record up.server { handed_out = handed }) reply then.0 asks up.there
+          (fetch-hands up.server (first_key f.o.file f.slot) layout.s slot_bytes up.up up.life has-copy (slot_long layout f.bytes f.slot f.short))
+          (ap request_in more ∙ then.1))
+          (inr (inr (inr (record {
+            o = f.o;
+            sources = f.sources;
+            bytes = f.bytes;
+            slot = f.slot + 1;
+            within = omega (arith, below);
+            left = work_left-heard r.actor fetch_work (From.Chunk reply) f.left ∙ ap Some more;
+            reads = get-fetched script w.servers w.meta c copy.server up.server handed f.reads up.there up.up up.life;
+            few = f.few;
+            len = f.len;
+            short = f.short;
+            copies = λ slot within.
+                let old = f.copies slot within in
+                record {
+                  server = old.server;
+                  first = old.first;
+                  last = old.last;
+                  listed = old.listed;
+                  stored = stays-stored script w.servers w.meta c copy.server up.server handed f.reads up.there up.up up.life old.server (first_key f.o.file slot) ∙ old.stored;
+                };
+            path = f.path;
+            is = f.is;
+            before = f.before;
+            right = f.right;
+            placed = place-more steps (event_asking w done_step r.actor fetch_request ∷ []) (c + 1) f.o.place f.placed;
+          }))))
+
+    -- ---- Release
+
+    module _ (left : work_left r.actor ≡ Some (at_fetch script.layout f.o f.sources f.bytes 6)) where
+      abbrev end_work : Work
+      end_work = at_fetch script.layout f.o f.sources f.bytes 6
+
+      abbrev release_request : NodeRequest
+      release_request = To.Meta (Ask.Release f.o.lease)
+
+      asks-release : request_in end_work ≡ Some release_request
+      asks-release = release-asks script.layout f.o f.sources f.bytes f.short f.len
+
+      good-read : IsGood script (steps ++ event_asking w done_step r.actor release_request ∷ []) (w.meta.history ++ []) (c + 1) (Report.Read f.o.place f.bytes)
+      good-read = record {
+        command = File.Get f.path None;
+        is = f.is;
+        says = borne-more script w.meta.history [] (c + 1) (File.Get f.path None) (Report.Read f.o.place f.bytes) (f.before, f.right);
+        placed = placed-at (steps ++ event_asking w done_step r.actor release_request ∷ []) (c + 1) f.o.place (Report.Read f.o.place f.bytes) (place-of-read f.o.place f.bytes)
+            (place-more steps (event_asking w done_step r.actor release_request ∷ []) (c + 1) f.o.place f.placed);
+      }
+
+      released-written : (released_state w.meta f.o.lease).history ≡ w.meta.history
+      unfolding next_turn apply_all apply finish_lease
+      released-written = refl
+
+      releases : Next script commands steps w
+      releases = at (holds_lease 1 f.o.lease w.meta.leases) refl
+        where
+          at : (b : Bool) → holds_lease 1 f.o.lease w.meta.leases ≡ b → Next script commands steps w
+          at true holds =
+              ends-with script commands steps w r release_request (event-here w r.actor end_work r.alone left release_request asks-release)
+              (released_state w.meta f.o.lease) (Report.Read f.o.place f.bytes) [] (released-written ∙ sym (append-nil w.meta.history))
+              (meta_ends w r.actor end_work r.alone left (Ask.Release f.o.lease) (released_state w.meta f.o.lease) (Said.Done (length w.meta.history)) (Report.Read f.o.place f.bytes) asks-release
+              (served-here (Ask.Release f.o.lease) _ (release-served script w.servers w.meta c f.reads script.layout f.o.lease holds f.few))
+              (release-done script.layout f.o f.sources f.bytes f.short f.len (length w.meta.history)))
+              good-read (read-here w r.actor release_request f.o.place f.bytes) (get-released script w.servers w.meta c f.reads f.o.lease)
+          at false gone =
+              ends-with script commands steps w r release_request (event-here w r.actor end_work r.alone left release_request asks-release)
+              w.meta (Report.Read f.o.place f.bytes) [] (sym (append-nil w.meta.history))
+              (meta_ends w r.actor end_work r.alone left (Ask.Release f.o.lease) w.meta Said.Gone (Report.Read f.o.place f.bytes) asks-release
+              (served-here (Ask.Release f.o.lease) _ (release-gone-served script w.servers w.meta c f.reads script.layout f.o.lease gone))
+              (release-gone script.layout f.o f.sources f.bytes f.short f.len))
+              good-read (read-here w r.actor release_request f.o.place f.bytes) (reads-ended script w.servers w.meta c f.reads)
+
+    -- a get before a slot, or at its end
+    pub get-goes : Next script commands steps w
+    get-goes =
+        elim (cases_lt f.slot 6) [
+          | inl below ↦ let copy = f.copies f.slot below in fetches below copy (f.reads.steady.up copy.server copy.first copy.last)
+          | inr above ↦
+              let end : f.slot ≡ 6 = omega (arith, above, f.within) in
+              releases (subst (λ n. work_left r.actor ≡ Some (at_fetch script.layout f.o f.sources f.bytes n)) end f.left)
+        ]

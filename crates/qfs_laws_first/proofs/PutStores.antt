@@ -1,0 +1,108 @@
+-- A put stores a slot on the server of its grant.
+use Rattle.std.proofs.Common.{◌≡◌, ℕ, ◌+◌, ◌<◌, ◌≤◌, ◌==◌, true, List, Some, None, refl, sym, ap, subst, ◌∙◌, arith, inl, inr}
+use Rattle.std.proofs.lemmas.Bool.{cases_lt}
+use Rattle.qfs_base.specs.declared.chunk.ChunkKey.{ChunkKey}
+use Rattle.qfs_base.specs.declared.image.MetaImage.{MetaImage}
+use Rattle.qfs_base.specs.declared.image.TreeRow.{TreeRow}
+use Rattle.qfs_base.specs.declared.script.Script.{Script}
+use Rattle.qfs_base.specs.Key.{key_cmp}
+use Rattle.qfs_base.specs.KeyMap.{value_at}
+use Rattle.std.specs.Option.{option_and_then}
+use Rattle.qfs_model_meta.specs.Slots.{slot_at}
+use Rattle.qfs_model_server.specs.Server.{Server}
+use Rattle.qfs_model_slot.specs.Slot.{slot_of}
+use Rattle.qfs_model_world.specs.World.{numbered, renumbered}
+use Rattle.qfs_laws_first.proofs.Kept.{closed-elsewhere, file-kept, each_with}
+use Rattle.qfs_laws_first.proofs.Servers.{with_copy, stored_at, stored-own, stored-other, are_up-changed}
+use Rattle.qfs_laws_first.proofs.States.{first_block, first_key, granted_once, IsGranted, IsRow, Target, target_row, Puts}
+
+-- keys of different files, or of different slots
+apart_files : (key : ChunkKey) (file slot : ℕ) → (key.block.file ≡ file → ⊥) → key ≡ first_key file slot → ⊥
+apart_files key file slot differ same = differ (ap (λ (k : ChunkKey). k.block.file) same)
+
+apart_slots : (file slot number : ℕ) → (number ≡ slot → ⊥) → first_key file number ≡ first_key file slot → ⊥
+apart_slots file slot number differ same = differ (ap (λ (k : ChunkKey). k.slot) same)
+
+module _ (script : Script) (servers : List Server) (m : MetaImage) (commands : ℕ) (t : Target) (slot : ℕ)
+    (p : Puts script servers m commands t (slot + 1) slot) (server : ℕ) (first : 1 ≤ server) (last : server ≤ script.servers)
+    (granted : slot_at m.slots (first_block t.file) slot ≡ granted_once server) (before : Server) (there : numbered servers server ≡ Some before)
+    (up : before.up ≡ true) (life : before.life ≡ 1) where
+  abbrev bytes_here : List ℕ
+  bytes_here = slot_of script.layout t.bytes 0 slot
+
+  abbrev new_servers : List Server
+  new_servers = renumbered servers server (with_copy before (first_key t.file slot) bytes_here)
+
+  -- the server has no such copy yet
+  pub none-stored : value_at key_cmp before.copies (first_key t.file slot) ≡ None
+  none-stored =
+      sym (ap (option_and_then (λ (s : Server). value_at key_cmp s.copies (first_key t.file slot))) there) ∙ p.unstored server slot (omega arith)
+
+  stays : (other : ℕ) (key : ChunkKey) → (key ≡ first_key t.file slot → ⊥) → stored_at new_servers other key ≡ stored_at servers other key
+  stays other key differ = stored-other servers server other before (first_key t.file slot) key bytes_here there differ
+
+  row-kept : (row : TreeRow) → IsRow script servers m.slots m.next_file row → ((row.file == t.file) ≡ true → row ≡ target_row commands t)
+      → IsRow script new_servers m.slots m.next_file row
+  row-kept row is own = record {
+    above = is.above;
+    below = is.below;
+    whole = λ closed. file-kept script.layout script.servers servers new_servers m.slots m.slots row.file row.len _ (λ number within. refl)
+        (λ other number. stays other (first_key row.file number) (apart_files (first_key row.file number) t.file slot (closed-elsewhere commands t row own closed))) (is.whole closed);
+  }
+
+  grant-one : (number : ℕ) → number < slot + 1
+      → IsGranted script.servers new_servers m.slots t.file number (slot_of script.layout t.bytes 0 number) (number < slot + 1)
+  grant-one number within =
+      elim (cases_lt number slot) [
+        | inl less ↦
+            let old = p.grants number (omega (arith, less)) in
+            record {
+              server = old.server;
+              first = old.first;
+              last = old.last;
+              granted = old.granted;
+              stored = λ more. stays old.server (first_key t.file number) (apart_slots t.file slot number (λ same. omega (arith, same, less))) ∙ old.stored less;
+            }
+        | inr more ↦
+            let here : slot ≡ number = omega arith in
+            subst (λ number. IsGranted script.servers new_servers m.slots t.file number (slot_of script.layout t.bytes 0 number) (number < slot + 1)) here
+            (record {
+              server = server;
+              first = first;
+              last = last;
+              granted = granted;
+              stored = λ more. stored-own servers server before (first_key t.file slot) bytes_here there;
+            })
+      ]
+
+  -- the slot is stored
+  pub put-stored : Puts script new_servers m commands t (slot + 1) (slot + 1)
+  put-stored = record {
+    steady = record {
+      views = p.steady.views;
+      dropped = p.steady.dropped;
+      up = are_up-changed script.servers servers server before (with_copy before (first_key t.file slot) bytes_here) there up life p.steady.up;
+      few_files = p.steady.few_files;
+      few_leases = p.steady.few_leases;
+      few_condemned = p.steady.few_condemned;
+      few_entries = p.steady.few_entries;
+      some_file = p.steady.some_file;
+      written = p.steady.written;
+      rows = each_with (IsRow script servers m.slots m.next_file) _ (IsRow script new_servers m.slots m.next_file) m.tree row-kept p.steady.rows p.own;
+      slots_below = p.steady.slots_below;
+    };
+    next = p.next;
+    created = p.created;
+    path_is = p.path_is;
+    bytes_are = p.bytes_are;
+    some = p.some;
+    most = p.most;
+    own = p.own;
+    unclosed = p.unclosed;
+    grants = grant-one;
+    ungranted = p.ungranted;
+    all_granted = p.all_granted;
+    few_grants = p.few_grants;
+    none_to_come = λ other key above. stays other key (apart_files key t.file slot (λ same. omega (arith, same, above))) ∙ p.none_to_come other key above;
+    unstored = λ other number above. stays other (first_key t.file number) (apart_slots t.file slot number (λ same. omega (arith, same, above))) ∙ p.unstored other number (omega (arith, above));
+  }

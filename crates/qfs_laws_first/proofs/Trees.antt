@@ -1,0 +1,148 @@
+-- The name tree of the metaserver, and the files of the history: a tree of files that a history gives follows the same rules.
+use Rattle.std.proofs.Common.{◌≡◌, ℕ, zero, suc, ◌≤◌, ◌==◌, Bool, true, false, cond, not, ◌&&◌, List, [], ◌∷◌, map, find, Option, Some, None, refl, sym, ap, subst, ◌∙◌, arith}
+use Rattle.std.proofs.lemmas.Bool.{eqb-true}
+use Rattle.std.specs.Option.{option_map, option_map_or, option_or}
+use Rattle.std.specs.declared.cmp.Ordering.{Ordering}
+use Rattle.std.specs.declared.cmp.Ordering.TheVariants.{Less, Equal, Greater}
+use Rattle.qfs_base.specs.FileReplies.{bytes_of_content, bytes_at}
+use Rattle.qfs_base.specs.Files.{Puts, FileEntry, kind_of_content, files_standing, is_unclosed_content, is_unclosed_entry, entry_path, close_entry}
+use Rattle.qfs_base.specs.NameTree.{PathNames, Standing, kind_at, stands_at, path_eq, row_cmp, added, file_refusal, look_refusal}
+use Rattle.qfs_base.specs.Table.{Each, place, change_row, change_where}
+use Rattle.qfs_base.specs.declared.image.TreeRow.{TreeRow}
+use Rattle.qfs_base.specs.declared.lists.NameKind.TheVariants as Is
+use Rattle.qfs_base.specs.declared.reply.TreeRefusal.{TreeRefusal}
+use Rattle.qfs_base.specs.declared.reply.TreeRefusal.TheVariants as Not
+use Rattle.qfs_model_meta.specs.TreeRows.{kind_of, standing, row_path, has_file, close_row, add_row, close_file}
+use Rattle.qfs_laws_first.specs.Standing.{content_if, entry_of}
+
+-- ---- what stands in the tree
+
+kind-same : (file : ℕ) (bytes : List ℕ) (closed : Bool) → 1 ≤ file → kind_of_content (content_if file bytes closed) ≡ kind_of file closed
+unfolding kind_of_content content_if kind_of
+kind-same zero bytes closed above = absurd (omega arith)
+kind-same (suc n) bytes true above = refl
+kind-same (suc n) bytes false above = refl
+
+pub standing-files : (puts : Puts) (tree : List TreeRow) → Each (λ row. 1 ≤ row.file) tree → files_standing (map (entry_of puts) tree) ≡ standing tree
+unfolding files_standing standing entry_of
+standing-files puts [] above = refl
+standing-files puts (row ∷ rows) above =
+    let kind = kind-same row.file (puts row.actor row.command) row.closed above.0 in
+    rw (kind, standing-files puts rows above.1) refl
+
+-- ---- a file more
+
+map-placed : {A B : Type 0} (f : A → B) (order : A → A → Ordering) (other : B → B → Ordering) → ((x y : A) → other (f x) (f y) ≡ order x y)
+    → (new : A) (rows : List A) → map f (place order new rows) ≡ place other (f new) (map f rows)
+map-placed f order other same new [] = refl
+map-placed f order other same new (row ∷ rows) = one (order new row) refl (map-placed f order other same new rows)
+  where
+    one : (o : Ordering) → order new row ≡ o → map f (place order new rows) ≡ place other (f new) (map f rows)
+        → map f (place order new (row ∷ rows)) ≡ place other (f new) (map f (row ∷ rows))
+    one Less is rest = rw (same new row, is) refl
+    one Equal is rest = rw (same new row, is) refl
+    one Greater is rest = rw (same new row, is) (ap (λ more. f row ∷ more) rest)
+
+pub map-added : (puts : Puts) (row : TreeRow) (tree : List TreeRow) → map (entry_of puts) (add_row row tree) ≡ added entry_path (entry_of puts row) (map (entry_of puts) tree)
+unfolding add_row added entry_of
+map-added puts row tree = map-placed (entry_of puts) (row_cmp row_path) (row_cmp entry_path) (λ x y. refl) row tree
+
+-- ---- a file is closed
+
+-- a row is of another file, or is unclosed and of this actor and command
+abbrev pub MayClose : ℕ → ℕ → ℕ → TreeRow → Type 0
+MayClose file actor command row = (row.file == file) ≡ true → (row.closed ≡ false) × (row.actor ≡ actor) × (row.command ≡ command)
+
+unclosed-same : (file : ℕ) (row : TreeRow) (puts : Puts) (b closed : Bool) → (row.file == file) ≡ b → row.closed ≡ closed → is_unclosed_entry file (entry_of puts row) ≡ (b && not closed)
+unfolding is_unclosed_entry entry_of content_if is_unclosed_content
+unclosed-same file row puts true true is shut = rw shut refl
+unclosed-same file row puts true false is shut = rw (shut, is) refl
+unclosed-same file row puts false true is shut = rw shut refl
+unclosed-same file row puts false false is shut = rw (shut, is) refl
+
+closed-one : (file actor command : ℕ) (puts : Puts) (row : TreeRow) (b : Bool) → (row.file == file) ≡ b → MayClose file actor command row
+    → entry_of puts (change_row close_row row (has_file file row)) ≡ change_row (close_entry file (puts actor command)) (entry_of puts row) (is_unclosed_entry file (entry_of puts row))
+unfolding has_file close_row close_entry entry_of content_if
+closed-one file actor command puts row true is may =
+    let row_is = may is in
+    let same : row.file ≡ file = eqb-true row.file file is in
+    rw (unclosed-same file row puts true false is row_is.0, is, row_is.1, row_is.2, same) refl
+closed-one file actor command puts row false is may =
+    rw (unclosed-same file row puts false row.closed is refl, is) refl
+
+pub map-closed : (file actor command : ℕ) (puts : Puts) (tree : List TreeRow) → Each (MayClose file actor command) tree
+    → map (entry_of puts) (close_file file tree) ≡ change_where (is_unclosed_entry file) (close_entry file (puts actor command)) (map (entry_of puts) tree)
+unfolding close_file
+map-closed file actor command puts [] may = refl
+map-closed file actor command puts (row ∷ rows) may =
+    rw (closed-one file actor command puts row (row.file == file) refl may.0, map-closed file actor command puts rows may.1) refl
+
+-- ---- a closed file is found
+
+-- a closed file stands at a path
+pub record ClosedAt (tree : List TreeRow) (path : PathNames) : Type 0 where
+  pub row : TreeRow
+  pub found : find (stands_at row_path path) tree ≡ Some row
+  pub closed : row.closed ≡ true
+
+find_standing : (tree : List TreeRow) (path : PathNames) →
+    option_map (λ (row : Standing). row.kind) (find (λ (row : Standing). path_eq row.path path) (standing tree))
+    ≡ option_map (λ (row : TreeRow). kind_of row.file row.closed) (find (stands_at row_path path) tree)
+unfolding standing
+find_standing [] path = refl
+find_standing (row ∷ rows) path =
+    elim (path_eq row.path path) as (λ b.
+    option_map (λ (row : Standing). row.kind) (cond b (Some (record { path = row.path; kind = kind_of row.file row.closed })) (find (λ (row : Standing). path_eq row.path path) (standing rows)))
+    ≡ option_map (λ (row : TreeRow). kind_of row.file row.closed) (cond b (Some row) (find (stands_at row_path path) rows)))
+    [ true ↦ refl | false ↦ find_standing rows path ]
+
+or-none : (a b : Option TreeRefusal) → option_or a b ≡ None → b ≡ None
+or-none None b none = none
+or-none (Some x) b none = absurd (cc)
+
+closed-kind : (file : ℕ) (closed : Bool) → file_refusal (Some (kind_of file closed)) ≡ None → closed ≡ true
+unfolding kind_of file_refusal
+closed-kind zero closed none = absurd (cc)
+closed-kind (suc n) true none = refl
+closed-kind (suc n) false none = absurd (cc)
+
+closed-found : (tree : List TreeRow) (path : PathNames) (found : Option TreeRow) → find (stands_at row_path path) tree ≡ found
+    → file_refusal (option_map (λ (row : TreeRow). kind_of row.file row.closed) found) ≡ None → ClosedAt tree path
+closed-found tree path None is none = absurd (missing none)
+  where
+    missing : file_refusal None ≡ None → ⊥
+    missing none = let why : Some Not.Missing ≡ None = unfold file_refusal in none in absurd (cc)
+closed-found tree path (Some row) is none = record { row = row; found = is; closed = closed-kind row.file row.closed none }
+
+pub closed-at : (tree : List TreeRow) (path : PathNames) → look_refusal (standing tree) path ≡ None → ClosedAt tree path
+unfolding look_refusal kind_at
+closed-at tree [] none = absurd (root (or-none _ _ none))
+  where
+    root : file_refusal (Some Is.Directory) ≡ None → ⊥
+    root none = let why : Some Not.IsDir ≡ None = unfold file_refusal in none in absurd (cc)
+closed-at tree (name ∷ names) none =
+    closed-found tree (name ∷ names) (find (stands_at row_path (name ∷ names)) tree) refl
+    (ap file_refusal (sym (find_standing tree (name ∷ names))) ∙ or-none _ _ none)
+
+find-map : {A B : Type 0} (f : A → B) (test : B → Bool) (xs : List A) → find test (map f xs) ≡ option_map f (find (λ x. test (f x)) xs)
+find-map f test [] = refl
+find-map f test (x ∷ xs) =
+    elim (test (f x)) as (λ b. cond b (Some (f x)) (find test (map f xs)) ≡ option_map f (cond b (Some x) (find (λ x. test (f x)) xs)))
+    [ true ↦ refl | false ↦ find-map f test xs ]
+
+-- the bytes at a path are those of the put that closed its file
+pub bytes-found : (puts : Puts) (tree : List TreeRow) (path : PathNames) (row : TreeRow) → find (stands_at row_path path) tree ≡ Some row → row.closed ≡ true
+    → bytes_at (map (entry_of puts) tree) path ≡ puts row.actor row.command
+unfolding bytes_at bytes_of_content entry_of content_if
+bytes-found puts tree path row found closed =
+    ap (λ o. option_map_or (λ (entry : FileEntry). bytes_of_content entry.content) o []) (find-map (entry_of puts) (stands_at entry_path path) tree ∙ ap (option_map (entry_of puts)) found)
+    ∙ ap (λ b. bytes_of_content (content_if row.file (puts row.actor row.command) b)) closed
+
+-- what is found passes the test and is one of the rows
+pub each_find : {X : Type 0} (P : X → Type 0) (test : X → Bool) (rows : List X) (row : X) → Each P rows → find test rows ≡ Some row → P row
+each_find P test [] row each found = absurd (cc)
+each_find P test (x ∷ xs) row each found = one (test x) refl (each_find P test xs row each.1)
+  where
+    one : (b : Bool) → test x ≡ b → (find test xs ≡ Some row → P row) → P row
+    one true is rest = let same : Some x ≡ Some row = rw is at found in let equal : x ≡ row = cc in subst P equal each.0
+    one false is rest = rest (rw is at found)

@@ -1,0 +1,4 @@
+pub mod Asks
+pub mod FirstPath
+pub mod Replies
+pub mod Standing
