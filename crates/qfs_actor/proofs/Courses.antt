@@ -91,11 +91,11 @@ work_left-push : (actor : Actor) (reply : NodeReply)
 unfolding work_left
 work_left-push actor reply = pushed (slice_get actor.commands (length actor.ended))
   where
-  pushed : (o : Option Command)
-      → option_map (λ command. follow (work_of actor.layout (length actor.ended + 1) command) (actor.heard ++ reply ∷ [])) o
-      ≡ option_map (λ work. goes_on work reply) (option_map (λ command. follow (work_of actor.layout (length actor.ended + 1) command) actor.heard) o)
-  pushed None = refl
-  pushed (Some command) = ap Some (follow-push (work_of actor.layout (length actor.ended + 1) command) actor.heard reply)
+    pushed : (o : Option Command)
+        → option_map (λ command. follow (work_of actor.layout (length actor.ended + 1) command) (actor.heard ++ reply ∷ [])) o
+        ≡ option_map (λ work. goes_on work reply) (option_map (λ command. follow (work_of actor.layout (length actor.ended + 1) command) actor.heard) o)
+    pushed None = refl
+    pushed (Some command) = ap Some (follow-push (work_of actor.layout (length actor.ended + 1) command) actor.heard reply)
 
 -- an actor that has heard nothing yet
 work_left-fresh : (actor : Actor) → actor.heard ≡ []
@@ -103,21 +103,21 @@ work_left-fresh : (actor : Actor) → actor.heard ≡ []
 unfolding work_left follow
 work_left-fresh actor nothing = rw nothing (unheard (slice_get actor.commands (length actor.ended)))
   where
-  unheard : (o : Option Command)
-      → option_map (λ command. follow (work_of actor.layout (length actor.ended + 1) command) []) o
-      ≡ option_map (λ command. work_of actor.layout (length actor.ended + 1) command) o
-  unheard None = refl
-  unheard (Some command) = refl
+    unheard : (o : Option Command)
+        → option_map (λ command. follow (work_of actor.layout (length actor.ended + 1) command) []) o
+        ≡ option_map (λ command. work_of actor.layout (length actor.ended + 1) command) o
+    unheard None = refl
+    unheard (Some command) = refl
 
 has_command : (actor : Actor) (work : Work) → work_left actor ≡ Some work → length actor.ended < length actor.commands
 unfolding work_left
 has_command actor work left = found (slice_get actor.commands (length actor.ended)) refl left
   where
-  found : (o : Option Command) → slice_get actor.commands (length actor.ended) ≡ o
-      → option_map (λ command. follow (work_of actor.layout (length actor.ended + 1) command) actor.heard) o ≡ Some work
-      → length actor.ended < length actor.commands
-  found None is left = absurd (cc)
-  found (Some command) is left = slice_get_within actor.commands (length actor.ended) command is
+    found : (o : Option Command) → slice_get actor.commands (length actor.ended) ≡ o
+        → option_map (λ command. follow (work_of actor.layout (length actor.ended + 1) command) actor.heard) o ≡ Some work
+        → length actor.ended < length actor.commands
+    found None is left = absurd (cc)
+    found (Some command) is left = slice_get_within actor.commands (length actor.ended) command is
 
 -- ---- what is kept, and the next request
 
@@ -136,24 +136,25 @@ pub may_ask : (actor : Actor) (course : Course) → IsOf actor course → CanAsk
     → IfSome course.doing (λ doing. MayAsk (readiness_of doing) (rest_of doing))
 may_ask actor course of can = by_doing course.doing (request_of-course actor course of) can
   where
-  by_readiness : (doing : Doing) (readiness : Readiness) → request_of actor ≡ request_in (rest_of doing) → CanAskAs actor readiness → MayAsk readiness (rest_of doing)
-  by_readiness doing Unready is finished = sym is ∙ finished
-  by_readiness doing Ready is can = tt
-  by_readiness doing Out is can = can
-  by_doing : (doing : Option Doing) → request_of actor ≡ option_and_then request_in (option_map rest_of doing) → CanAskAs actor (readiness_in doing)
-      → IfSome doing (λ it. MayAsk (readiness_of it) (rest_of it))
-  by_doing None is can = tt
-  by_doing (Some doing) is can = by_readiness doing (readiness_of doing) is can
+    by_readiness : (doing : Doing) (readiness : Readiness) → request_of actor ≡ request_in (rest_of doing) → CanAskAs actor readiness → MayAsk readiness (rest_of doing)
+    by_readiness doing Unready is finished = sym is ∙ finished
+    by_readiness doing Ready is can = tt
+    by_readiness doing Out is can = can
+
+    by_doing : (doing : Option Doing) → request_of actor ≡ option_and_then request_in (option_map rest_of doing) → CanAskAs actor (readiness_in doing)
+        → IfSome doing (λ it. MayAsk (readiness_of it) (rest_of it))
+    by_doing None is can = tt
+    by_doing (Some doing) is can = by_readiness doing (readiness_of doing) is can
 
 -- an actor whose machine is ready may ask, and so may one that has none
 pub can_ask : (actor : Actor) (course : Course) → IsOf actor course → IfSome course.doing (λ doing. readiness_of doing ≡ Ready)
     → CanAskAs actor (readiness_in course.doing)
 can_ask actor course of ready = by_doing course.doing (request_of-course actor course of) ready
   where
-  by_doing : (doing : Option Doing) → request_of actor ≡ option_and_then request_in (option_map rest_of doing)
-      → IfSome doing (λ it. readiness_of it ≡ Ready) → CanAskAs actor (readiness_in doing)
-  by_doing None is ready = is
-  by_doing (Some doing) is ready = rw ready tt
+    by_doing : (doing : Option Doing) → request_of actor ≡ option_and_then request_in (option_map rest_of doing)
+        → IfSome doing (λ it. readiness_of it ≡ Ready) → CanAskAs actor (readiness_in doing)
+    by_doing None is ready = is
+    by_doing (Some doing) is ready = rw ready tt
 
 pub ok-can_ask : {A B : Type 0} (result : Result A B) (actor : Actor) (course : Course) → IsOf actor course
     → OnOk result (IfSome course.doing (λ doing. readiness_of doing ≡ Ready)) → OnOk result (CanAskAs actor (readiness_in course.doing))
@@ -235,7 +236,7 @@ few_ahead actor course doing of is =
     let within = has_command actor (rest_of doing) (sym of.doing ∙ ap (λ o. option_map rest_of o) is) in
     let lines : length course.replies.items ≡ length actor.ended = ap length of.lines ∙ length-lines actor.number 1 actor.ended in
     let ahead : length (into_iter_items course.ahead) ≡ length actor.commands - (length actor.ended + 1) =
-        ap length of.ahead ∙ length-drop (length actor.ended + 1) actor.commands in
+    ap length of.ahead ∙ length-drop (length actor.ended + 1) actor.commands in
     let few = of.few in
     omega (arith, within, lines, ahead, few)
 
@@ -266,21 +267,21 @@ pub asks_on : (actor : Actor) (reply : NodeReply) (course next : Course) (doing 
 asks_on actor reply course next doing at of is same goes asking unready =
     let left : work_left actor ≡ Some (rest_of doing) = sym of.doing ∙ ap (λ o. option_map rest_of o) is in
     let after : after_reply actor reply ≡ record actor { heard = actor.heard ++ reply ∷ [] } =
-        after_reply-moved actor reply (rest_of doing) left ∙ ap (λ work. moved_on actor reply (Some work)) (sym goes) ∙ moved_on-asks actor reply (rest_of at) asking in
+    after_reply-moved actor reply (rest_of doing) left ∙ ap (λ work. moved_on actor reply (Some work)) (sym goes) ∙ moved_on-asks actor reply (rest_of at) asking in
     let more : Some (rest_of at) ≡ work_left (record actor { heard = actor.heard ++ reply ∷ [] }) =
-        sym (work_left-push actor reply ∙ ap (λ o. option_map (λ work. goes_on work reply) o) left ∙ ap Some (sym goes)) in
+    sym (work_left-push actor reply ∙ ap (λ o. option_map (λ work. goes_on work reply) o) left ∙ ap Some (sym goes)) in
     let holds : IsOf (record actor { heard = actor.heard ++ reply ∷ [] }) (record course { doing = Some at }) =
-        record {
-          number = of.number;
-          layout = of.layout;
-          few = of.few;
-          built = of.built;
-          ahead = of.ahead;
-          doing = more;
-          asks = asking;
-          lines = of.lines;
-          room = λ taken. absurd (subst HasTaken unready taken);
-        } in
+    record {
+      number = of.number;
+      layout = of.layout;
+      few = of.few;
+      built = of.built;
+      ahead = of.ahead;
+      doing = more;
+      asks = asking;
+      lines = of.lines;
+      room = λ taken. absurd (subst HasTaken unready taken);
+    } in
     rw (after, same) holds
 
 -- the present command ends, and the next one begins
@@ -303,21 +304,21 @@ ends_with actor reply course next doing at of is goes none ended =
     let report : Report = over.0 in
     let then : Actor = record actor { ended = actor.ended ++ report ∷ []; heard = [] } in
     let after : after_reply actor reply ≡ then =
-        after_reply-moved actor reply (rest_of doing) left ∙ ap (λ work. moved_on actor reply (Some work)) (sym goes ∙ over.1) ∙ moved_on-ends actor reply report in
+    after_reply-moved actor reply (rest_of doing) left ∙ ap (λ work. moved_on actor reply (Some work)) (sym goes ∙ over.1) ∙ moved_on-ends actor reply report in
     let lines : length course.replies.items ≡ length actor.ended = ap length of.lines ∙ length-lines actor.number 1 actor.ended in
     let more : length (actor.ended ++ report ∷ []) ≡ length actor.ended + 1 = length-append actor.ended (report ∷ []) in
     let one : 1 + length actor.ended ≡ length actor.ended + 1 = omega arith in
     let two : length actor.ended + 1 + 1 ≡ length actor.ended + 2 = omega arith in
     let holds : IsOf then next =
-        record {
-          number = rw ended.post of.number;
-          layout = rw ended.post of.layout;
-          few = of.few;
-          built = of.built;
-          ahead = rw (more, ended.ahead, of.ahead) (drop-more (length actor.ended + 1) actor.commands);
-          doing = rw (ended.rest, work_left-fresh then refl, more, of.layout, lines, of.ahead, first_of-drop (length actor.ended + 1) actor.commands, two) refl;
-          asks = ended.asks;
-          lines = rw (ended.line report over.1, of.lines, lines-push actor.number 1 actor.ended report, of.number, length-lines actor.number 1 actor.ended, one) refl;
-          room = λ taken. absurd (subst HasTaken ended.unready taken);
-        } in
+    record {
+      number = rw ended.post of.number;
+      layout = rw ended.post of.layout;
+      few = of.few;
+      built = of.built;
+      ahead = rw (more, ended.ahead, of.ahead) (drop-more (length actor.ended + 1) actor.commands);
+      doing = rw (ended.rest, work_left-fresh then refl, more, of.layout, lines, of.ahead, first_of-drop (length actor.ended + 1) actor.commands, two) refl;
+      asks = ended.asks;
+      lines = rw (ended.line report over.1, of.lines, lines-push actor.number 1 actor.ended report, of.number, length-lines actor.number 1 actor.ended, one) refl;
+      room = λ taken. absurd (subst HasTaken ended.unready taken);
+    } in
     rw after holds
