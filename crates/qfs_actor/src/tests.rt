@@ -37,7 +37,7 @@ fn put_of_nothing(alloc: Global) -> Result<FileCommand, Fail>
 {
     let path = path_from(alloc, b"/a")?.ok_or("a path")?;
     let recipe = Recipe {
-        form: Form::Hex(Listing::new(alloc)),
+        form: Form::Fill { byte: 0, len: 0 },
     };
     Ok(FileCommand::Put(path, recipe))
 }
@@ -83,5 +83,17 @@ fn commands_come_one_after_another(rt: HostRuntime) -> Result<(), Fail> {
     };
     assert!(rt; actor.replies() == [stored, refused].as_slice());
     assert_eq!(rt; actor.into_replies().len(), 2);
+    Ok(())
+}
+
+/// Takes what may go to any thread.
+fn crosses<T: Drop + Send + Sync>(_value: &T) {}
+
+#[test]
+fn an_actor_may_cross_threads(rt: HostRuntime) -> Result<(), Fail> {
+    let layout = Layout::new(16, 2).ok_or("a layout")?;
+    let actor = Actor::new(rt.alloc(), layout, 3, Listing::new(rt.alloc()));
+    crosses(&actor);
+    assert!(rt; actor.goes_to().is_none());
     Ok(())
 }
