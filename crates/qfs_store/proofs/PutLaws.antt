@@ -157,3 +157,7 @@ put_failed key life bytes told told' shelf Error.NoMemory few apart wrote server
   wrote ∙ told_is,
   record { reply_is = refl; stands = back_stands before shelf server key (length bytes) apart stands; handed = none_handed (Ask.Put key life bytes) before.handed_out server.handed_out; exact = λ _. none_more before.handed_out server.handed_out },
 )
+
+-- what was known of a copy in between is forgotten again
+pub known_again : (shelf : Known) (key : ChunkKey) (count : ℕ) → has_key key_cmp shelf.lengths key ≡ false → forgetting key (knowing key count shelf) ≡ shelf
+known_again shelf key count apart = λ i. record shelf { lengths = taken_back shelf.lengths key count (absent_key shelf.lengths key apart) i }

@@ -203,16 +203,32 @@ asks_up (Ask.Erase key life) = true
 asks_up Ask.Inventory = true
 asks_up _ = false
 
--- a start that was answered so brought the server up, or left it as it was
-abbrev pub up_started : ChunkAnswer → Bool → Bool
-up_started (Answer.Started life) up = true
-up_started _ up = up
+-- what a server knows after a Put of so many bytes that was answered so, and after an Erase
+abbrev pub KnownAfterPut : ChunkKey → ℕ → ChunkAnswer → Known → Known → Type 0
+KnownAfterPut key count Answer.Stored old new = new ≡ knowing key count old
+KnownAfterPut key count _ old new = new ≡ old
 
--- whether a server is up after a step on this request that was answered so
-abbrev pub up_after : ChunkRequest → ChunkAnswer → Bool → Bool
-up_after Ask.Stop answer up = false
-up_after Ask.Start answer up = up_started answer up
-up_after _ answer up = up
+abbrev pub KnownAfterErase : ChunkKey → ChunkAnswer → Known → Known → Type 0
+KnownAfterErase key Answer.Erased old new = new ≡ forgetting key old
+KnownAfterErase key _ old new = new ≡ old
+
+-- the same after a Start, which finds its copies on the device where the server was down, and after a Wipe
+abbrev pub KnownAfterStart : ChunkAnswer → Known → Known → Type 0
+KnownAfterStart (Answer.Started life) old new = (new.up ≡ true) × (old.up ≡ true → new ≡ old)
+KnownAfterStart _ old new = new ≡ old
+
+abbrev pub KnownAfterWipe : ChunkAnswer → Known → Known → Type 0
+KnownAfterWipe (Answer.Wiped life) old new = new ≡ record old { lengths = [] }
+KnownAfterWipe _ old new = new ≡ old
+
+-- what a server knows after a step on this request that was answered so: a refusal, a fault and want of memory leave it
+abbrev pub KnownAfter : ChunkRequest → ChunkAnswer → Known → Known → Type 0
+KnownAfter (Ask.Put key life bytes) answer old new = KnownAfterPut key (length bytes) answer old new
+KnownAfter (Ask.Erase key life) answer old new = KnownAfterErase key answer old new
+KnownAfter Ask.Stop answer old new = new ≡ record old { up = false }
+KnownAfter Ask.Start answer old new = KnownAfterStart answer old new
+KnownAfter Ask.Wipe answer old new = KnownAfterWipe answer old new
+KnownAfter _ answer old new = new ≡ old
 
 -- by whether a copy is known under its key, what a Put may be answered once the server isn't away
 abbrev pub PutFinds : ChunkAnswer → Bool → Type 0

@@ -3,6 +3,7 @@ ghost use Rattle.std.specs.Prelude.{◌≡◌, ℕ, Bool, ◌+◌, ◌<◌, ◌�
 ghost use Rattle.std.specs.Option.{ForSome};
 ghost use Rattle.qfs_base.specs.Key.{key_cmp};
 ghost use Rattle.qfs_base.specs.KeyMap.{value_at, has_key};
+ghost use Rattle.qfs_base.specs.declared.chunk.ChunkKey.{ChunkKey};
 ghost use Rattle.qfs_base.specs.declared.request.ChunkRequest.TheVariants as Ask;
 ghost use Rattle.std.specs.Map.{keys_of};
 ghost use Rattle.qfs_device.specs.Fault.{Rose};
@@ -10,7 +11,7 @@ ghost use Rattle.qfs_device.specs.Held.{Held};
 ghost use Rattle.qfs_model_server.specs.Server.{without_room};
 ghost use Rattle.qfs_record.specs.ChunkRecord.{chunk_record};
 ghost use Rattle.qfs_store.specs.Chunks.{LeavesChunks};
-ghost use Rattle.qfs_store.specs.Stands.{no_copies, knowing, forgetting, reaches, HoldsRange, IsFill, IsGrounded, IsStep, IsAttempt, IsAway, failure, OnFault, IsRefusal, IsQuiet, TakesNoMemory, MemoryFor, IsBuilt, PutFinds, CopyFinds, FindsCopy, is_down, asks_up, up_started, up_after};
+ghost use Rattle.qfs_store.specs.Stands.{Known, no_copies, knowing, forgetting, reaches, HoldsRange, IsFill, IsGrounded, IsStep, IsAttempt, IsAway, failure, OnFault, IsRefusal, IsQuiet, TakesNoMemory, MemoryFor, IsBuilt, PutFinds, CopyFinds, FindsCopy, is_down, asks_up, KnownAfterPut, KnownAfterErase, KnownAfterStart, KnownAfterWipe, KnownAfter};
 
 use crate::starting::copies_on;
 use qfs_base::chunk::ChunkKey;
@@ -71,7 +72,7 @@ impl Shelf {
         requires grounded { IsGrounded (D.told device.old) self.old }
         ensures step { IsStep request (D.told device.old) self.old result (D.told device.new) self.new }
         ensures chunks { LeavesChunks request (D.told device.old) self.old result.answer (D.told device.new) }
-        ensures up { self.new.up ≡ up_after request result.answer self.old.up }
+        ensures known { KnownAfter request result.answer self.old self.new }
         ensures down { is_down result.answer ≡ (asks_up request && not self.old.up) }
         ensures finds { FindsCopy request self.old result.answer }
         ensures tells { is_some (D.told device.new) ≡ is_some (D.told device.old) }
@@ -113,7 +114,7 @@ impl Shelf {
         requires size { length bytes.now ≤ 67108864 }
         ensures step { IsStep (Ask.Put key life bytes.now) (D.told device.old) self.old (without_room result) (D.told device.new) self.new }
         ensures chunks { LeavesChunks (Ask.Put key life bytes.now) (D.told device.old) self.old result (D.told device.new) }
-        ensures up { self.new.up ≡ self.old.up }
+        ensures known { KnownAfterPut key (length bytes.now) result self.old self.new }
         ensures down { is_down result ≡ not self.old.up }
         ensures finds { PutFinds result (has_key key_cmp self.old.lengths key) }
         ensures tells { is_some (D.told device.new) ≡ is_some (D.told device.old) }
@@ -136,7 +137,7 @@ impl Shelf {
         requires absent { has_key key_cmp self.old.lengths key ≡ false }
         ensures step { (life : ℕ) → IsAttempt (Ask.Put key life bytes.now) (D.told device.old) self.old (without_room result) (D.told device.new) self.new }
         ensures chunks { (life : ℕ) → LeavesChunks (Ask.Put key life bytes.now) (D.told device.old) self.old result (D.told device.new) }
-        ensures up { self.new.up ≡ self.old.up }
+        ensures known { KnownAfterPut key (length bytes.now) result self.old self.new }
         ensures down { is_down result ≡ false }
         ensures finds { PutFinds result false }
         ensures tells { is_some (D.told device.new) ≡ is_some (D.told device.old) }
@@ -218,7 +219,7 @@ impl Shelf {
     ) -> ChunkAnswer
         ensures step { IsStep (Ask.Erase key life) (D.told device.old) self.old (without_room result) (D.told device.new) self.new }
         ensures chunks { LeavesChunks (Ask.Erase key life) (D.told device.old) self.old result (D.told device.new) }
-        ensures up { self.new.up ≡ self.old.up }
+        ensures known { KnownAfterErase key result self.old self.new }
         ensures down { is_down result ≡ not self.old.up }
         ensures finds { CopyFinds result (has_key key_cmp self.old.lengths key) }
         ensures tells { is_some (D.told device.new) ≡ is_some (D.told device.old) }
@@ -244,7 +245,7 @@ impl Shelf {
     /// Takes the server down. Its copies stay.
     pub fn stop(&mut self) -> ChunkAnswer
         ensures step { (told : Option Held) → IsStep Ask.Stop told self.old (without_room result) told self.new }
-        ensures up { self.new.up ≡ false }
+        ensures known { self.new ≡ record self.old { up = false } }
         ensures down { is_down result ≡ false }
         ensures quiet { IsQuiet result }
     {
@@ -257,7 +258,7 @@ impl Shelf {
     pub fn start<D: ChunkDevice>(&mut self, device: &mut D) -> ChunkAnswer
         ensures step { IsStep Ask.Start (D.told device.old) self.old (without_room result) (D.told device.new) self.new }
         ensures chunks { LeavesChunks Ask.Start (D.told device.old) self.old result (D.told device.new) }
-        ensures up { self.new.up ≡ up_started result self.old.up }
+        ensures known { KnownAfterStart result self.old self.new }
         ensures down { is_down result ≡ false }
         ensures tells { is_some (D.told device.new) ≡ is_some (D.told device.old) }
         ensures never_falls { D.faults device.old ≤ D.faults device.new }
@@ -285,7 +286,7 @@ impl Shelf {
     pub fn wipe<D: ChunkDevice>(&mut self, device: &mut D) -> ChunkAnswer
         ensures step { IsStep Ask.Wipe (D.told device.old) self.old (without_room result) (D.told device.new) self.new }
         ensures chunks { LeavesChunks Ask.Wipe (D.told device.old) self.old result (D.told device.new) }
-        ensures up { self.new.up ≡ self.old.up }
+        ensures known { KnownAfterWipe result self.old self.new }
         ensures down { is_down result ≡ false }
         ensures tells { is_some (D.told device.new) ≡ is_some (D.told device.old) }
         ensures never_falls { D.faults device.old ≤ D.faults device.new }
@@ -395,6 +396,7 @@ fn without_room(alloc: Global, answer: ChunkAnswer) -> ChunkReply
 /// The answer where the device failed so.
 fn failed(error: DeviceError) -> ChunkAnswer
     ensures failure { result ≡ failure error }
+    ensures known { (key : ChunkKey) (count : ℕ) (old : Known) → KnownAfterPut key count result old old × KnownAfterStart result old old }
     ensures finds { PutFinds result false }
     ensures down { is_down result ≡ false }
 {

@@ -5,7 +5,7 @@ ghost use Rattle.qfs_device.specs.Fault.{Rose};
 ghost use Rattle.qfs_device.specs.Held.{Held, new_device};
 ghost use Rattle.qfs_model_server.specs.Server.{fresh_server};
 ghost use Rattle.qfs_store.specs.Chunks.{LeavesChunks, KeepsStrays};
-ghost use Rattle.qfs_store.specs.Stands.{no_copies, StandsOn, IsGrounded, IsStep, OnFault, MemoryFor, IsBuilt, FindsCopy, is_down, asks_up, up_after};
+ghost use Rattle.qfs_store.specs.Stands.{no_copies, StandsOn, IsGrounded, IsStep, OnFault, MemoryFor, IsBuilt, FindsCopy, is_down, asks_up, KnownAfter};
 
 use crate::shelf::Shelf;
 use qfs_base::reply::ChunkReply;
@@ -59,15 +59,15 @@ impl<D: ChunkDevice> Store<D> {
     /// server does; a Start that answers Fault or finds a key of no copy may hand out more.
     ///
     /// Over any device: Down comes exactly where the server isn't up and the request is a Put,
-    /// Fetch, Erase or Inventory, and only a Stop and a Start change whether it is up. Held comes
-    /// only where it knows that copy, Absent only where it knows no such copy or range, and no
-    /// other answer but Down and Lost comes there.
+    /// Fetch, Erase or Inventory. Held comes only where it knows that copy, Absent only where it
+    /// knows no such copy or range, and no other answer but Down and Lost comes there. A refusal, a
+    /// fault and want of memory leave what the server knows.
     pub fn serve(&mut self, request: ChunkRequest) -> ChunkReply
         requires built { IsBuilt request }
         ensures step { IsStep request self.old.told self.old.known result self.new.told self.new.known }
         ensures chunks { LeavesChunks request self.old.told self.old.known result.answer self.new.told }
         ensures strays { KeepsStrays request self.old.told self.old.known self.new.told }
-        ensures up { self.new.known.up ≡ up_after request result.answer self.old.known.up }
+        ensures known { KnownAfter request result.answer self.old.known self.new.known }
         ensures down { is_down result.answer ≡ (asks_up request && not self.old.known.up) }
         ensures finds { FindsCopy request self.old.known result.answer }
         ensures tells { is_some self.new.told ≡ is_some self.old.told }

@@ -1,8 +1,9 @@
 -- What the device's write leaves, by its answer.
-use Rattle.std.proofs.Common.{List, ℕ, Err, refl, ap, subst, ◌∙◌, arith}
+use Rattle.std.proofs.Common.{List, ℕ, length, Err, refl, sym, ap, subst, ◌∙◌, arith}
 use Rattle.std.specs.Option.{option_map}
 use Rattle.qfs_device.specs.Held.{holding, Writes}
-use Rattle.qfs_store.proofs.PutLaws.{put_without_memory, put_stored, put_failed, is_chunk}
+use Rattle.qfs_store.specs.Stands.{KnownAfterPut, forgetting}
+use Rattle.qfs_store.proofs.PutLaws.{put_without_memory, put_stored, put_failed, is_chunk, known_again}
 use Rattle.qfs_store.proofs.ChunkLaws.{idle_chunks, put_stored_chunks, put_failed_chunks}
 use Rattle.qfs_store.proofs.shelf.Shelf.store.Goals as goal
 
@@ -37,3 +38,9 @@ returns-clause-chunks g c life =
     rw c.failed.ensures.failure
     (put_failed_chunks c.args.key life c.args.bytes.now _ _ c.args.self.now c.in-Err-write.error
     (subst (λ (bytes : List ℕ). Writes {T = Unit {0}} c.args.key bytes (g.D.ChunkDevice.told c.args.device.now) (g.D.ChunkDevice.told c.write.new.self) (Err c.in-Err-write.error)) text c.in-Err-write.ensures.written))
+
+pub returns-clause-known : goal.returns-clause-known
+returns-clause-known g c =
+    subst (KnownAfterPut c.args.key (length c.args.bytes.now) c.failed.result c.args.self.now)
+    (sym (c.forget.ensures ∙ ap (forgetting c.args.key) c.in-Ok.ensures.known ∙ known_again c.args.self.now c.args.key (length c.args.bytes.now) c.requires.absent))
+    (c.failed.ensures.known c.args.key (length c.args.bytes.now) c.args.self.now).0
