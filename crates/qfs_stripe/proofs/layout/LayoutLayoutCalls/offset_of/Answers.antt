@@ -7,7 +7,8 @@ use Rattle.qfs_stripe.proofs.layout.LayoutLayoutCalls.offset_of.Goals as goal
 pub returns-clause-value : goal.returns-clause-value
 returns-clause-value c =
     offset_by_sizes c.args.self.now.s c.args.self.now.r c.args.index c.args.slot c.args.at _ _ _ _ _ _ _
-    (ap (λ (shape : Shape). shape.s) c.self.view_is)     c.from-2.ensures (c.from-3.ensures ∙ c.block_bytes.ensures.value) c.from-row.ensures (c.from-4.ensures ∙ c.row_bytes.ensures.value) c.from.ensures c.from-5.ensures
+    (ap (λ (shape : Shape). shape.s) c.self.view_is)
+    c.from-2.ensures (c.from-3.ensures ∙ c.block_bytes.ensures.value) c.from-row.ensures (c.from-4.ensures ∙ c.row_bytes.ensures.value) c.from.ensures c.from-5.ensures
 
 pub returns-clause-back : goal.returns-clause-back
 returns-clause-back c =
