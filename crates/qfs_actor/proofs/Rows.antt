@@ -5,10 +5,10 @@ use Rattle.std.proofs.Math.Seq.{take-length}
 use Rattle.std.proofs.lemmas.List.{append-nil}
 use Rattle.std.specs.Int.{div_ceil}
 use Rattle.std.specs.List.{All, flat_map}
-use Rattle.qfs_base.specs.Layout.{row_bytes, block_bytes}
+use Rattle.qfs_base.specs.Layout.{row_bytes, block_bytes, blocks_touched, windows_touched}
 use Rattle.qfs_base.specs.Shape.{Shape}
 use Rattle.qfs_model_actor.specs.Pieces.{piece_of, given_or_restored, data_of, row_of, rows_of_file}
-use Rattle.qfs_model_actor.specs.Windows.{window_at, windows_of_rows, blocks_touched, windows_touched, window_offset, cut_to_range}
+use Rattle.qfs_model_actor.specs.Windows.{window_offset, cut_to_range}
 use Rattle.qfs_actor.specs.Rest.{first_row, pieces_from, row_read, HasStripes}
 
 -- six pieces are those of the data slots
@@ -57,14 +57,12 @@ div_ceil-one n m some most =
           rw (none, all) (omega arith)
     ]
 
-pub blocks_touched-first : (layout : Shape) (len : ℕ) → 0 < len → len ≤ 6 * layout.s → 1 ≤ layout.r → blocks_touched layout 0 len ≡ 0 ∷ []
-unfolding blocks_touched
+pub blocks_touched-first : (layout : Shape) (len : ℕ) → 0 < len → len ≤ 6 * layout.s → 1 ≤ layout.r → blocks_touched layout.s layout.r 0 len ≡ 0 ∷ []
 blocks_touched-first layout len some most rows =
     let inside : len ≤ block_bytes layout.s layout.r = grind arith in
     rw (zero-div (block_bytes layout.s layout.r), div_ceil-one len (block_bytes layout.s layout.r) some inside) refl
 
-pub windows_touched-first : (layout : Shape) (len : ℕ) → 0 < len → len ≤ 6 * layout.s → 1 ≤ layout.r → windows_touched layout 0 len 0 ≡ first_row ∷ []
-unfolding windows_touched windows_of_rows window_at
+pub windows_touched-first : (layout : Shape) (len : ℕ) → 0 < len → len ≤ 6 * layout.s → 1 ≤ layout.r → windows_touched layout.s layout.r 0 len 0 ≡ first_row ∷ []
 windows_touched-first layout len some most rows =
     let none : 0 * block_bytes layout.s layout.r ≡ 0 = omega arith in
     let inside : len ≤ block_bytes layout.s layout.r = grind arith in

@@ -1,27 +1,21 @@
--- stand-in for the definitions of the mask and the code, to be dropped when those crates are there
-use Rattle.std.specs.Prelude.{ℕ, ◌+◌, ◌-◌, ◌*◌, Bool, cond, not, ◌&&◌, ◌||◌, ltb, ◌==◌, List, [], ◌∷◌, map, find, Option, unwrap_or, bit_xor, slice_index, slice_index_or}
-use Rattle.std.specs.List.{range_with_len, list_any}
+-- A slot that is computed from the others.
+--
+-- A code word meets three equations, one for each parity slot: the six data bytes, each times what it counts in that
+-- parity slot, and the parity byte itself have the sum 0. So it meets each combination of the three. To restore a slot
+-- that isn't at hand, take a combination in which the wanted slot counts 1 and every other slot that isn't at hand counts
+-- 0: the wanted byte is what the slots at hand sum up to there. With six slots at hand two others can be missing beside
+-- the wanted one, and the combination is that in which two slots drop out.
+use Rattle.std.specs.Prelude.{ℕ, ◌+◌, ◌-◌, ◌*◌, Bool, cond, not, ◌&&◌, ◌||◌, ltb, ◌==◌, List, [], ◌∷◌, map, find, Option, unwrap_or, bit_xor, slice_index}
+use Rattle.std.specs.List.{range_with_len}
+use Rattle.qfs_base.specs.Mask.{all_slots, has_slot}
 use Rattle.qfs_galois.specs.Field.{product, power, inverse}
-use Rattle.qfs_model_slot.specs.CodeWord.{all_slots}
-
-unfoldable pub has_slot : List ℕ → ℕ → Bool
-has_slot slots s = list_any (λ t. t == s) slots
+use Rattle.qfs_model_slot.specs.CodeWord.{slot_at, column}
 
 -- the sum of the products of the numbers at the same places
 unfoldable pub dot : List ℕ → List ℕ → ℕ
 dot [] ys = 0
 dot (x ∷ xs) [] = 0
 dot (x ∷ xs) (y ∷ ys) = bit_xor (product x y) (dot xs ys)
-
--- ---- slots: lists of bytes
-
--- a slot by its number
-abbrev pub slot_at : List (List ℕ) → ℕ → List ℕ
-slot_at slots j = slice_index_or slots j []
-
--- the bytes of the slots at one offset
-unfoldable pub column : List (List ℕ) → ℕ → List ℕ
-column slots t = map (λ slot. slice_index slot t) slots
 
 -- the bytes of the columns below `size`, each weighed
 unfoldable pub weighed : List ℕ → ℕ → List (List ℕ) → List ℕ
