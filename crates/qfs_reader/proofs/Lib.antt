@@ -1,1 +1,4 @@
 mod Passing
+mod Cutting
+mod Slots
+mod Rowwise

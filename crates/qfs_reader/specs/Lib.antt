@@ -1,2 +1,4 @@
 pub mod Got
 pub mod Sources
+pub mod Rows
+pub mod Parts

@@ -2,7 +2,11 @@
 #![tactic(auto)]
 
 mod got;
+mod parts;
+mod rows;
 mod sources;
 
 pub use got::Got;
+pub use parts::{add_rows, put_part, restore_data};
+pub use rows::{blocks_before, cut_to_range, first_row, groups_before, past_row, row_bytes, window_at};
 pub use sources::{are_too_few, causes_of, next_source, sources_of};
