@@ -2,3 +2,5 @@ mod Passing
 mod Cutting
 mod Slots
 mod Rowwise
+mod Touched
+mod Blocks

@@ -2,3 +2,4 @@ pub mod Got
 pub mod Sources
 pub mod Rows
 pub mod Parts
+pub mod Rest

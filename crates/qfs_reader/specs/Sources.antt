@@ -1,5 +1,5 @@
 -- The next slot that a block is read from.
-use Rattle.std.specs.Prelude.{◌≡◌, ℕ, suc, ◌<◌, ◌≤◌, List, take, count_by, is_ok, Some, Ok, slice_get}
+use Rattle.std.specs.Prelude.{◌≡◌, ℕ, suc, ◌<◌, ◌≤◌, List, length, take, count_by, is_ok, Some, Ok, slice_get}
 use Rattle.qfs_base.specs.declared.chunk.Copy.{Copy}
 use Rattle.qfs_base.specs.declared.layout.Window.{Window}
 use Rattle.qfs_model_actor.specs.Pieces.{Piece}
@@ -16,6 +16,7 @@ PassesTo sources slot next =
 
 -- the first slot from one on that can be read
 pub record IsNext (sources : List Source) (slot next : ℕ) (copy : Copy) : Type 0 where
+  pub nine : length sources ≡ 9
   pub within : next < 9
   pub from : slot ≤ next
   pub listed : slice_get sources next ≡ Some (Ok copy)

@@ -100,3 +100,31 @@ pub fn add_rows(nine: &[u8], stripe: usize, rows: usize, from: u32, to: u32, sta
         add_row(nine, size, stripe, row, from, to, offset, got);
     }
 }
+
+/// Adds what a range takes of a window's `rows` rows, which begin at byte `start` of the file, from
+/// what six of its slots gave. `spare` is room for one part.
+pub fn add_window(
+    nine: &mut [u8],
+    spare: &mut [u8],
+    have: Mask,
+    stripe: usize,
+    rows: usize,
+    from: u32,
+    to: u32,
+    start: u32,
+    got: &mut Got,
+)
+    requires enough { 6 ≤ length have }
+    requires mask { AreBelow 9 have }
+    requires nine { length nine.old ≡ 9 * (rows * stripe) }
+    requires spare { length spare.old ≡ rows * stripe }
+    requires rows { rows ≤ 1024 }
+    requires stripe { stripe ≤ 65536 }
+    requires fits { start + rows * (6 * stripe) < 2 ^ 32 }
+    requires got { length got.old ≤ start - from }
+    ensures got { got.new ≡ got.old ++ cut_to_range from to start (rows_of_file stripe rows (data_of (pieces_of (rows * stripe) nine.old have))) }
+    ensures bound { length got.new ≤ start + rows * (6 * stripe) - from }
+{
+    restore_data(nine, rows * stripe, have, spare);
+    add_rows(nine, stripe, rows, from, to, start, got);
+}
