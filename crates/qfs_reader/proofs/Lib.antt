@@ -4,3 +4,5 @@ mod Slots
 mod Rowwise
 mod Touched
 mod Blocks
+mod Fetches
+mod Answered

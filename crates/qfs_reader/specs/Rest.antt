@@ -1,5 +1,5 @@
 -- What is left of a get at each of its stages.
-use Rattle.std.specs.Prelude.{◌≡◌, ℕ, suc, ◌+◌, ◌-◌, ◌*◌, ◌<◌, ◌≤◌, ◌^◌, List, [], ◌∷◌, ◌++◌, length, take, count_by, is_ok, Option, Some, None, Ok, Err, slice_get, slice_set, ⊤, ◌⊎◌}
+use Rattle.std.specs.Prelude.{◌≡◌, ℕ, suc, ◌+◌, ◌-◌, ◌*◌, ◌<◌, ◌≤◌, ◌^◌, ◌==◌, List, [], ◌∷◌, ◌++◌, length, take, count_by, is_ok, Option, Some, None, Ok, Err, slice_get, slice_set, ⊤, ◌⊎◌}
 use Rattle.qfs_base.specs.Layout.{row_bytes, block_bytes}
 use Rattle.qfs_base.specs.Shape.{Shape}
 use Rattle.qfs_base.specs.declared.chunk.Copy.{Copy}
@@ -9,18 +9,21 @@ use Rattle.qfs_base.specs.declared.layout.Window.{Window}
 use Rattle.qfs_base.specs.declared.lists.Cause.{Cause}
 use Rattle.qfs_base.specs.declared.reply.Opened.{Opened}
 use Rattle.qfs_base.specs.declared.request.MetaRequest.TheVariants as Ask
-use Rattle.qfs_model_actor.specs.Ask.{ask}
+use Rattle.qfs_model_actor.specs.Ask.{ask, filled}
 use Rattle.qfs_model_actor.specs.Get.{reading_of, read_blocks, was_opened}
 use Rattle.qfs_model_actor.specs.Hold.{nothing, opened, end_with}
 use Rattle.qfs_model_actor.specs.Pieces.{Piece}
 use Rattle.qfs_model_actor.specs.Put.{slots_from}
 use Rattle.qfs_model_actor.specs.Read.{Source, Reading, causes_of, read_slots, read_windows, with_enough}
+use Rattle.qfs_model_actor.specs.Shown.{kept_report}
 use Rattle.qfs_model_actor.specs.Windows.{window_offset}
 use Rattle.qfs_model_actor.specs.Work.{Report, Work, ends}
 use Rattle.qfs_reader.specs.Parts.{pieces_of, AreBelow}
 use Rattle.qfs_reader.specs.Rows.{first_touched, window_touched, groups_touched, windows_from, blocks_before, blocks_from}
 use Rattle.qfs_reader.specs.declared.stage.Ending.{Ending}
 use Rattle.qfs_reader.specs.declared.stage.Ending.TheVariants as With
+use Rattle.qfs_reader.specs.declared.stage.Early.{Early}
+use Rattle.qfs_reader.specs.declared.stage.Early.TheVariants as By
 use Rattle.qfs_reader.specs.declared.stage.OpenFile.{OpenFile}
 use Rattle.qfs_reader.specs.declared.stage.Spot.{Spot}
 use Rattle.qfs_reader.specs.declared.stage.Stage.{Stage}
@@ -68,6 +71,10 @@ unfoldable pub rest_with_piece : Shape → OpenFile → Spot → List ℕ → Wo
 rest_with_piece layout file spot room =
     rest_of_slots layout file spot (5 - length spot.have) (spot.slot + 1) spot.sources (pieces_at layout file spot ++ record { slot = spot.slot; bytes = room } ∷ [])
 
+-- and where a room came back that may not be as long as it was asked for
+unfoldable pub rest_if_filled : Shape → OpenFile → Spot → List ℕ → Work
+rest_if_filled layout file spot room = filled (rest_with_piece layout file spot) room (length room == window_bytes layout spot.window)
+
 unfoldable pub rest_without : Shape → OpenFile → Spot → Cause → Work
 rest_without layout file spot cause =
     with_enough (reading_at layout file spot.block)
@@ -80,6 +87,20 @@ report_of (With.Read place got) = Report.Read place got
 report_of (With.TooFew place block sources) = Report.ReadTooFew place block (causes_of sources)
 report_of With.NoMemory = Report.NoMemory
 
+-- the report of a get that ends early
+unfoldable pub early_report : Early → Report
+early_report (By.Refused place refusal) = Report.Refused place refusal
+early_report (By.Dropped turn) = Report.Dropped turn
+early_report By.LogFault = Report.LogFault
+early_report By.NoMemory = Report.NoMemory
+early_report (By.BadLog right offset) = Report.BadLog right offset
+early_report By.Unnamed = Report.Unnamed
+
+-- a get that ends early, or goes on
+unfoldable pub ends_or : Work → Option Early → Work
+ends_or next None = next
+ends_or next (Some end) = ends (early_report end)
+
 -- what is left of a get that asks for its file
 abbrev pub opening : List (List ℕ) → Shape → Range → Work
 opening path layout range = ask nothing (Ask.OpenFile path) (was_opened layout range)
@@ -89,7 +110,8 @@ unfoldable pub rest_at : List (List ℕ) → Shape → Range → Stage → Work
 rest_at path layout range At.Opening = opening path layout range
 rest_at path layout range (At.Fetching file spot) = rest_of_spot layout file spot
 rest_at path layout range (At.Releasing lease ending) = end_with (opened lease) (report_of ending)
-rest_at path layout range (At.Ended report) = ends report.report.value
+rest_at path layout range (At.Ended ending kept) = ends (report_of ending)
+rest_at path layout range (At.Stopped end) = ends (early_report end)
 
 -- a range of a file that isn't empty
 pub record IsRange (file : OpenFile) : Type 0 where
@@ -110,13 +132,8 @@ pub record HasRoom (layout : Shape) (file : OpenFile) (w : Window) : Type 0 wher
   pub nine : length file.nine.items ≡ 9 * window_bytes layout w
   pub spare : length file.spare.items ≡ window_bytes layout w
 
--- a slot of a window that can be read is read; those before it that can be read have given their bytes, and are too few
-pub record IsSpot (layout : Shape) (file : OpenFile) (spot : Spot) : Type 0 where
-  pub range : IsRange file
-  pub block : IsBlock layout file spot.block
-  pub group : spot.group < groups_touched layout.s layout.r file.to spot.block
-  pub window : spot.window ≡ window_touched layout.s layout.r file.from file.to spot.block spot.group
-  pub reached : first_touched layout.s layout.r file.from spot.block ≤ spot.group * 16 + 16
+-- the slot that is read can be read; those before it that can be read have given their bytes, and are too few
+pub record IsReadable (spot : Spot) : Type 0 where
   pub slot : spot.slot < 9
   pub listed : slice_get spot.sources spot.slot ≡ Some (Ok spot.copy)
   pub nine : length spot.sources ≡ 9
@@ -124,6 +141,15 @@ pub record IsSpot (layout : Shape) (file : OpenFile) (spot : Spot) : Type 0 wher
   pub enough : 6 ≤ count_by is_ok spot.sources
   pub few : length spot.have < 6
   pub below : AreBelow spot.slot spot.have
+
+-- a slot of a window that the range touches is read
+pub record IsSpot (layout : Shape) (file : OpenFile) (spot : Spot) : Type 0 where
+  pub range : IsRange file
+  pub block : IsBlock layout file spot.block
+  pub group : spot.group < groups_touched layout.s layout.r file.to spot.block
+  pub window : spot.window ≡ window_touched layout.s layout.r file.from file.to spot.block spot.group
+  pub reached : first_touched layout.s layout.r file.from spot.block ≤ spot.group * 16 + 16
+  pub readable : IsReadable spot
   pub got : IsBefore file (window_offset layout spot.window)
   pub room : (spot.have ≡ []) ⊎ HasRoom layout file spot.window
 
@@ -132,4 +158,5 @@ abbrev pub IsAt : Shape → Stage → Type 0
 IsAt layout At.Opening = ⊤
 IsAt layout (At.Fetching file spot) = IsSpot layout file spot
 IsAt layout (At.Releasing lease ending) = ⊤
-IsAt layout (At.Ended report) = ⊤
+IsAt layout (At.Ended ending kept) = kept ≡ kept_report (report_of ending)
+IsAt layout (At.Stopped end) = ⊤

@@ -5,11 +5,9 @@ use crate::sources::Sources;
 use qfs_base::chunk::Copy;
 use qfs_base::command::{Excerpt, Reply};
 use qfs_base::layout::Window;
-use qfs_base::lists::Bytes;
 use qfs_base::mask::Mask;
-use qfs_base::numbers::{LeaseId, Place, Slot};
-use qfs_base::reply::Opened;
-use qfs_machine::Told;
+use qfs_base::numbers::{LeaseId, Place, Slot, Turn};
+use qfs_base::reply::{Opened, TreeRefusal};
 
 /// A file under a get's lease, of which the bytes from `from` up to `to` are wanted.
 #[derive(Drop)]
@@ -56,11 +54,19 @@ pub enum Ending {
     NoMemory,
 }
 
-/// The report of a get that has ended: as it is kept, and, for clauses, with all bytes.
-#[derive(Drop)]
-pub struct Ended {
-    pub kept: Reply<Excerpt>,
-    pub report: Told<Reply<Bytes>>,
+/// What ends a get without more ado.
+#[derive(Clone, Copy)]
+pub enum Early {
+    /// The name tree refuses to open the file.
+    Refused { place: Place, refusal: TreeRefusal },
+    /// The actor was dropped.
+    Dropped { turn: Turn },
+    LogFault,
+    NoMemory,
+    /// The metaserver's newest disk goes wrong at this offset.
+    BadLog { right: bool, offset: u64 },
+    /// A node answered something that its request doesn't allow.
+    Unnamed,
 }
 
 /// What a get waits for.
@@ -72,6 +78,8 @@ pub enum Stage {
     Fetching(OpenFile, Spot),
     /// It gives its lease back, and then it ends.
     Releasing(LeaseId, Ending),
-    /// It has ended.
-    Ended(Ended),
+    /// It has ended, and its report is kept so.
+    Ended(Ending, Reply<Excerpt>),
+    /// It has ended early.
+    Stopped(Early),
 }

@@ -29,13 +29,16 @@ returns-clause-at c =
       group = c.requires.group;
       window = c.window_touched-window.ensures;
       reached = c.requires.reached;
-      slot = c.next_source-slot.ensures.within;
-      listed = c.next_source-slot.ensures.listed;
-      nine = c.next_source-slot.ensures.nine;
-      before = c.next_source-slot.ensures.before;
-      enough = enough_left c.args.sources c.requires.enough;
-      few = omega arith;
-      below = tt;
+      readable =
+          record {
+            slot = c.next_source-slot.ensures.within;
+            listed = c.next_source-slot.ensures.listed;
+            nine = c.next_source-slot.ensures.nine;
+            before = c.next_source-slot.ensures.before;
+            enough = enough_left c.args.sources c.requires.enough;
+            few = omega arith;
+            below = tt;
+          };
       got =
           let start = window_start c.args.layout.now c.args.file.from c.args.file.to c.args.block c.args.group in
           rw c.window_touched-window.ensures (omega (arith, start, c.requires.got));
