@@ -6,3 +6,4 @@ mod Touched
 mod Blocks
 mod Fetches
 mod Answered
+mod Asked

@@ -3,3 +3,4 @@ pub mod Sources
 pub mod Rows
 pub mod Parts
 pub mod Rest
+pub mod Standing

@@ -132,6 +132,13 @@ pub record HasRoom (layout : Shape) (file : OpenFile) (w : Window) : Type 0 wher
   pub nine : length file.nine.items ≡ 9 * window_bytes layout w
   pub spare : length file.spare.items ≡ window_bytes layout w
 
+-- a file with other room, and all else the same
+pub record IsOtherRoom (before after : OpenFile) : Type 0 where
+  pub opened : after.opened ≡ before.opened
+  pub from : after.from ≡ before.from
+  pub to : after.to ≡ before.to
+  pub got : after.got ≡ before.got
+
 -- the slot that is read can be read; those before it that can be read have given their bytes, and are too few
 pub record IsReadable (spot : Spot) : Type 0 where
   pub slot : spot.slot < 9

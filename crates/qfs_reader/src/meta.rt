@@ -116,7 +116,8 @@ fn given_back(ending: Ending, kept: Reply<Excerpt>, answer: &MetaReply) -> Stage
     ensures at { (layout : Shape) → IsAt layout result }
 {
     match answer {
-        MetaReply::Done { .. } | MetaReply::Gone => Stage::Ended(ending, kept),
+        MetaReply::Done { .. } => Stage::Ended(ending, kept),
+        MetaReply::Gone => Stage::Ended(ending, kept),
         _ => unnamed(),
     }
 }

@@ -90,17 +90,22 @@ pub fn request_at(
             let release = MetaRequest::Release { lease: *lease };
             Ok(Some(NodeRequest::Meta(release)))
         }
-        Stage::Ended(..) | Stage::Stopped(_) => Ok(None),
+        Stage::Ended(..) => Ok(None),
+        Stage::Stopped(_) => Ok(None),
     }
 }
 
 /// The node of the next request: 0 is the metaserver, s is server s. None where the get has ended.
-pub fn node_of(stage: &Stage) -> Option<NodeId>
-    ensures { (path : List (List ℕ)) (layout : Shape) (range : Range) → IsAt layout stage.now → result ≡ option_map node_of_request (request_in (rest_at path layout range stage.now)) }
+pub fn node_of(layout: &Layout, stage: &Stage) -> Option<NodeId>
+    requires { IsAt layout.now stage.now }
+    ensures { (path : List (List ℕ)) (range : Range) → result ≡ option_map node_of_request (request_in (rest_at path layout.now range stage.now)) }
 {
+    let _ = layout;
     match stage {
-        Stage::Opening | Stage::Releasing(..) => Some(0),
+        Stage::Opening => Some(0),
+        Stage::Releasing(..) => Some(0),
         Stage::Fetching(_, spot) => Some(spot.copy.server),
-        Stage::Ended(..) | Stage::Stopped(_) => None,
+        Stage::Ended(..) => None,
+        Stage::Stopped(_) => None,
     }
 }

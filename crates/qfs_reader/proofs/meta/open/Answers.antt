@@ -18,3 +18,6 @@ pub returns-else-is_whole-clause-rest : goal.returns-else-is_whole-clause-rest
 unfolding read_if_whole
 returns-else-is_whole-clause-rest c =
     let whole : is_whole c.args.layout.now c.args.opened ≡ false = cc in rw whole (λ path asked. c.unnamed.ensures.rest path c.args.layout.now asked)
+
+pub returns-else-is_whole-clause-at : goal.returns-else-is_whole-clause-at
+returns-else-is_whole-clause-at c = c.unnamed.ensures.at c.args.layout.now
