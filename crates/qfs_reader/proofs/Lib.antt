@@ -7,3 +7,4 @@ mod Blocks
 mod Fetches
 mod Answered
 mod Asked
+mod Supplies

@@ -34,6 +34,7 @@ fn make_room(
     ensures ok { OnOk result (HasRoom layout.now file.new window) }
     ensures there { HasRoom layout.now file.old window → file.new ≡ file.old }
     ensures other { IsOtherRoom file.old file.new }
+    ensures err { OnErr result (file.new ≡ file.old) }
 {
     let size = window.rows as usize * layout.s as usize;
     if file.nine.len() != 9 * size || file.spare.len() != size {
