@@ -1,8 +1,8 @@
 //! What a get keeps of the bytes that it has read.
-#![tactic(auto, unfolding(qfs_machine::specs::Kept::shown_if_few, qfs_machine::specs::Kept::excerpt_of))]
+#![tactic(auto, unfolding(qfs_model_actor::specs::Shown::shown_if_few, qfs_model_actor::specs::Shown::excerpt_of))]
 
 ghost use Rattle.std.specs.Prelude.{◌≡◌, ◌+◌, ◌<◌, ◌^◌, [], ◌++◌, length, nat_le, IfOk};
-ghost use Rattle.qfs_machine.specs.Kept.{excerpt_of, shown_if_few, most_shown};
+ghost use Rattle.qfs_model_actor.specs.Shown.{excerpt_of, shown_if_few, most_shown};
 
 use qfs_base::command::{Excerpt, Shown};
 use qfs_base::listing::Listing;
