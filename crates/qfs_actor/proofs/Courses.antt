@@ -16,6 +16,7 @@ use Rattle.qfs_machine.specs.declared.machine.Readiness.TheVariants.{Unready, Re
 use Rattle.qfs_model_actor.specs.Actor.{Actor, starting, work_left, request_of, node_of, moved_on, after_reply}
 use Rattle.qfs_model_actor.specs.Ask.{ask}
 use Rattle.qfs_model_actor.specs.Command.{work_of, file_work}
+use Rattle.qfs_model_actor.specs.Get.{get_work}
 use Rattle.qfs_model_actor.specs.Hold.{ask_or}
 use Rattle.qfs_model_actor.specs.Put.{put_work}
 use Rattle.qfs_model_actor.specs.Shown.{kept_report, lines_from}
@@ -79,8 +80,9 @@ has_ended (asks request next) none = absurd (cc)
 
 -- each command begins with a request
 pub work_of-asks : (layout : Shape) (number : ℕ) (command : Command) → IsBuilt command → IsSome (request_in (work_of layout number command))
-unfolding work_of file_work put_work ask ask_or request_in
+unfolding work_of file_work put_work get_work ask ask_or request_in
 work_of-asks layout number (Does.File (File.Put path recipe)) built = refl
+work_of-asks layout number (Does.File (File.Get path range)) built = refl
 work_of-asks layout number (Does.File command) built = absurd built
 work_of-asks layout number command built = absurd built
 

@@ -7,9 +7,10 @@ use Rattle.qfs_base.specs.declared.command.FileCommand.TheVariants as File
 
 abbrev pub IsBuiltFile : FileCommand → Type 0
 IsBuiltFile (File.Put path recipe) = ⊤
+IsBuiltFile (File.Get path range) = ⊤
 IsBuiltFile command = ⊥
 
--- a put
+-- a put or a get
 abbrev pub IsBuilt : Command → Type 0
 IsBuilt (Does.File command) = IsBuiltFile command
 IsBuilt command = ⊥

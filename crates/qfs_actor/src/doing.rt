@@ -12,6 +12,7 @@ use qfs_base::numbers::NodeId;
 use qfs_base::reply::NodeReply;
 use qfs_base::request::NodeRequest;
 use qfs_machine::Machine;
+use qfs_reader::Reader;
 use qfs_stripe::Layout;
 use qfs_writer::Writer;
 use std::alloc::{AllocError, Global};
@@ -20,6 +21,7 @@ use std::alloc::{AllocError, Global};
 #[derive(Drop)]
 pub enum Doing {
     Put(Writer),
+    Get(Reader),
 }
 
 impl Doing {
@@ -46,6 +48,7 @@ fn begin_file(alloc: Global, layout: Layout, number: u16, command: FileCommand) 
         FileCommand::Put(path, recipe) => {
             Doing::Put(Writer::new(alloc, layout, number, path, recipe))
         }
+        FileCommand::Get(path, range) => Doing::Get(Reader::new(alloc, path, range, layout)),
         _ => unreachable!(),
     }
 }
@@ -58,30 +61,35 @@ impl Machine for Doing {
     fn ready(&mut self) -> Result<(), AllocError> {
         match self {
             Doing::Put(writer) => writer.ready(),
+            Doing::Get(reader) => reader.ready(),
         }
     }
 
     fn goes_to(&self) -> Option<NodeId> {
         match self {
             Doing::Put(writer) => writer.goes_to(),
+            Doing::Get(reader) => reader.goes_to(),
         }
     }
 
     fn next(&mut self) -> Option<NodeRequest> {
         match self {
             Doing::Put(writer) => writer.next(),
+            Doing::Get(reader) => reader.next(),
         }
     }
 
     fn took(&mut self, reply: NodeReply) {
         match self {
             Doing::Put(writer) => writer.took(reply),
+            Doing::Get(reader) => reader.took(reply),
         }
     }
 
     fn into_reply(self) -> Reply<Excerpt> {
         match self {
             Doing::Put(writer) => writer.into_reply(),
+            Doing::Get(reader) => reader.into_reply(),
         }
     }
 }

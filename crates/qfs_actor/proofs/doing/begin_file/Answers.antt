@@ -2,6 +2,10 @@ use Rattle.qfs_model_actor.specs.Command.{file_work}
 use Rattle.qfs_actor.specs.Doing.{rest_of}
 use Rattle.qfs_actor.proofs.doing.begin_file.Goals as goal
 
-pub returns-clause-rest : goal.returns-clause-rest
+pub returns-in-Put-clause-rest : goal.returns-in-Put-clause-rest
 unfolding rest_of file_work
-returns-clause-rest c = rw c.in-Put.is c.new.ensures.rest
+returns-in-Put-clause-rest c = rw c.in-Put.is c.new.ensures.rest
+
+pub returns-in-Get-clause-rest : goal.returns-in-Get-clause-rest
+unfolding rest_of file_work
+returns-in-Get-clause-rest c = rw c.in-Get.is c.new-in-Get.ensures.rest

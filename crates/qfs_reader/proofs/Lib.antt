@@ -1,0 +1,10 @@
+mod Passing
+mod Cutting
+mod Slots
+mod Rowwise
+mod Touched
+mod Blocks
+mod Fetches
+mod Answered
+mod Asked
+mod Supplies

@@ -1,0 +1,23 @@
+use Rattle.std.proofs.Common.{◌≡◌, ◌∙◌, refl, ap, sym, arith, min, ◌+◌, ◌<◌, ◌≤◌, true, false, ◌*◌, ◌/◌, ℕ}
+use Rattle.qfs_base.specs.Layout.{block_bytes}
+use Rattle.qfs_base.specs.declared.command.Reply.TheVariants as Report
+use Rattle.qfs_model_actor.specs.Get.{is_whole, read_if_whole, was_opened}
+use Rattle.qfs_model_actor.specs.Hold.{on_answer, was_released, end_with, nothing}
+use Rattle.qfs_model_actor.specs.Tree.{refused}
+use Rattle.qfs_model_actor.specs.Work.{ends}
+use Rattle.qfs_reader.specs.Rest.{rest_at, report_of, early_report, ends_or}
+use Rattle.qfs_reader.proofs.Answered.{answer-other, ends_at_once, released-other, opened-other, range-empty, range-some}
+use Rattle.qfs_reader.proofs.meta.given_back.Goals as goal
+
+pub returns-in_default-clause-rest : goal.returns-in_default-clause-rest
+returns-in_default-clause-rest c =
+    λ path layout range.
+    c.unnamed.ensures.rest path layout range ∙ released-other (ends (report_of c.args.ending)) c.args.answer.now c.in_default.not-Done c.in_default.not-Gone
+
+pub returns-in-Done-clause-rest : goal.returns-in-Done-clause-rest
+unfolding rest_at was_released
+returns-in-Done-clause-rest c = λ path layout range. rw c.in-Done.is refl
+
+pub returns-in-Gone-clause-rest : goal.returns-in-Gone-clause-rest
+unfolding rest_at was_released
+returns-in-Gone-clause-rest c = λ path layout range. rw c.in-Gone.is refl

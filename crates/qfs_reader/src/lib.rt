@@ -1,0 +1,16 @@
+//! Gets: the machine that reads a range of a file from any six of the nine slots of each block.
+#![tactic(auto)]
+
+mod block;
+mod fetch;
+mod got;
+mod meta;
+mod parts;
+mod reader;
+mod request;
+mod rows;
+mod sources;
+mod stage;
+mod supply;
+
+pub use reader::Reader;
