@@ -1,0 +1,4 @@
+pub mod Running
+pub mod Follows
+pub mod Turning
+pub mod Calls

@@ -1,0 +1,1 @@
+-- A node's turn with an actor.
