@@ -2,6 +2,7 @@ pub mod StandsLaws
 pub mod StepLaws
 pub mod PutLaws
 pub mod FetchLaws
+pub mod GroundedLaws
 pub mod EraseLaws
 pub mod ServerLaws
 pub mod StartLaws

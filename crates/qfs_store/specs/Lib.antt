@@ -1,2 +1,4 @@
+pub mod Fresh
 pub mod Stands
 pub mod Start
+pub mod Stored

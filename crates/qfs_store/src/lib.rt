@@ -3,5 +3,7 @@
 
 mod shelf;
 mod starting;
+mod store;
 
 pub use shelf::Shelf;
+pub use store::Store;
