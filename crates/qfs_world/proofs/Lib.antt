@@ -1,0 +1,2 @@
+pub mod ServedWork
+pub mod ServedCommands
