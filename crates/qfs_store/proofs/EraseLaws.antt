@@ -1,19 +1,18 @@
 -- An Erase of a server that stands over its device.
-use Rattle.std.proofs.Common.{◌≡◌, ℕ, Bool, true, false, not, cond, List, [], ◌∷◌, length, Option, Some, None, refl, sym, ap, ◌∙◌}
+use Rattle.std.proofs.Common.{◌≡◌, ℕ, Bool, true, false, not, Option, Some, None, refl, sym, ap, ◌∙◌}
 use Rattle.std.specs.Option.{option_map}
 use Rattle.qfs_base.specs.Key.{key_cmp}
 use Rattle.qfs_base.specs.KeyLaws.{key_cmp_total}
-use Rattle.qfs_base.specs.KeyMap.{value_at, has_key, without_key}
+use Rattle.qfs_base.specs.KeyMap.{has_key, without_key}
 use Rattle.qfs_base.specs.KeyMapLaws.{value_at-without_key}
 use Rattle.qfs_base.specs.Outcome.{chunk_outcome}
 use Rattle.qfs_base.specs.declared.chunk.ChunkKey.{ChunkKey}
 use Rattle.qfs_base.specs.declared.reply.ChunkAnswer.{ChunkAnswer}
 use Rattle.qfs_base.specs.declared.reply.ChunkAnswer.TheVariants as Answer
 use Rattle.qfs_base.specs.declared.request.ChunkRequest.TheVariants as Ask
-use Rattle.qfs_device.specs.Held.{Held, chunk_at, lacking}
-use Rattle.qfs_record.specs.ChunkRecord.{chunk_record}
+use Rattle.qfs_device.specs.Held.{Held, lacking}
 use Rattle.qfs_model_server.specs.Server.{Server, chunk_attempted, chunk_served, chunk_refusal, room_of, refuse, unless_away, without_room}
-use Rattle.qfs_store.specs.Stands.{Known, Lengths, StandsOn, Serves, IsStep, IsAttempt, IsAway, forgetting}
+use Rattle.qfs_store.specs.Stands.{Known, Lengths, StandsOn, IsStep, IsAttempt, IsAway, forgetting}
 use Rattle.qfs_store.proofs.StandsLaws.{same_key, same_key-is, keeps_along, keeps_one, known_is_there, lengths_without, nothing_named}
 use Rattle.qfs_store.proofs.StepLaws.{refused_is_step, attempt_is_step, none_handed}
 

@@ -1,11 +1,11 @@
 -- A Fetch of a server that stands over its device.
-use Rattle.std.proofs.Common.{◌≡◌, ℕ, ◌+◌, ◌-◌, ◌<◌, ◌≤◌, Bool, true, false, not, List, [], ◌∷◌, length, min, take, drop, replicate, Option, Some, None, is_some, refl, sym, ap, subst, ◌∙◌, arith}
+use Rattle.std.proofs.Common.{◌≡◌, ℕ, ◌+◌, ◌-◌, ◌≤◌, Bool, true, false, not, List, [], length, min, take, drop, Option, Some, None, is_some, refl, sym, ap, ◌∙◌, arith}
 use Rattle.std.specs.Prelude.{nat_le, ◌&&◌, unwrap_or}
 use Rattle.std.specs.Option.{option_map}
 use Rattle.std.proofs.lemmas.Bool.{false≢true}
 use Rattle.std.proofs.lemmas.Bool.Decides.{nat_tests}
 use Rattle.qfs_base.specs.Key.{key_cmp}
-use Rattle.qfs_base.specs.KeyMap.{value_at, has_key}
+use Rattle.qfs_base.specs.KeyMap.{value_at}
 use Rattle.qfs_base.specs.Outcome.{chunk_outcome}
 use Rattle.qfs_base.specs.declared.chunk.ChunkKey.{ChunkKey}
 use Rattle.qfs_base.specs.declared.reply.ChunkAnswer.{ChunkAnswer}
@@ -13,9 +13,9 @@ use Rattle.qfs_base.specs.declared.reply.ChunkAnswer.TheVariants as Answer
 use Rattle.qfs_base.specs.declared.request.ChunkRequest.TheVariants as Ask
 use Rattle.qfs_device.specs.Fault.{last_count}
 use Rattle.qfs_device.specs.Held.{Held, LiesIn, chunk_at, bytes_at, handing}
-use Rattle.qfs_record.specs.ChunkRecord.{IsChunk, chunk_record}
+use Rattle.qfs_record.specs.ChunkRecord.{chunk_record}
 use Rattle.qfs_model_server.specs.Server.{Server, chunk_attempted, chunk_served, chunk_refusal, copy_bytes, has_range, room_of, refuse, unless_away}
-use Rattle.qfs_store.specs.Stands.{Known, Lengths, Keeps, StandsOn, Serves, IsStep, IsAttempt, IsAway, IsGrounded, IsFill, HoldsRange, kept, reaches}
+use Rattle.qfs_store.specs.Stands.{Known, Lengths, Keeps, StandsOn, IsStep, IsAttempt, IsAway, IsGrounded, IsFill, HoldsRange, kept, reaches}
 use Rattle.qfs_store.proofs.StandsLaws.{length_at, record_length, behind_head}
 use Rattle.qfs_store.proofs.StepLaws.{refused_is_step, attempt_is_step, none_handed}
 

@@ -1,12 +1,12 @@
 -- A Put of a server that stands over its device.
-use Rattle.std.proofs.Common.{◌≡◌, ℕ, ◌+◌, ◌-◌, ◌<◌, ◌≤◌, ◌^◌, Bool, true, false, cond, List, [], ◌∷◌, length, get_or, Option, Some, None, is_some, Result, Err, IsTrue, refl, sym, ap, subst, ◌∙◌, true≢false, arith}
+use Rattle.std.proofs.Common.{◌≡◌, ℕ, ◌<◌, ◌≤◌, ◌^◌, Bool, true, false, cond, List, length, get_or, Option, Some, None, Err, IsTrue, refl, sym, ap, ◌∙◌, arith}
 use Rattle.std.specs.Prelude.{nat_le, nat_lt}
 use Rattle.std.specs.Option.{option_map}
 use Rattle.std.proofs.lemmas.Bool.Decides.{nat_tests}
 use Rattle.std.proofs.lemmas.List.Elements.{All-from_get_or}
 use Rattle.qfs_base.specs.Key.{key_cmp}
 use Rattle.qfs_base.specs.KeyLaws.{key_cmp_total}
-use Rattle.qfs_base.specs.KeyMap.{value_at, has_key, with_entry, without_key}
+use Rattle.qfs_base.specs.KeyMap.{has_key, with_entry}
 use Rattle.qfs_base.specs.KeyMapLaws.{value_at-with_entry, value_at-without_key}
 use Rattle.qfs_base.specs.Outcome.{chunk_outcome}
 use Rattle.qfs_base.specs.declared.chunk.ChunkKey.{ChunkKey}
@@ -16,10 +16,9 @@ use Rattle.qfs_base.specs.declared.request.ChunkRequest.TheVariants as Ask
 use Rattle.qfs_device.specs.Held.{Held, chunk_at, holding, leaving, IsTorn, Writes}
 use Rattle.qfs_device.specs.declared.errors.DeviceError.{DeviceError}
 use Rattle.qfs_device.specs.declared.errors.DeviceError.TheVariants as Error
-use Rattle.qfs_record.specs.Part.{AreBytes}
 use Rattle.qfs_record.specs.ChunkRecord.{IsChunk, chunk_record}
 use Rattle.qfs_model_server.specs.Server.{Server, chunk_attempted, chunk_served, chunk_refusal, room_of, refuse, unless_away, without_room}
-use Rattle.qfs_store.specs.Stands.{Known, Lengths, lengths_of, StandsOn, Serves, IsStep, IsAttempt, IsAway, knowing, forgetting, failure}
+use Rattle.qfs_store.specs.Stands.{Known, Lengths, lengths_of, StandsOn, IsStep, IsAttempt, IsAway, knowing, forgetting, failure}
 use Rattle.qfs_store.proofs.StandsLaws.{same_key, same_key-is, keeps_along, keeps_one, absent_again, absent_key, absent_copy, known_is_there, lengths_with, taken_back, torn_is_none}
 use Rattle.qfs_store.proofs.StepLaws.{refused_is_step, attempt_is_step, none_handed}
 

@@ -1,21 +1,20 @@
 -- The checks of noted keys, one after another, and the heads that they read.
-use Rattle.std.proofs.Common.{◌≡◌, ℕ, ◌+◌, ◌*◌, ◌≤◌, Bool, true, false, cond, List, [], ◌∷◌, length, map, take, Option, Some, None, is_some, unwrap_or, IfSome, refl, sym, ap, subst, ◌∙◌, true≢false, arith}
+use Rattle.std.proofs.Common.{◌≡◌, ℕ, ◌+◌, ◌≤◌, Bool, true, false, cond, List, [], ◌∷◌, length, map, Option, Some, None, is_some, unwrap_or, IfSome, refl, sym, ap, subst, ◌∙◌, true≢false, arith}
 use Rattle.std.specs.Prelude.{nat_le, ◌&&◌}
 use Rattle.std.specs.List.{fold}
 use Rattle.std.specs.List.Sorted.{IsStrictlySortedBy}
 use Rattle.std.specs.Map.{keys_of}
 use Rattle.std.specs.Option.{option_map, option_and_then}
-use Rattle.std.specs.Str.{bytes_eq}
 use Rattle.std.proofs.lemmas.Option.{same_Some}
 use Rattle.qfs_base.specs.Key.{key_cmp}
 use Rattle.qfs_base.specs.KeyMap.{value_at, has_key}
 use Rattle.qfs_base.specs.declared.chunk.ChunkKey.{ChunkKey}
-use Rattle.qfs_device.specs.Held.{Held, Contents, LiesIn, bytes_at, sizes_of}
+use Rattle.qfs_device.specs.Held.{Held, Contents, sizes_of}
 use Rattle.qfs_device.specs.declared.chunk_device.KeySize.{KeySize}
-use Rattle.qfs_store.specs.Stands.{Lengths, kept}
-use Rattle.qfs_store.specs.Start.{head, length_within, candidates, has_head, checked, checking, found, head_of, heads, CanRead, ReadHeads, Checked}
+use Rattle.qfs_store.specs.Stands.{Lengths}
+use Rattle.qfs_store.specs.Start.{length_within, candidates, checked, checking, found, head_of, heads, CanRead, ReadHeads, Checked}
 use Rattle.qfs_store.proofs.StandsLaws.{same_key}
-use Rattle.qfs_store.proofs.StartLaws.{stays_noted, within, checked_at, candidate_at, size_tested}
+use Rattle.qfs_store.proofs.StartLaws.{stays_noted, checked_at, candidate_at, size_tested}
 
 -- ---- what a device tells
 

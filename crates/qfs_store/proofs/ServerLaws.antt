@@ -1,5 +1,5 @@
 -- Requests to a whole server that stands over its device: Stop, Wipe and Inventory.
-use Rattle.std.proofs.Common.{◌≡◌, ℕ, Bool, true, false, not, List, [], ◌∷◌, length, Option, Some, None, refl, sym, ap, ◌∙◌}
+use Rattle.std.proofs.Common.{◌≡◌, ℕ, Bool, true, false, not, List, [], length, Option, Some, None, refl, sym, ap, ◌∙◌}
 use Rattle.std.specs.Option.{option_map}
 use Rattle.std.specs.Map.{keys_of}
 use Rattle.std.proofs.lemmas.Map.Made.{keys_of-map_values}
@@ -9,9 +9,9 @@ use Rattle.qfs_base.specs.declared.reply.ChunkAnswer.{ChunkAnswer}
 use Rattle.qfs_base.specs.declared.reply.ChunkAnswer.TheVariants as Answer
 use Rattle.qfs_base.specs.declared.request.ChunkRequest.{ChunkRequest}
 use Rattle.qfs_base.specs.declared.request.ChunkRequest.TheVariants as Ask
-use Rattle.qfs_device.specs.Held.{Held, chunk_at, emptied}
-use Rattle.qfs_model_server.specs.Server.{Server, Copies, chunk_attempted, chunk_served, chunk_refusal, room_of, refuse, next_life, stays, without_room}
-use Rattle.qfs_store.specs.Stands.{Known, Lengths, lengths_of, StandsOn, Serves, IsStep, IsAttempt, IsAway}
+use Rattle.qfs_device.specs.Held.{Held, emptied}
+use Rattle.qfs_model_server.specs.Server.{Server, chunk_attempted, chunk_served, chunk_refusal, room_of, refuse, next_life, stays, without_room}
+use Rattle.qfs_store.specs.Stands.{Known, Lengths, StandsOn, IsStep, IsAttempt}
 use Rattle.qfs_store.proofs.StandsLaws.{nothing_named}
 use Rattle.qfs_store.proofs.StepLaws.{refused_is_step, attempt_is_step, serves_along, unmoved, none_handed}
 

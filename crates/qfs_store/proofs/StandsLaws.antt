@@ -1,6 +1,6 @@
 -- What becomes of the keys, and of a server's standing, where a key is set or taken out.
-use Rattle.std.proofs.Common.{◌≡◌, ℕ, ◌+◌, ◌-◌, ◌*◌, ◌<◌, ◌≤◌, ◌^◌, min, Bool, true, false, cond, List, [], ◌∷◌, ◌++◌, length, get_or, take, drop, Option, Some, None, is_some, IsTrue, refl, sym, ap, subst, ◌∙◌, true≢false, arith}
-use Rattle.std.specs.Prelude.{nat_lt, nat_le, codes}
+use Rattle.std.proofs.Common.{◌≡◌, ℕ, ◌+◌, ◌<◌, ◌≤◌, ◌^◌, Bool, true, false, cond, List, [], ◌∷◌, ◌++◌, length, take, drop, Option, Some, None, is_some, refl, sym, ap, subst, ◌∙◌, true≢false, arith}
+use Rattle.std.specs.Prelude.{codes}
 use Rattle.std.specs.Int.{w32, to_be_bytes, from_be_bytes}
 use Rattle.std.specs.Option.{option_map}
 use Rattle.std.specs.Cmp.{tied_itself}
@@ -14,10 +14,9 @@ use Rattle.std.proofs.lemmas.Nat.{from_be_bytes-to_be_bytes_4}
 use Rattle.qfs_base.specs.Key.{key_cmp}
 use Rattle.qfs_base.specs.KeyLaws.{key_cmp_total, key_cmp-Equal}
 use Rattle.qfs_base.specs.KeyMap.{value_at, has_key, with_entry, without_key, unless}
-use Rattle.qfs_base.specs.KeyMapLaws.{value_at-with_entry, value_at-without_key}
 use Rattle.qfs_base.specs.declared.chunk.ChunkKey.{ChunkKey}
-use Rattle.qfs_device.specs.Held.{Held, chunk_at, IsTorn, IsProperPrefix, leaving}
-use Rattle.qfs_record.specs.ChunkRecord.{chunk_key, IsChunk, chunk_record}
+use Rattle.qfs_device.specs.Held.{Held, IsTorn}
+use Rattle.qfs_record.specs.ChunkRecord.{chunk_key, chunk_record}
 use Rattle.qfs_model_server.specs.Server.{Server, Copies}
 use Rattle.qfs_store.specs.Stands.{Known, Lengths, lengths_of, Keeps, StandsOn}
 

@@ -1,5 +1,5 @@
 -- What a server that was down finds on its device: the lengths of its copies.
-use Rattle.std.proofs.Common.{◌≡◌, ℕ, ◌+◌, ◌-◌, ◌<◌, ◌≤◌, ◌^◌, Bool, true, false, cond, List, [], ◌∷◌, ◌++◌, length, map, take, drop, Option, Some, None, is_some, unwrap_or, Decides, refl, sym, ap, subst, ◌∙◌, true≢false, suc, ◌||◌, arith}
+use Rattle.std.proofs.Common.{◌≡◌, ℕ, ◌+◌, ◌-◌, ◌<◌, ◌≤◌, Bool, true, false, cond, List, [], ◌∷◌, ◌++◌, length, take, drop, Option, Some, None, is_some, unwrap_or, refl, sym, ap, subst, ◌∙◌, true≢false, suc, ◌||◌, arith}
 use Rattle.std.specs.Prelude.{nat_le, ◌&&◌}
 use Rattle.std.specs.List.{AllByRecursion, fold}
 use Rattle.std.specs.List.Sorted.{IsStrictlySortedBy}
@@ -21,12 +21,12 @@ use Rattle.std.proofs.lemmas.Option.{same_Some}
 use Rattle.std.specs.Set.{is_member}
 use Rattle.qfs_base.specs.Key.{key_cmp}
 use Rattle.qfs_base.specs.KeyLaws.{key_cmp_total, key_cmp-Equal}
-use Rattle.qfs_base.specs.KeyMap.{value_at, with_entry, without_key}
+use Rattle.qfs_base.specs.KeyMap.{value_at, without_key}
 use Rattle.qfs_base.specs.KeyMapLaws.{value_at-with_entry, value_at-without_key}
 use Rattle.qfs_base.specs.declared.chunk.ChunkKey.{ChunkKey}
 use Rattle.qfs_device.specs.Held.{Held, Contents, chunk_at, bytes_at, sizes_of}
 use Rattle.qfs_device.specs.declared.chunk_device.KeySize.{KeySize}
-use Rattle.qfs_record.specs.ChunkRecord.{IsChunk, chunk_record}
+use Rattle.qfs_record.specs.ChunkRecord.{chunk_record}
 use Rattle.qfs_model_server.specs.Server.{Server, Copies}
 use Rattle.qfs_store.specs.Stands.{Known, Lengths, lengths_of, Keeps, StandsOn}
 use Rattle.qfs_store.specs.Start.{head, length_within, noted, noting, candidates, has_head, checked, checking, found, head_of, heads}

@@ -1,5 +1,5 @@
 -- A Start of a server that stands over its device.
-use Rattle.std.proofs.Common.{◌≡◌, ℕ, ◌+◌, ◌-◌, ◌*◌, ◌≤◌, Bool, true, false, List, [], length, Option, Some, None, if◌then◌else◌, refl, sym, ap, subst, ◌∙◌, arith}
+use Rattle.std.proofs.Common.{◌≡◌, ℕ, ◌+◌, ◌-◌, ◌*◌, ◌≤◌, Bool, true, false, length, Option, Some, if◌then◌else◌, refl, sym, ap, subst, ◌∙◌, arith}
 use Rattle.std.specs.List.Sorted.{IsStrictlySortedBy}
 use Rattle.std.specs.Map.{keys_of}
 use Rattle.qfs_base.specs.Key.{key_cmp}
@@ -13,7 +13,7 @@ use Rattle.qfs_device.specs.Held.{Held, Contents, sizes_of}
 use Rattle.qfs_device.specs.declared.errors.DeviceError.{DeviceError}
 use Rattle.qfs_device.specs.declared.errors.DeviceError.TheVariants as Error
 use Rattle.qfs_model_server.specs.Server.{Server, chunk_attempted, chunk_served, chunk_refusal, room_of, start_reads, header_bytes, without_room}
-use Rattle.qfs_store.specs.Stands.{Known, Lengths, Keeps, StandsOn, Serves, IsStep, IsAttempt, kept, failure}
+use Rattle.qfs_store.specs.Stands.{Known, Lengths, Keeps, StandsOn, IsStep, IsAttempt, kept, failure}
 use Rattle.qfs_store.specs.Start.{ReadHeads, candidates, found, heads}
 use Rattle.qfs_store.proofs.StepLaws.{attempt_is_step}
 use Rattle.qfs_store.proofs.StartLaws.{copies_found, copies_read}

@@ -1,20 +1,17 @@
 -- Steps of a server that stands over its device.
-use Rattle.std.proofs.Common.{◌≡◌, ℕ, ◌+◌, ◌-◌, ◌<◌, ◌≤◌, min, Bool, true, false, not, List, [], ◌∷◌, length, Option, Some, None, is_some, IfSome, refl, sym, ap, subst, ◌∙◌, arith}
+use Rattle.std.proofs.Common.{◌≡◌, ℕ, ◌-◌, Bool, true, false, not, List, Option, Some, None, IfSome, refl, sym, ap, subst, ◌∙◌, arith}
 use Rattle.std.specs.Prelude.{◌==◌}
 use Rattle.std.proofs.lemmas.Bool.Decides.{nat_tests}
-use Rattle.qfs_base.specs.Key.{key_cmp}
-use Rattle.qfs_base.specs.KeyMap.{value_at, has_key}
 use Rattle.qfs_base.specs.Outcome.{chunk_outcome}
-use Rattle.qfs_base.specs.declared.chunk.ChunkKey.{ChunkKey}
 use Rattle.qfs_base.specs.declared.history.Outcome.{Outcome}
 use Rattle.qfs_base.specs.declared.reply.ChunkAnswer.{ChunkAnswer}
 use Rattle.qfs_base.specs.declared.reply.ChunkAnswer.TheVariants as Answer
 use Rattle.qfs_base.specs.declared.reply.ChunkReply.{ChunkReply}
 use Rattle.qfs_base.specs.declared.request.ChunkRequest.{ChunkRequest}
 use Rattle.qfs_base.specs.declared.request.ChunkRequest.TheVariants as Ask
-use Rattle.qfs_device.specs.Held.{Held, chunk_at}
+use Rattle.qfs_device.specs.Held.{Held}
 use Rattle.qfs_model_server.specs.Server.{Server, Answered, server_step, chunk_decided, chunk_attempted, chunk_refusal, room_of, refuse, unless_away, stays}
-use Rattle.qfs_store.specs.Stands.{Known, StandsOn, Serves, HandsOut, Follows, IsStep, IsAttempt, IsAway, OnFault, IsQuiet, TakesNoMemory}
+use Rattle.qfs_store.specs.Stands.{Known, StandsOn, Serves, HandsOut, IsStep, IsAttempt, OnFault, IsQuiet, TakesNoMemory}
 
 -- ---- requests that are refused, and the others
 

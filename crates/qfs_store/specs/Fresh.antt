@@ -1,5 +1,5 @@
 -- The server that no copies, over a device that holds nothing, stand for.
-use Rattle.std.proofs.Common.{◌≡◌, ℕ, List, [], Option, Some, None, true, refl, sym, subst}
+use Rattle.std.proofs.Common.{◌≡◌, [], None, true, refl, sym, subst}
 use Rattle.qfs_base.specs.declared.chunk.ChunkKey.{ChunkKey}
 use Rattle.qfs_device.specs.Held.{Held, Contents, chunk_at, new_device}
 use Rattle.qfs_model_server.specs.Server.{Server, fresh_server}

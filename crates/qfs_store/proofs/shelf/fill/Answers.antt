@@ -1,5 +1,5 @@
 -- The bytes of a copy lie behind the head of its record.
-use Rattle.std.proofs.Common.{◌≡◌, ◌+◌, ◌≤◌, length, take, drop, arith}
+use Rattle.std.proofs.Common.{◌≡◌, length, take, drop, arith}
 use Rattle.qfs_device.specs.Held.{Held, bytes_at}
 use Rattle.qfs_store.specs.Stands.{HoldsRange}
 use Rattle.qfs_store.proofs.StepLaws.{if_some_at}

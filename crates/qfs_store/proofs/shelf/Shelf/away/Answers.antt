@@ -1,8 +1,7 @@
 -- What the shelf and the device tell is what the server's refusals ask for.
-use Rattle.std.proofs.Common.{◌≡◌, ℕ, Bool, true, false, ap, sym, ◌∙◌, arith}
+use Rattle.std.proofs.Common.{◌≡◌, ap, sym, ◌∙◌}
 use Rattle.qfs_device.specs.Held.{Held}
-use Rattle.qfs_model_server.specs.Server.{Server}
-use Rattle.qfs_store.specs.Stands.{Known, StandsOn}
+use Rattle.qfs_store.specs.Stands.{Known}
 use Rattle.qfs_store.proofs.StepLaws.{if_some_at, down_refuses, lost_refuses, here_leaves}
 use Rattle.qfs_store.proofs.shelf.Shelf.away.Goals as goal
 

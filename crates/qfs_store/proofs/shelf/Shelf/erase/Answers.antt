@@ -1,5 +1,5 @@
 -- Refusals in their order, and then the device's answer.
-use Rattle.std.proofs.Common.{◌≡◌, ap, subst, sym, ◌∙◌}
+use Rattle.std.proofs.Common.{ap, subst, sym, ◌∙◌}
 use Rattle.qfs_base.specs.Key.{key_cmp}
 use Rattle.qfs_base.specs.KeyMap.{has_key}
 use Rattle.qfs_store.specs.Stands.{Known, IsAway}

@@ -1,5 +1,5 @@
 -- Refusals in their order, and then what was read.
-use Rattle.std.proofs.Common.{◌≡◌, subst, sym, ◌∙◌}
+use Rattle.std.proofs.Common.{subst, sym, ◌∙◌}
 use Rattle.qfs_store.specs.Stands.{IsAway}
 use Rattle.qfs_store.proofs.StepLaws.{quiet_is_no_fault, quiet_has_memory}
 use Rattle.qfs_store.proofs.FetchLaws.{fetch_away, fetch_absent, fetch_filled, range_is_held}

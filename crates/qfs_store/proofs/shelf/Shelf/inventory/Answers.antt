@@ -1,5 +1,5 @@
 -- The keys are those of the copies.
-use Rattle.std.proofs.Common.{◌≡◌, ap, sym, ◌∙◌, Some}
+use Rattle.std.proofs.Common.{◌≡◌, ap, sym, ◌∙◌}
 use Rattle.std.specs.Map.{keys_of}
 use Rattle.qfs_device.specs.Held.{Held}
 use Rattle.qfs_store.specs.Stands.{Known}

@@ -1,5 +1,5 @@
 -- Each request is served by its own function.
-use Rattle.std.proofs.Common.{◌≡◌, List, ℕ, ap, sym, ◌∙◌}
+use Rattle.std.proofs.Common.{List, ℕ, ap, sym, ◌∙◌}
 use Rattle.qfs_base.specs.declared.request.ChunkRequest.TheVariants as Ask
 use Rattle.qfs_store.proofs.StepLaws.{passed_on}
 use Rattle.qfs_store.proofs.shelf.Shelf.serve.Goals as goal

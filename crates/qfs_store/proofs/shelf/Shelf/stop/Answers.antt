@@ -1,5 +1,4 @@
 -- Only whether the server is up changes.
-use Rattle.std.proofs.Common.{◌≡◌}
 use Rattle.qfs_store.proofs.ServerLaws.{stop_is_step}
 use Rattle.qfs_store.proofs.shelf.Shelf.stop.Goals as goal
 

@@ -1,5 +1,5 @@
 -- What the device's write leaves, by its answer.
-use Rattle.std.proofs.Common.{◌≡◌, List, ℕ, Err, ap, subst, ◌∙◌, arith}
+use Rattle.std.proofs.Common.{List, ℕ, Err, ap, subst, ◌∙◌, arith}
 use Rattle.std.specs.Option.{option_map}
 use Rattle.qfs_device.specs.Held.{holding, Writes}
 use Rattle.qfs_store.proofs.PutLaws.{put_without_memory, put_stored, put_failed, is_chunk}
