@@ -1,2 +1,4 @@
-pub mod ServedWork
 pub mod ServedCommands
+pub mod ServedWork
+pub mod Simulation
+pub mod Stands

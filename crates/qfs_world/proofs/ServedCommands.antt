@@ -3,6 +3,7 @@ use Rattle.std.proofs.Common.{◌≡◌, ℕ, zero, suc, ◌+◌, ◌-◌, ◌*�
 use Rattle.std.specs.Prelude.{All, option_map, option_and_then}
 use Rattle.std.specs.List.{AllByRecursion, range_with_len}
 use Rattle.std.proofs.lemmas.List.Elements.{recursion_from_All, All-replicate}
+use Rattle.std.proofs.lemmas.Option.{slice_get_within, get_or_from_slice_get}
 use Rattle.std.proofs.lemmas.List.FromFn.{get_or-range_with_len, length-range_with_len, length-map-range_with_len}
 use Rattle.qfs_base.specs.Layout.{rows_of, block_bytes, bytes_in_block, row_bytes}
 use Rattle.qfs_base.specs.Shape.{Shape, IsStripe, IsRowCount}
@@ -273,9 +274,20 @@ unfolding request_in
 request_in-served (ends report) h request e = absurd (cc)
 request_in-served (asks first next) h request e = let same : first ≡ request = cc in subst IsServed same h.0
 
+pub All-at : {X : Type 0} (P : X → Type 0) (xs : List X) (k : ℕ) (x : X) → All P xs → slice_get xs k ≡ Some x → P x
+All-at P xs k x all e = subst P (get_or_from_slice_get xs k x x e) (all k x (slice_get_within xs k x e))
+
 of_present : (actor : Actor) → IsShape actor.layout → All IsBuilt actor.commands
     → (found : Option Command) → present_command actor ≡ found
-    → (request : NodeRequest) → request_of actor ≡ Some request → IsServed request
+    → (request : NodeRequest) → option_and_then request_in (option_map (λ command. follow (work_of actor.layout (command_number actor) command) actor.heard) found) ≡ Some request
+    → IsServed request
+of_present actor is all None e request asked = absurd (cc)
+of_present actor is all (Some command) e request asked =
+    let built = All-at IsBuilt actor.commands (length actor.ended) command all e in
+    request_in-served (follow (work_of actor.layout (command_number actor) command) actor.heard)
+    (follow-served _ actor.heard (work_of-served actor.layout is (command_number actor) command built)) request asked
+
+-- an actor of built commands asks only what the nodes serve
+pub request-served : (actor : Actor) → IsShape actor.layout → All IsBuilt actor.commands → IsServedNext actor
 unfolding request_of work_left
-of_present actor is all None e request asked = ?
-of_present actor is all (Some command) e request asked = ?
+request-served actor is all request asked = of_present actor is all (present_command actor) refl request asked

@@ -12,11 +12,10 @@ use Rattle.qfs_base.specs.declared.reply.NodeReply.{NodeReply}
 use Rattle.qfs_base.specs.declared.reply.NodeReply.TheVariants as From
 use Rattle.qfs_base.specs.declared.request.ChunkRequest.{ChunkRequest}
 use Rattle.qfs_base.specs.declared.request.MetaRequest.{MetaRequest}
-use Rattle.qfs_meta.specs.Metaserver.{is_built}
 use Rattle.qfs_model_actor.specs.Work.{Report, Work, ends, asks, for_each}
 use Rattle.qfs_model_actor.specs.Hold.{Hold, nothing, unclosed, opened, on_answer, on_meta, ask_or, was_given_back, was_released, give_back, end_with}
 use Rattle.qfs_model_actor.specs.Ask.{ask, on_served, on_chunk, ask_server, after_store, filled, after_fetch, fetch}
-use Rattle.qfs_world.specs.Served.{IsServedByStore, AsksServed}
+use Rattle.qfs_world.specs.Served.{is_built, IsServedByStore, AsksServed}
 
 -- what it holds is given back by a request that is served
 abbrev pub EndsServed : Hold → Type 0

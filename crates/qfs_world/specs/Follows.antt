@@ -14,7 +14,7 @@ use Rattle.qfs_world.specs.Running.{Running, AllTell}
 
 -- a store stands for a server, and its device handed out as many bytes as the server; a count of 64 bits stays at its
 -- last value
-pub record StandsFor (stored : Stored) (server : Server) : Type 0 where
+pub record IsServer (stored : Stored) (server : Server) : Type 0 where
   pub held : Held
   pub told : stored.told ≡ Some held
   pub stands : StandsOn held stored.known server
@@ -25,7 +25,7 @@ abbrev pub StandForAll : List Stored → List Server → Type 0
 StandForAll [] [] = Unit {0}
 StandForAll [] (server ∷ servers) = ⊥
 StandForAll (stored ∷ stores) [] = ⊥
-StandForAll (stored ∷ stores) (server ∷ servers) = StandsFor stored server × StandForAll stores servers
+StandForAll (stored ∷ stores) (server ∷ servers) = IsServer stored server × StandForAll stores servers
 
 -- the metaserver, the stores and the actors are those of the world after an order of a script, and the order fits it
 pub record Follows (script : Script) (order : List Step) (meta : MetaImage) (stores : List Stored) (actors : List Actor) : Type 0 where

@@ -1,4 +1,5 @@
-pub mod Running
-pub mod Follows
-pub mod Turning
 pub mod Calls
+pub mod Follows
+pub mod Running
+pub mod Served
+pub mod Turns

@@ -1,14 +1,25 @@
 -- The requests that nodes serve so far, and the actors that ask no others.
-use Rattle.std.specs.Prelude.{ℕ, ◌≡◌, true, ⊤, Option, Some}
+use Rattle.std.specs.Prelude.{ℕ, ◌≡◌, Bool, true, false, ⊤, Option, Some}
 use Rattle.qfs_base.specs.declared.reply.NodeReply.{NodeReply}
 use Rattle.qfs_base.specs.declared.request.ChunkRequest.{ChunkRequest}
 use Rattle.qfs_base.specs.declared.request.ChunkRequest.TheVariants as Serve
+use Rattle.qfs_base.specs.declared.request.MetaRequest.{MetaRequest}
+use Rattle.qfs_base.specs.declared.request.MetaRequest.TheVariants as Ask
 use Rattle.qfs_base.specs.declared.request.NodeRequest.{NodeRequest}
 use Rattle.qfs_base.specs.declared.request.NodeRequest.TheVariants as To
-use Rattle.qfs_meta.specs.Metaserver.{is_built}
 use Rattle.qfs_model_actor.specs.Actor.{Actor, request_of}
 use Rattle.qfs_model_actor.specs.Work.{Work, ends, asks}
 use Rattle.qfs_store.specs.Stands.{IsBuilt}
+
+-- TODO: qfs_meta's own word, once it serves them all
+abbrev pub is_built : MetaRequest → Bool
+is_built (Ask.Create path command len) = true
+is_built (Ask.Grant file index slot again) = true
+is_built (Ask.Close file) = true
+is_built (Ask.Abort file) = true
+is_built (Ask.OpenFile path) = true
+is_built (Ask.Release lease) = true
+is_built _ = false
 
 -- a put of a slot, or a fetch
 abbrev pub IsServedByStore : ChunkRequest → Type 0

@@ -3,9 +3,3 @@
 #![tactic(auto)]
 
 mod node;
-mod parts;
-mod world;
-
-pub use node::{NodeState, turn_on};
-pub use parts::{Parts, PartsError, WorldLoadError};
-pub use world::World;

@@ -12,9 +12,3 @@ pub enum NodeState<D: ChunkDevice> {
     Meta(Meta),
     Store(Store<D>),
 }
-
-/// Lets a node serve the next request of an actor that is ready, and hands the reply to the
-/// actor. It takes no memory for itself. What comes of it depends on these two alone.
-pub fn turn_on<D: ChunkDevice>(node: &mut NodeState<D>, actor: &mut Actor) -> Outcome {
-    todo!()
-}

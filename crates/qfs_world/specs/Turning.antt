@@ -1,1 +1,0 @@
--- A node's turn with an actor.
