@@ -1,4 +1,6 @@
+pub mod Course
+pub mod Doing
 pub mod Forms
-pub mod Rest
-pub mod Moves
+pub mod Plain
 pub mod Standing
+pub mod Standin

@@ -1,149 +1,124 @@
 //! An actor: its commands, one after another.
-#![tactic(auto, unfolding(qfs_model_actor::specs::Actor::starting))]
+#![tactic(auto)]
 
-ghost use Rattle.std.specs.Prelude.{◌≡◌, ◌<◌, ◌^◌, length, All, false, IfOk, IfErr, OnOk, OnErr, Some};
-ghost use Rattle.qfs_model_actor.specs.Actor.{starting, has_finished, request_of, after_reply};
+ghost use Rattle.std.specs.Prelude.{◌≡◌, ◌<◌, ◌^◌, length, All, IfSome, OnOk, OnErr, None, Some};
+ghost use Rattle.qfs_model_actor.specs.Actor.{request_of, node_of, after_reply};
+ghost use Rattle.qfs_machine.specs.Askable.{IsAskable};
+ghost use Rattle.qfs_machine.specs.Asking.{IsOut, after_asking};
+ghost use Rattle.qfs_model_actor.specs.Shown.{lines_from};
+ghost use Rattle.qfs_machine.specs.declared.machine.Readiness.{Readiness};
 ghost use Rattle.qfs_actor.specs.Forms.{IsBuilt};
-ghost use Rattle.qfs_actor.specs.Rest.{IsUnbuilt};
+ghost use Rattle.qfs_actor.specs.Standing.{at_start, CanAsk};
 
-use crate::progress::Progress;
-use crate::stage::Stopped;
-use crate::step::{next_move, next_request};
-use qfs_base::command::{Command, Reply};
+use crate::course::Course;
+use crate::plain::{Plain, Post, told_after, told_at_start};
+use qfs_base::command::{Command, ReplyLine, ReplyList};
 use qfs_base::listing::Listing;
-use qfs_base::lists::Bytes;
-use qfs_base::numbers::ActorId;
+use qfs_base::numbers::{ActorId, NodeId};
 use qfs_base::reply::NodeReply;
 use qfs_base::request::NodeRequest;
+use qfs_machine::Told;
 use qfs_stripe::Layout;
 use std::alloc::{AllocError, Global};
 use std::marker::Model;
 
-/// An actor. Contracts see its number and layout, its commands, the reports of those that have
-/// ended, and what the nodes answered in the present one.
+/// An actor. Contracts see how it stands: its number and layout, its commands, the reports of those
+/// that have ended with all bytes that were read, and what the nodes answered in the present one;
+/// and how it stands to its next request. It keeps less: of the answers only what its next requests
+/// and its reply lines need.
 #[derive(Drop)]
 pub struct Actor {
-    alloc: Global,
-    number: ActorId,
-    layout: Layout,
-    commands: Listing<Command>,
-    progress: Progress,
+    course: Course,
+    told: Told<Plain>,
 }
 
 impl Model for Actor {
-    ghost use Rattle.qfs_model_actor.specs.Actor.{Actor};
+    ghost use Rattle.qfs_actor.specs.Standing.{Standing};
 
-    ghost Value = { Actor };
+    ghost Value = { Standing };
 
-    ghost use Rattle.qfs_actor.specs.Standing.{IsStanding, standing};
+    ghost use Rattle.qfs_actor.specs.Course.{IsOf, readiness_in};
 
-    ghost view = { λ it. standing it.number it.layout it.commands it.progress };
+    ghost view = { λ it. record { actor = it.told.value; readiness = readiness_in it.course.doing } };
 
-    ghost invariant = { λ it. IsStanding it.layout it.commands it.progress };
+    ghost invariant = { λ it. IsOf it.told.value it.course };
 }
 
 impl Actor {
-    /// An actor at its first command. Each command is a put of bytes that are spelled out, or a get
-    /// of a whole file. Takes no memory.
+    /// An actor at its first command. Each command is one that is built: a put of bytes that are
+    /// spelled out, or a get. Takes no memory.
     pub fn new(alloc: Global, layout: Layout, number: ActorId, commands: Listing<Command>) -> Actor
         requires few { length commands < 2 ^ 16 }
         requires built { All IsBuilt commands }
-        ensures { result ≡ starting layout number commands }
+        ensures { result ≡ at_start layout number commands }
     {
-        let progress = Progress::new(alloc);
-        Actor {
-            alloc,
-            number,
-            layout,
-            commands,
-            progress,
-        }
+        let post = Post { number, layout };
+        let told = told_at_start(&post, commands.as_slice());
+        let course = Course::new(alloc, post, commands.into_vec());
+        Actor { course, told }
     }
 
     /// The actor's number.
     pub fn number(&self) -> ActorId
-        ensures { result ≡ self.now.number }
+        ensures { result ≡ self.now.actor.number }
     {
-        self.number
+        self.course.post.number
     }
 
-    /// The reports of the commands that have ended.
-    pub fn ended(&self) -> &[Reply<Bytes>]
-        ensures ended { result.now ≡ self.now.ended }
-        ensures few { length result.now < 2 ^ 16 }
+    /// The replies of the commands that have ended.
+    pub fn replies(&self) -> &[ReplyLine]
+        ensures { result.now ≡ lines_from self.now.actor.number 1 self.now.actor.ended }
     {
-        self.progress.ended.as_slice()
+        self.course.replies.as_slice()
     }
 
-    /// The reports of the commands that have ended, once the actor isn't wanted any more.
-    pub fn into_ended(self) -> Listing<Reply<Bytes>>
-        ensures ended { result ≡ self.ended }
-        ensures few { length result < 2 ^ 16 }
+    /// The same, once the actor isn't wanted any more.
+    pub fn into_replies(self) -> ReplyList
+        ensures { result ≡ lines_from self.actor.number 1 self.actor.ended }
     {
-        let Actor {
-            alloc: _,
-            number: _,
-            layout: _,
-            commands: _,
-            progress,
-        } = self;
-        let Progress { ended, .. } = progress;
-        ended
+        let Actor { course, told: _ } = self;
+        let Course { replies, .. } = course;
+        Listing::from_vec(replies)
     }
 
-    /// Whether all commands have ended.
-    pub fn has_finished(&self) -> bool
-        ensures { result ≡ has_finished self.now }
+    /// The node of the next request, or of the one that is out: 0 is the metaserver, s is server s.
+    /// None where the actor has finished.
+    pub fn goes_to(&self) -> Option<NodeId>
+        ensures { result ≡ node_of self.now.actor }
     {
-        self.commands.len() <= self.progress.ended.len()
+        self.course.goes_to()
     }
 
-    /// Takes memory for the reply to the next request.
+    /// Takes the memory for the next request and its reply. How the actor stands is as before. A
+    /// refusal leaves it as before.
     pub fn ready(&mut self) -> Result<(), AllocError>
-        ensures { self.new ≡ self.old }
-    {
-        self.progress.heard.reserve(1)?;
-        self.progress.ended.reserve(1)
-    }
-
-    /// The next request. An Err says that memory is wanting.
-    pub fn next(&mut self) -> Result<NodeRequest, AllocError>
-        requires { has_finished self.old ≡ false }
-        ensures request { IfOk result (λ request. request_of self.old ≡ Some request) }
-        ensures same { self.new ≡ self.old }
-    {
-        let ended = self.progress.ended.len();
-        match self.commands.get(ended) {
-            Some(command) => {
-                let number = (ended + 1) as u16;
-                let request = next_request(
-                    self.alloc,
-                    &self.layout,
-                    command,
-                    number,
-                    &self.progress,
-                )?;
-                Ok(request)
-            }
-            None => unreachable!(),
-        }
-    }
-
-    /// Takes a node's reply to the next request. An actor that can't take it stays as it was: memory
-    /// is wanting, or the reply calls for what isn't built.
-    pub fn took(&mut self, reply: NodeReply) -> Result<(), Stopped>
-        requires { has_finished self.old ≡ false }
-        ensures ok { OnOk result (self.new ≡ after_reply self.old reply) }
+        requires { IsOut self.old.readiness → ⊥ }
+        ensures same { self.new.actor ≡ self.old.actor }
+        ensures ok { OnOk result (CanAsk self.new) }
         ensures err { OnErr result (self.new ≡ self.old) }
-        ensures not_built { IfErr result (λ stopped. stopped ≡ Stopped.NotBuilt → IsUnbuilt self.old.layout reply) }
     {
-        match self.commands.get(self.progress.ended.len()) {
-            Some(command) => {
-                let step = next_move(self.alloc, &self.layout, command, &self.progress, &reply)?;
-                self.progress.advance(step, reply)?;
-                Ok(())
-            }
-            None => unreachable!(),
-        }
+        self.course.ready()
+    }
+
+    /// Hands the next request out, if the actor hasn't finished. Takes no memory.
+    pub fn next(&mut self) -> Option<NodeRequest>
+        requires { CanAsk self.old }
+        ensures request { result ≡ request_of self.old.actor }
+        ensures same { self.new.actor ≡ self.old.actor }
+        ensures out { self.new.readiness ≡ after_asking result self.old.readiness }
+        ensures askable { IfSome result IsAskable }
+    {
+        self.course.next()
+    }
+
+    /// Goes on with a node's reply to the request that is out. Takes no memory.
+    pub fn took(&mut self, reply: NodeReply)
+        requires { IsOut self.old.readiness }
+        ensures after { self.new.actor ≡ after_reply self.old.actor reply }
+        ensures unready { self.new.readiness ≡ Readiness.Unready }
+    {
+        let told = told_after(&self.told, &reply);
+        self.course.took(reply);
+        self.told = told;
     }
 }

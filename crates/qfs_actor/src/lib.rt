@@ -2,16 +2,10 @@
 #![tactic(auto)]
 
 mod actor;
-mod chunk;
-mod ending;
-mod get;
-mod progress;
-mod put;
-mod request;
-mod stage;
-mod step;
-mod turn;
+mod course;
+mod doing;
+mod plain;
+mod standin;
 
 pub use actor::Actor;
-pub use chunk::chunk_of;
-pub use stage::Stopped;
+pub use doing::Doing;

@@ -2,7 +2,9 @@
 use Rattle.std.proofs.Common.{◌≡◌, ℕ, zero, suc, ◌*◌, ◌<◌, List, [], ◌∷◌, length, get_or, take, drop, refl, arith}
 use Rattle.std.proofs.lemmas.List.{length-map}
 use Rattle.std.proofs.lemmas.List.FromFn.{length-map-range_with_len, get_or-map-range_with_len, fill_by_all}
-use Rattle.qfs_code.specs.Code.{dot, column, slots_of, weighed, slot_at}
+use Rattle.qfs_model_slot.specs.CodeWord.{column, slot_at}
+use Rattle.qfs_model_slot.specs.Restored.{dot, weighed}
+use Rattle.qfs_code.specs.Code.{slots_of}
 
 pub length-column : (slots : List (List ℕ)) (t : ℕ) → length (column slots t) ≡ length slots
 unfolding column

@@ -5,8 +5,7 @@ use Rattle.std.proofs.lemmas.Bool.{or_cases, not-true}
 use Rattle.qfs_galois.specs.Field.{polynomial_product, remainder, product, power}
 use Rattle.qfs_galois.proofs.Additive.{holds_below, at_each_below}
 use Rattle.qfs_galois.proofs.FieldLaws.{power-zero}
-use Rattle.qfs_code.specs.Code.{dot}
-use Rattle.qfs_code.specs.Restored.{counts, counts_of, minor, cross, without_slots}
+use Rattle.qfs_model_slot.specs.Restored.{dot, counts, counts_of, minor, cross, without_slots}
 
 pub counts_of-data : (j : ℕ) → j < 6 → counts_of j ≡ 1 ∷ power 2 j ∷ power 2 (2 * j) ∷ []
 unfolding counts_of counts

@@ -7,7 +7,7 @@ use Rattle.std.specs.List.{list_all, range_with_len}
 use Rattle.qfs_galois.specs.Field.{product}
 use Rattle.qfs_galois.proofs.Additive.{xor_swap}
 use Rattle.qfs_galois.proofs.FieldLaws.{product-xor_left, product-xor_right, product_assoc, one-product, product-zero, zero-product, product-lt}
-use Rattle.qfs_code.specs.Code.{dot}
+use Rattle.qfs_model_slot.specs.Restored.{dot}
 
 dot-drop_suc : (xs ys : List ℕ) (i : ℕ) → i < length xs → i < length ys
     → dot (drop i xs) (drop i ys) ≡ bit_xor (product (get_or xs i 0) (get_or ys i 0)) (dot (drop (suc i) xs) (drop (suc i) ys))

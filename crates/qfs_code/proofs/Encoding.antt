@@ -7,7 +7,10 @@ use Rattle.std.proofs.lemmas.Nat.{row_fits}
 use Rattle.std.proofs.lemmas.List.FromFn.{get_or-map-range_with_len}
 use Rattle.std.specs.List.{list_all}
 use Rattle.qfs_galois.specs.Field.{polynomial_product, remainder, product, power}
-use Rattle.qfs_code.specs.Code.{parity, parity_row, parity_slot, parity_slots, column, slot_at, slots_of, weighed, IsCodeWord, AreCodeWords}
+use Rattle.qfs_model_slot.specs.CodeWord.{parity, column, slot_at, IsCodeWord, AreCodeWords}
+use Rattle.qfs_model_slot.specs.Restored.{weighed}
+use Rattle.qfs_code.specs.Code.{parity_row, parity_slot, parity_slots, slots_of}
+use Rattle.qfs_code.proofs.Parity.{parity_by_row}
 use Rattle.qfs_code.proofs.Dot.{dot-lt, all_bytes}
 use Rattle.qfs_code.proofs.Columns.{length-column, get_or-column, length-slots_of, length-weighed, get_or-weighed}
 
@@ -65,18 +68,19 @@ module _ (size : ℕ) (six : List (List ℕ)) (long : length six ≡ 6) where
   parity_sizes (suc (suc (suc k))) d l = absurd (omega arith)
 
   parity_byte : (e t : ℕ) → e < 3 → t < size → get_or (column (parity_slots size six) t) e 0 ≡ parity e (column six t)
-  unfolding parity parity_slot
+  unfolding parity_slot
   parity_byte e t l lt =
       get_or-column (parity_slots size six) t e ∙ ap (λ s. get_or s t 0) (slot_at-parity_slots e l) ∙ get_or-weighed (parity_row e) size six t lt
+      ∙ sym (parity_by_row e (column six t) (length-column six t ∙ long))
 
   module _ (sizes : All (λ slot. length slot ≡ size) six) (bytes : All (λ slot. All (λ byte. byte < 256) slot) six) where
     parity_bytes : (t : ℕ) → t < size → list_all (λ x. ltb x 256) (column (parity_slots size six) t) ≡ true
-    unfolding parity
     parity_bytes t lt =
         let fits = λ (e : ℕ) (l : e < 3). dot-lt (parity_row e) (column six t) (row_bytes e l) (column_bytes six t bytes) in
+        let by_row = λ (e : ℕ). parity_by_row e (column six t) (length-column six t ∙ long) in
         all_bytes (column (parity_slots size six) t)
         (λ k d l. let near : k < 3 = omega (arith, length-column (parity_slots size six) t, length-parity_slots) in
-        omega (arith, get_or_default (column (parity_slots size six) t) k d 0 l, parity_byte k t near lt, fits k near))
+        omega (arith, get_or_default (column (parity_slots size six) t) k d 0 l, parity_byte k t near lt, by_row k, fits k near))
 
     word : (t : ℕ) → t < size → IsCodeWord (column six t ++ column (parity_slots size six) t)
     word t lt =

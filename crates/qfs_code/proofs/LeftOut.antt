@@ -3,7 +3,7 @@ use Rattle.std.proofs.Common.{◌≡◌, ◌≢◌, ℕ, ◌<◌, ◌≤◌, Boo
 use Rattle.std.proofs.lemmas.Bool.{cases_Bool, or_cases, and_parts, not-true}
 use Rattle.qfs_base.specs.Mask.{all_slots, slots_that, has_slot, IsMask}
 use Rattle.qfs_galois.proofs.Additive.{holds_below, at_each_below}
-use Rattle.qfs_code.specs.Restored.{is_spare, first_spare, last_besides, left_out}
+use Rattle.qfs_model_slot.specs.Restored.{is_spare, first_spare, last_besides, left_out}
 
 -- a test of each list that a filter can leave of one
 holds_of_picks : List ℕ → (List ℕ → Bool) → Bool

@@ -1,5 +1,6 @@
 mod Dot
 mod Columns
+mod Parity
 mod Spares
 mod Counts
 mod LeftOut

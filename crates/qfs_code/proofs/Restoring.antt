@@ -6,8 +6,8 @@ use Rattle.std.specs.Int.Bits.{xor_zero_r}
 use Rattle.std.specs.List.{list_all, range_with_len}
 use Rattle.qfs_base.specs.Mask.{all_slots, has_slot, IsMask}
 use Rattle.qfs_galois.proofs.Additive.{xor_twice}
-use Rattle.qfs_code.specs.Code.{dot, column, slot_at, weighed, IsCodeWord, AreCodeWords}
-use Rattle.qfs_code.specs.Restored.{counts_of, cross, without_slots, combination, scaled_to, equation, weight, weights_by, weights, restored}
+use Rattle.qfs_model_slot.specs.CodeWord.{column, slot_at, IsCodeWord, AreCodeWords}
+use Rattle.qfs_model_slot.specs.Restored.{dot, weighed, counts_of, cross, without_slots, combination, scaled_to, equation, weight, weights_by, weights, restored}
 use Rattle.qfs_code.proofs.Dot.{dot-xor, dot-only, dot_same, only, all_bytes}
 use Rattle.qfs_code.proofs.Columns.{length-column, get_or-column, length-weighed, get_or-weighed, weighed_by_bytes}
 use Rattle.qfs_code.proofs.Words.{combination_meets}

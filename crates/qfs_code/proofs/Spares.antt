@@ -1,7 +1,7 @@
 -- The search for a slot to leave out, step by step.
 use Rattle.std.proofs.Common.{◌≡◌, ℕ, suc, ◌+◌, ◌-◌, ◌<◌, true, false, cond, List, Some, None, find, ap, ◌∙◌, arith}
 use Rattle.std.specs.List.{range_with_len}
-use Rattle.qfs_code.specs.Restored.{is_spare, first_spare}
+use Rattle.qfs_model_slot.specs.Restored.{is_spare, first_spare}
 
 module _ (have : List ℕ) (want other from : ℕ) where
   step : from < 9 → first_spare have want other from ≡ cond (is_spare have want other from) (Some from) (first_spare have want other (from + 1))

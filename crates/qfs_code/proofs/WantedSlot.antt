@@ -5,8 +5,7 @@ use Rattle.qfs_base.specs.Mask.{has_slot, IsMask}
 use Rattle.qfs_galois.specs.Field.{product, inverse}
 use Rattle.qfs_galois.proofs.FieldLaws.{product_comm, product-zero}
 use Rattle.qfs_galois.proofs.Inverses.{product-inverse, inverse-lt}
-use Rattle.qfs_code.specs.Code.{dot}
-use Rattle.qfs_code.specs.Restored.{counts_of, combination, scaled_to, equation}
+use Rattle.qfs_model_slot.specs.Restored.{dot, counts_of, combination, scaled_to, equation}
 use Rattle.qfs_code.proofs.Dot.{dot-scaled, dot-lt, multiples_are_bytes}
 use Rattle.qfs_code.proofs.Counts.{drops_out, stays_in, counts_are_bytes, without_slots_are_bytes}
 use Rattle.qfs_code.proofs.LeftOut.{first_out, second_out, LeavesOut, leaves_out, covered}

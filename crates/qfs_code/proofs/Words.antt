@@ -5,8 +5,10 @@ use Rattle.std.specs.List.{list_all}
 use Rattle.qfs_base.specs.Mask.{all_slots}
 use Rattle.qfs_galois.specs.Field.{polynomial_product, remainder, product, power}
 use Rattle.qfs_galois.proofs.FieldLaws.{one-product, zero-product, product-zero}
-use Rattle.qfs_code.specs.Code.{dot, parity, parity_row, IsCodeWord}
-use Rattle.qfs_code.specs.Restored.{counts, counts_of}
+use Rattle.qfs_model_slot.specs.CodeWord.{parity, IsCodeWord}
+use Rattle.qfs_model_slot.specs.Restored.{dot, counts, counts_of}
+use Rattle.qfs_code.specs.Code.{parity_row}
+use Rattle.qfs_code.proofs.Parity.{parity_by_row}
 use Rattle.qfs_code.proofs.Dot.{dot-append, dot-xor, dot-scaled_by, dot-zeros, all_bytes}
 
 -- what the parity slots count
@@ -45,7 +47,6 @@ length-parity_row e = refl
 
 -- the equation of parity slot 6 + e
 pub meets : (word : List ℕ) → IsCodeWord word → (e : ℕ) → e < 3 → dot (map (counts e) all_slots) word ≡ 0
-unfolding parity
 meets word code e l =
     let x = get_or word 6 0 in
     let y = get_or word 7 0 in
@@ -54,7 +55,7 @@ meets word code e l =
     let own = own_parity x y z (code.bytes 6 0 (omega (arith, code.nine))) (code.bytes 7 0 (omega (arith, code.nine))) (code.bytes 8 0 (omega (arith, code.nine))) e l in
     ap₂ dot (counts-split e) (sym (take-append-drop 6 word))
     ∙ dot-append (parity_row e) (parity_counts e) (take 6 word) (drop 6 word) six
-    ∙ ap₂ bit_xor (sym (code.parities e l)) (ap (dot (parity_counts e)) (last_three word code.nine) ∙ own ∙ get_or-three word e l)
+    ∙ ap₂ bit_xor (sym (code.parities e l ∙ parity_by_row e (take 6 word) (sym six ∙ length-parity_row e))) (ap (dot (parity_counts e)) (last_three word code.nine) ∙ own ∙ get_or-three word e l)
     ∙ xor_self (get_or word (6 + e) 0)
 
 -- what the slots count in one equation are bytes

@@ -1,7 +1,8 @@
 //! Sums of slots, each times a number.
 
 ghost use Rattle.std.specs.Prelude.{◌≡◌, ◌*◌, length};
-ghost use Rattle.qfs_code.specs.Code.{dot, slots_of, weighed};
+ghost use Rattle.qfs_model_slot.specs.Restored.{dot, weighed};
+ghost use Rattle.qfs_code.specs.Code.{slots_of};
 
 use qfs_galois::{add_scaled, mul};
 

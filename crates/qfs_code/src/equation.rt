@@ -5,8 +5,8 @@
 
 ghost use Rattle.std.specs.Prelude.{◌≡◌, ◌<◌, ◌≤◌, length, false};
 ghost use Rattle.qfs_base.specs.Mask.{IsMask, has_slot};
+ghost use Rattle.qfs_model_slot.specs.Restored.{combination, counts_of, equation, is_spare, last_besides, left_out, weight, weights, without_slots};
 ghost use Rattle.qfs_code.specs.Code.{parity_row};
-ghost use Rattle.qfs_code.specs.Restored.{combination, counts_of, equation, is_spare, last_besides, left_out, weight, weights, without_slots};
 
 use crate::combine::dot;
 use qfs_base::mask::Mask;
@@ -49,7 +49,7 @@ pub fn weights(have: Mask, want: Slot) -> [u8; 9]
 }
 
 /// What a slot counts in the wanted one by its equation: nothing where it isn't at hand.
-#[tactic(auto, unfolding(crate::specs::Restored::weight))]
+#[tactic(auto, unfolding(qfs_model_slot::specs::Restored::weight))]
 fn weight(have: Mask, equation: &[u8; 3], slot: Slot) -> u8
     requires { slot < 9 }
     ensures { result ≡ weight have equation.now slot }
@@ -62,7 +62,7 @@ fn weight(have: Mask, equation: &[u8; 3], slot: Slot) -> u8
 }
 
 /// The combination of the three equations in which slot `want` counts 1 and each other slot that isn't at hand counts 0.
-#[tactic(auto, unfolding(crate::specs::Restored::combination, crate::specs::Restored::equation, crate::specs::Restored::scaled_to, crate::specs::Restored::cross, crate::specs::Restored::without_slots))]
+#[tactic(auto, unfolding(qfs_model_slot::specs::Restored::combination, qfs_model_slot::specs::Restored::equation, qfs_model_slot::specs::Restored::scaled_to, qfs_model_slot::specs::Restored::cross, qfs_model_slot::specs::Restored::without_slots))]
 fn equation(have: Mask, want: Slot) -> [u8; 3]
     requires mask { IsMask have }
     requires enough { 6 ≤ length have }
@@ -81,7 +81,7 @@ fn equation(have: Mask, want: Slot) -> [u8; 3]
 }
 
 /// A combination of the three equations from which slots `b` and `c` drop out.
-#[tactic(auto, unfolding(crate::specs::Restored::minor, crate::specs::Restored::cross, crate::specs::Restored::without_slots))]
+#[tactic(auto, unfolding(qfs_model_slot::specs::Restored::minor, qfs_model_slot::specs::Restored::cross, qfs_model_slot::specs::Restored::without_slots))]
 fn without_slots(b: Slot, c: Slot) -> [u8; 3]
     requires b { b < 9 }
     requires c { c < 9 }
@@ -97,7 +97,7 @@ fn without_slots(b: Slot, c: Slot) -> [u8; 3]
 }
 
 /// What a slot counts in the equations of the three parity slots.
-#[tactic(auto, unfolding(crate::specs::Restored::counts_of, crate::specs::Restored::counts))]
+#[tactic(auto, unfolding(qfs_model_slot::specs::Restored::counts_of, qfs_model_slot::specs::Restored::counts))]
 fn counts_of(slot: Slot) -> [u8; 3]
     requires { slot < 9 }
     ensures { result ≡ counts_of slot }
@@ -114,7 +114,7 @@ fn counts_of(slot: Slot) -> [u8; 3]
 }
 
 /// One more slot to leave out beside slots `want` and `other`: the first that isn't at hand, or the last where each is.
-#[tactic(auto, unfolding(crate::specs::Restored::left_out))]
+#[tactic(auto, unfolding(qfs_model_slot::specs::Restored::left_out))]
 fn left_out(have: Mask, want: Slot, other: Slot) -> Slot
     ensures value { result ≡ left_out have want other }
     ensures slot { result < 9 }
@@ -128,7 +128,7 @@ fn left_out(have: Mask, want: Slot, other: Slot) -> Slot
 }
 
 /// Whether a slot is neither `want` nor `other`, and isn't at hand.
-#[tactic(auto, unfolding(crate::specs::Restored::is_spare))]
+#[tactic(auto, unfolding(qfs_model_slot::specs::Restored::is_spare))]
 fn is_spare(have: Mask, want: Slot, other: Slot, slot: Slot) -> bool
     ensures { result ≡ is_spare have want other slot }
 {
@@ -136,7 +136,7 @@ fn is_spare(have: Mask, want: Slot, other: Slot, slot: Slot) -> bool
 }
 
 /// The last slot that is neither `want` nor `other`.
-#[tactic(auto, unfolding(crate::specs::Restored::last_besides))]
+#[tactic(auto, unfolding(qfs_model_slot::specs::Restored::last_besides))]
 fn last_besides(want: Slot, other: Slot) -> Slot
     ensures value { result ≡ last_besides want other }
     ensures slot { result < 9 }

@@ -2,8 +2,9 @@
 
 ghost use Rattle.std.specs.Prelude.{◌≡◌, ◌≢◌, ℕ, ◌<◌, ◌≤◌, List, ◌++◌, length, All, true};
 ghost use Rattle.qfs_base.specs.Mask.{IsMask, has_slot};
-ghost use Rattle.qfs_code.specs.Code.{AreCodeWords, dot, parity_slots, slot_at};
-ghost use Rattle.qfs_code.specs.Restored.{counts_of, cross, restored};
+ghost use Rattle.qfs_model_slot.specs.CodeWord.{AreCodeWords, slot_at};
+ghost use Rattle.qfs_model_slot.specs.Restored.{dot, counts_of, cross, restored};
+ghost use Rattle.qfs_code.specs.Code.{parity_slots};
 
 /// Six slots of bytes and their parity slots are a code word at each offset.
 pub fn slots_with_parity_are_code_words()

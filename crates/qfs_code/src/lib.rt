@@ -7,8 +7,9 @@
 
 ghost use Rattle.std.specs.Prelude.{◌≡◌, ℕ, ◌+◌, ◌*◌, ◌<◌, ◌≤◌, List, ◌++◌, length, true};
 ghost use Rattle.qfs_base.specs.Mask.{has_slot};
-ghost use Rattle.qfs_code.specs.Code.{AreCodeWords, parity_slots, slot_at, slots_of};
-ghost use Rattle.qfs_code.specs.Restored.{restored};
+ghost use Rattle.qfs_model_slot.specs.CodeWord.{AreCodeWords, slot_at};
+ghost use Rattle.qfs_model_slot.specs.Restored.{restored};
+ghost use Rattle.qfs_code.specs.Code.{parity_slots, slots_of};
 
 use crate::combine::combine;
 use crate::equation::{parity_row, weights};

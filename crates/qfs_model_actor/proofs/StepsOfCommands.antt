@@ -20,7 +20,7 @@ use Rattle.qfs_model_slot.specs.CodeWord.{SLOTS}
 use Rattle.qfs_model_actor.specs.Work.{Report, Work, ends}
 use Rattle.qfs_model_actor.specs.Hold.{opened, granted}
 use Rattle.qfs_model_actor.specs.Grants.{MOST_ROWS, if_meant, is_in_range, with_proper, with_source, source_of}
-use Rattle.qfs_model_actor.specs.Windows.{blocks_touched, windows_touched, windows_of_rows, WINDOW_ROWS}
+use Rattle.qfs_base.specs.Layout.{blocks_touched, windows_touched, windows_of_rows, window_rows}
 use Rattle.qfs_model_actor.specs.Get.{MOST_BYTES, reading_of, listed_in, read_blocks, read_if_any, read_range, is_whole, read_if_whole, was_opened, range_of, get_work}
 use Rattle.qfs_model_actor.specs.Repair.{after_confirm, confirm, give_up, store_granted}
 use Rattle.qfs_model_actor.specs.Recover.{reading_for, restore_chunk, recover_slot, recovered, after_recover_at, recover_work, Healing, after_heal_next, heal_on, heal_work}
@@ -48,7 +48,7 @@ read_blocks-steps layout o from to [] got =
     more_steps (read_blocks layout o from to [] got) 1 (0 * (layout.r * SLOTS) + 1) (grind arith) (end_with-steps 0 (opened o.lease) _)
 read_blocks-steps layout o from to (k ∷ ks) got =
     let m = length ks * (layout.r * SLOTS) in
-    let windows = windows_touched layout from to k in
+    let windows = windows_touched layout.s layout.r from to k in
     more_steps (read_blocks layout o from to (k ∷ ks) got) (length windows * SLOTS + suc m)
     (length (k ∷ ks) * (layout.r * SLOTS) + 1)
     (omega (arith, suc-mul (length ks) (layout.r * SLOTS), length-windows_touched layout from to k))
@@ -60,7 +60,7 @@ read_if_any-steps : (layout : Shape) (o : Opened) (from to : ℕ) → to ≤ MOS
     → AsksAtMost (MOST_BYTES * (layout.r * SLOTS) + 1) (read_if_any layout o from to b)
 unfolding read_if_any
 read_if_any-steps layout o from to h true =
-    let ks = blocks_touched layout from to in
+    let ks = blocks_touched layout.s layout.r from to in
     let few : length ks ≤ MOST_BYTES = omega (arith, h, length-blocks_touched layout from to) in
     more_steps (read_blocks layout o from to ks []) (length ks * (layout.r * SLOTS) + 1) (MOST_BYTES * (layout.r * SLOTS) + 1)
     (omega (arith, mul-le-mul_right (layout.r * SLOTS) few)) (read_blocks-steps layout o from to ks [])
@@ -149,7 +149,7 @@ with_proper-steps n next g h = if_in_range-steps n next g h (is_in_range g) refl
 
 -- a chunk has at most 64 windows
 windows_of_chunk : (k rows : ℕ) → rows ≤ MOST_ROWS → length (windows_of_rows k 0 rows) ≤ MOST_WINDOWS
-windows_of_chunk k rows h = omega (arith, h, length-windows_of_rows k 0 rows, div_ceil-least rows WINDOW_ROWS MOST_WINDOWS (omega arith) h)
+windows_of_chunk k rows h = omega (arith, h, length-windows_of_rows k 0 rows, div_ceil-least rows window_rows MOST_WINDOWS (omega arith) h)
 
 -- ---- recoveries
 

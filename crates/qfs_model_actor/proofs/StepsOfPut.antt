@@ -6,7 +6,8 @@ use Rattle.qfs_base.specs.Shape.{Shape}
 use Rattle.qfs_base.specs.declared.reply.Granted.{Granted}
 use Rattle.qfs_base.specs.declared.reply.MetaReply.{MetaReply}
 use Rattle.qfs_base.specs.declared.reply.MetaReply.TheVariants as Said
-use Rattle.qfs_model_slot.specs.CodeWord.{SLOTS, all_slots}
+use Rattle.qfs_base.specs.Mask.{all_slots}
+use Rattle.qfs_model_slot.specs.CodeWord.{SLOTS}
 use Rattle.qfs_model_actor.specs.Work.{Work}
 use Rattle.qfs_model_actor.specs.Hold.{unclosed}
 use Rattle.qfs_model_actor.specs.Tree.{refused, changed, listed, change_work, list_work}

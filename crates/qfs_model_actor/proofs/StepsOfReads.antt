@@ -4,15 +4,15 @@ use Rattle.std.proofs.Math.Nat.{div-zero, mod-zero}
 use Rattle.std.specs.Int.{div_ceil}
 use Rattle.std.proofs.lemmas.Grind.{div_ceil_times}
 use Rattle.std.proofs.lemmas.List.FromFn.{length-range_with_len, length-map-range_with_len}
-use Rattle.qfs_base.specs.Layout.{row_bytes, block_bytes}
+use Rattle.qfs_base.specs.Layout.{row_bytes, block_bytes, window_rows, window_at, windows_of_rows, blocks_touched, windows_touched}
 use Rattle.qfs_base.specs.Shape.{Shape}
 use Rattle.qfs_base.specs.declared.chunk.Copy.{Copy}
 use Rattle.qfs_base.specs.declared.layout.Window.{Window}
 use Rattle.qfs_base.specs.declared.lists.Cause.{Cause}
 use Rattle.qfs_base.specs.declared.lists.SlotCause.{SlotCause}
-use Rattle.qfs_model_slot.specs.CodeWord.{SLOTS, all_slots}
+use Rattle.qfs_base.specs.Mask.{all_slots}
+use Rattle.qfs_model_slot.specs.CodeWord.{SLOTS}
 use Rattle.qfs_model_actor.specs.Work.{Work}
-use Rattle.qfs_model_actor.specs.Windows.{WINDOW_ROWS, window_at, windows_of_rows, blocks_touched, windows_touched}
 use Rattle.qfs_model_actor.specs.Pieces.{Piece}
 use Rattle.qfs_model_actor.specs.Read.{Source, Reading, go_on_or_stop, with_enough, are_too_few, at_source, read_slots, read_windows, read_block, sources_of}
 use Rattle.qfs_model_actor.specs.Steps.{AsksAtMost}
@@ -117,14 +117,12 @@ rows_in_block part (suc s) r =
     div_ceil-least (min part (6 * suc s * r)) (6 * suc s) r (omega arith) (omega (arith, mul_comm r (6 * suc s)))
 
 -- no window has less than a row
-pub length-windows_of_rows : (k first end : ℕ) → length (windows_of_rows k first end) ≤ div_ceil end WINDOW_ROWS
-unfolding windows_of_rows
+pub length-windows_of_rows : (k first end : ℕ) → length (windows_of_rows k first end) ≤ div_ceil end window_rows
 length-windows_of_rows k first end =
-    let low = first / WINDOW_ROWS in
-    omega (arith, length-map-range_with_len (window_at k first end) low (div_ceil end WINDOW_ROWS - low))
+    let low = first / window_rows in
+    omega (arith, length-map-range_with_len (window_at k first end) low (div_ceil end window_rows - low))
 
-pub length-windows_touched : (layout : Shape) (from to k : ℕ) → length (windows_touched layout from to k) ≤ layout.r
-unfolding windows_touched
+pub length-windows_touched : (layout : Shape) (from to k : ℕ) → length (windows_touched layout.s layout.r from to k) ≤ layout.r
 length-windows_touched layout from to k =
     let whole = block_bytes layout.s layout.r in
     let start = k * whole in
@@ -132,12 +130,11 @@ length-windows_touched layout from to k =
     omega (
       arith,
       length-windows_of_rows k ((from - start) / row_bytes layout.s) end,
-      div_ceil-le_self end WINDOW_ROWS,
+      div_ceil-le_self end window_rows,
       rows_in_block (to - start) layout.s layout.r,
     )
 
-pub length-blocks_touched : (layout : Shape) (from to : ℕ) → length (blocks_touched layout from to) ≤ to
-unfolding blocks_touched
+pub length-blocks_touched : (layout : Shape) (from to : ℕ) → length (blocks_touched layout.s layout.r from to) ≤ to
 length-blocks_touched layout from to =
     let whole = block_bytes layout.s layout.r in
     let low = from / whole in

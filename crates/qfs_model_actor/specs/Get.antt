@@ -1,6 +1,6 @@
 -- A get: OpenFile; the Fetches of its range; Release. The lease is released where the command ends early.
 use Rattle.std.specs.Prelude.{ℕ, ◌+◌, ◌==◌, ◌&&◌, Bool, true, false, List, [], ◌∷◌, min, length, Option, Some, None, slice_get, unwrap_or, nat_le, nat_lt}
-use Rattle.qfs_base.specs.Layout.{blocks_of}
+use Rattle.qfs_base.specs.Layout.{blocks_of, blocks_touched, windows_touched}
 use Rattle.qfs_base.specs.Shape.{Shape}
 use Rattle.qfs_base.specs.declared.chunk.Copy.{Copy}
 use Rattle.qfs_base.specs.declared.command.Range.{Range}
@@ -14,7 +14,7 @@ use Rattle.qfs_model_actor.specs.Hold.{nothing, opened, unnamed, end_with}
 use Rattle.qfs_model_actor.specs.Ask.{ask}
 use Rattle.qfs_model_actor.specs.Tree.{refused}
 use Rattle.qfs_model_actor.specs.Pieces.{data_of, rows_of_file}
-use Rattle.qfs_model_actor.specs.Windows.{blocks_touched, windows_touched, window_offset, cut_to_range}
+use Rattle.qfs_model_actor.specs.Windows.{window_offset, cut_to_range}
 use Rattle.qfs_model_actor.specs.Read.{Reading, read_block}
 
 -- the greatest length of a file
@@ -40,12 +40,12 @@ listed_in o k = unwrap_or (slice_get o.blocks k) []
 unfoldable pub read_blocks : Shape → Opened → ℕ → ℕ → List ℕ → List ℕ → Work
 read_blocks layout o from to [] got = end_with (opened o.lease) (Report.Read o.place got)
 read_blocks layout o from to (k ∷ ks) got =
-    read_block (reading_of layout o from to k) (windows_touched layout from to k) (listed_in o k) got
+    read_block (reading_of layout o from to k) (windows_touched layout.s layout.r from to k) (listed_in o k) got
     (λ more. read_blocks layout o from to ks more)
 
 -- reads the bytes from `from` up to `to`, of which there is one where the flag says so
 unfoldable pub read_if_any : Shape → Opened → ℕ → ℕ → Bool → Work
-read_if_any layout o from to true = read_blocks layout o from to (blocks_touched layout from to) []
+read_if_any layout o from to true = read_blocks layout o from to (blocks_touched layout.s layout.r from to) []
 read_if_any layout o from to false = end_with (opened o.lease) (Report.Read o.place [])
 
 -- reads a range, cut at the file's end

@@ -20,4 +20,3 @@ pub mod Shown
 pub mod Steps
 pub mod Examples
 pub mod MoreExamples
-pub mod Standin

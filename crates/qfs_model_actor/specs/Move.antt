@@ -12,7 +12,7 @@ use Rattle.qfs_model_actor.specs.Work.{Report, Work, ends}
 use Rattle.qfs_model_actor.specs.Hold.{nothing, granted, unnamed}
 use Rattle.qfs_model_actor.specs.Ask.{ask, fetch}
 use Rattle.qfs_model_actor.specs.Grants.{with_grant_of, with_proper, slot_of_grant, source_of, with_source}
-use Rattle.qfs_model_actor.specs.Windows.{windows_of_rows}
+use Rattle.qfs_base.specs.Layout.{windows_of_rows}
 use Rattle.qfs_base.specs.declared.layout.Window.{Window}
 use Rattle.qfs_model_actor.specs.Repair.{store_granted, give_up}
 

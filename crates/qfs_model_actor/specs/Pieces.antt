@@ -1,8 +1,9 @@
 -- What six of the nine slots of a block give in a window of rows.
 use Rattle.std.specs.Prelude.{ℕ, ◌*◌, ◌==◌, List, [], ◌∷◌, Option, Some, None, map, find, flat_map, take, drop, length}
 use Rattle.std.specs.List.{range_with_len}
-use Rattle.qfs_model_slot.specs.CodeWord.{data_slots, all_slots}
-use Rattle.qfs_model_actor.specs.Standin.{restored}
+use Rattle.qfs_base.specs.Mask.{all_slots}
+use Rattle.qfs_model_slot.specs.CodeWord.{data_slots}
+use Rattle.qfs_model_slot.specs.Restored.{restored}
 
 -- a slot with the bytes that it gave in a window
 pub record Piece : Type 0 where

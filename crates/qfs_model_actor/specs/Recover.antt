@@ -11,7 +11,7 @@ use Rattle.qfs_model_actor.specs.Work.{Report, Work, ends}
 use Rattle.qfs_model_actor.specs.Hold.{nothing, granted, unnamed}
 use Rattle.qfs_model_actor.specs.Ask.{ask}
 use Rattle.qfs_model_actor.specs.Grants.{with_grant_of, with_proper, slot_of_grant}
-use Rattle.qfs_model_actor.specs.Windows.{windows_of_rows}
+use Rattle.qfs_base.specs.Layout.{windows_of_rows}
 use Rattle.qfs_model_actor.specs.Read.{Reading, read_block}
 use Rattle.qfs_model_actor.specs.Pieces.{restored_slot}
 use Rattle.qfs_model_actor.specs.Repair.{store_granted, give_up}

@@ -1,8 +1,12 @@
 -- What is kept of a reply outside the definitions: of the bytes that a get read, only what is shown.
+use Rattle.std.specs.Prelude.{ℕ, ◌+◌, Bool, true, false, nat_le, List, [], ◌∷◌, length}
+use Rattle.sha2.specs.Sha256.{sha256}
 use Rattle.qfs_base.specs.declared.command.Excerpt.{Excerpt}
 use Rattle.qfs_base.specs.declared.command.Reply.{Reply}
 use Rattle.qfs_base.specs.declared.command.Reply.TheVariants as Report
-use Rattle.std.specs.Prelude.{ℕ, List}
+use Rattle.qfs_base.specs.declared.command.ReplyLine.{ReplyLine}
+use Rattle.qfs_base.specs.declared.command.Shown.{Shown}
+use Rattle.qfs_base.specs.declared.command.Shown.TheVariants as Show
 
 -- the same reply with an excerpt in place of the bytes
 unfoldable pub shown_reply : (List ℕ → Excerpt) → Reply (List ℕ) → Reply Excerpt
@@ -47,3 +51,26 @@ shown_reply show Report.LogFault = Report.LogFault
 shown_reply show Report.NoMemory = Report.NoMemory
 shown_reply show (Report.BadLog right offset) = Report.BadLog right offset
 shown_reply show Report.Unnamed = Report.Unnamed
+
+-- how many bytes are shown as they are
+abbrev pub most_shown : ℕ
+most_shown = 32
+
+-- what is shown of bytes: all of them where the flag says that they are few, their digest else
+unfoldable pub shown_if_few : List ℕ → Bool → Shown
+shown_if_few bytes true = Show.Whole bytes
+shown_if_few bytes false = Show.Digest (sha256 bytes)
+
+-- what is kept of bytes that were read
+unfoldable pub excerpt_of : List ℕ → Excerpt
+excerpt_of bytes = record { len = length bytes; shown = shown_if_few bytes (nat_le (length bytes) most_shown) }
+
+-- a report as it is kept and printed
+abbrev pub kept_report : Reply (List ℕ) → Reply Excerpt
+kept_report report = shown_reply excerpt_of report
+
+-- the reply lines of an actor's commands that have ended, of which the first is command k
+unfoldable pub lines_from : ℕ → ℕ → List (Reply (List ℕ)) → List ReplyLine
+lines_from actor k [] = []
+lines_from actor k (report ∷ reports) =
+    record { actor = actor; command = k; reply = kept_report report } ∷ lines_from actor (k + 1) reports

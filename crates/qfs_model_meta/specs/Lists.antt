@@ -8,13 +8,10 @@ use Rattle.qfs_base.specs.declared.image.ServerView.{ServerView}
 use Rattle.qfs_base.specs.declared.image.SlotRow.{SlotRow}
 use Rattle.qfs_base.specs.declared.reply.Granted.{Granted}
 use Rattle.qfs_base.specs.Layout.{blocks_of, rows_of}
+use Rattle.qfs_base.specs.Mask.{all_slots}
 use Rattle.qfs_base.specs.Shape.{Shape}
 use Rattle.qfs_model_meta.specs.Servers.{server_at, listed_copy}
 use Rattle.qfs_model_meta.specs.Slots.{slot_at}
-
--- the slots of a block, by number
-abbrev pub slot_numbers : List ℕ
-slot_numbers = range_with_len 0 9
 
 -- the copies of a block's nine slots
 abbrev pub NineCopies : Type 0
@@ -29,7 +26,7 @@ one_source slot copy = slice_set no_sources slot (Some copy)
 
 -- the listed copies of a block, and those of all slots but one
 unfoldable pub listed_nine : List ServerView → List SlotRow → BlockId → NineCopies
-listed_nine servers slots block = map (λ slot. listed_copy servers (slot_at slots block slot).current) slot_numbers
+listed_nine servers slots block = map (λ slot. listed_copy servers (slot_at slots block slot).current) all_slots
 
 unfoldable pub listed_others : List ServerView → List SlotRow → BlockId → ℕ → NineCopies
 listed_others servers slots block slot = slice_set (listed_nine servers slots block) slot None

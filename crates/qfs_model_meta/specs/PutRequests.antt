@@ -15,7 +15,8 @@ use Rattle.qfs_base.specs.Shape.{Shape}
 use Rattle.qfs_model_meta.specs.Apply.{apply_all}
 use Rattle.qfs_model_meta.specs.Change.{Change, AddFile, GrantSlot, FailGrant, GiveUp, CloseFile, AbortFile}
 use Rattle.qfs_model_meta.specs.Decision.{Decision, Makes, refuse, unless, need, refuse_file}
-use Rattle.qfs_model_meta.specs.Lists.{slot_numbers, block_count, no_sources, new_grant}
+use Rattle.qfs_base.specs.Mask.{all_slots}
+use Rattle.qfs_model_meta.specs.Lists.{block_count, no_sources, new_grant}
 use Rattle.qfs_model_meta.specs.Placing.{census, choose, barred_for_put}
 use Rattle.qfs_model_meta.specs.Slots.{slot_at, slots_of}
 use Rattle.qfs_model_meta.specs.TreeRows.{standing, unclosed_file}
@@ -76,7 +77,7 @@ decide_grant layout actor block slot again m =
 
 -- the slots of a block, and all slots of so many blocks of a file, by index and slot
 unfoldable pub block_slots : BlockId → List SlotId
-block_slots block = map (λ slot. record { block = block; slot = slot }) slot_numbers
+block_slots block = map (λ slot. record { block = block; slot = slot }) all_slots
 
 unfoldable pub file_slots : ℕ → ℕ → List SlotId
 file_slots file count =

@@ -1,3 +1,4 @@
 pub mod CodeWord
+pub mod Restored
 pub mod Slot
 pub mod Examples

@@ -16,7 +16,7 @@ use Rattle.qfs_base.specs.declared.history.Entry.TheVariants as Wrote
 use Rattle.qfs_base.specs.declared.history.FileReply.TheVariants as Told
 use Rattle.qfs_base.specs.declared.script.Script.{Script}
 use Rattle.qfs_model_actor.specs.Get.{range_of}
-use Rattle.qfs_model_actor.specs.Windows.{blocks_touched}
+use Rattle.qfs_base.specs.Layout.{blocks_touched}
 use Rattle.qfs_model_actor.specs.Work.{Report}
 use Rattle.qfs_model_world.specs.Events.{Event}
 use Rattle.qfs_model_world.specs.FileHistory.{files_left}
@@ -79,7 +79,7 @@ pub record AgreesTooFew (script : Script) (history : List Entry) (place index : 
   pub closed : content_at (files_left script (take place history)) path ≡ Some (IsClosed file bytes)
   pub some : range.from < end_of_range range (length bytes)
   pub touched : IsTrue (list_any (λ k. k == index)
-      (blocks_touched script.layout range.from (end_of_range range (length bytes))))
+      (blocks_touched script.layout.s script.layout.r range.from (end_of_range range (length bytes))))
 
 abbrev pub AgreesTooFewOf : Script → List Entry → ℕ → ℕ → FileCommand → Type 0
 AgreesTooFewOf script history place index (File.Get path range) =

@@ -14,7 +14,8 @@ use Rattle.qfs_base.specs.declared.history.Step.{Step}
 use Rattle.qfs_base.specs.declared.image.MetaImage.{MetaImage}
 use Rattle.qfs_base.specs.declared.image.TreeRow.{TreeRow}
 use Rattle.qfs_base.specs.declared.script.Script.{Script}
-use Rattle.qfs_model_meta.specs.Lists.{slot_numbers, block_count}
+use Rattle.qfs_base.specs.Mask.{all_slots}
+use Rattle.qfs_model_meta.specs.Lists.{block_count}
 use Rattle.qfs_model_meta.specs.Slots.{slot_at}
 use Rattle.qfs_model_meta.specs.TreeRows.{is_closed_row}
 use Rattle.qfs_model_server.specs.Server.{Server}
@@ -68,14 +69,14 @@ is_right_slot world bytes block slot =
 -- the line of a block of a file, and those of its blocks
 unfoldable pub audit_of_block : World → (ℕ → List ℕ) → TreeRow → BlockId → AuditLine
 audit_of_block world bytes row block =
-    record { path = row.path; index = block.index; right = map (is_right_slot world bytes block) slot_numbers }
+    record { path = row.path; index = block.index; right = map (is_right_slot world bytes block) all_slots }
 
 unfoldable pub audit_of_file : World → (ℕ → List ℕ) → TreeRow → List AuditLine
 audit_of_file world bytes row = map (audit_of_block world bytes row) (blocks_in world row)
 
 -- how many slots of a block have a current copy
 unfoldable pub current_copies : MetaImage → BlockId → ℕ
-current_copies m block = count_by (λ slot. is_some (slot_at m.slots block slot).current) slot_numbers
+current_copies m block = count_by (λ slot. is_some (slot_at m.slots block slot).current) all_slots
 
 -- the summary of a world after so many steps
 unfoldable pub summary_of : World → ℕ → Summary

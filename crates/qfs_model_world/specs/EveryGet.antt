@@ -19,7 +19,7 @@ use Rattle.qfs_base.specs.declared.request.NodeRequest.{NodeRequest}
 use Rattle.qfs_base.specs.declared.request.NodeRequest.TheVariants as To
 use Rattle.qfs_base.specs.declared.script.Script.{Script}
 use Rattle.qfs_model_actor.specs.Get.{range_of}
-use Rattle.qfs_model_actor.specs.Windows.{blocks_touched}
+use Rattle.qfs_base.specs.Layout.{blocks_touched}
 use Rattle.qfs_model_text.specs.Order.{same_outcome}
 use Rattle.qfs_model_world.specs.Agrees.{end_of_range}
 use Rattle.qfs_model_world.specs.Events.{Event, events, is_step_of, steps_of}
@@ -57,7 +57,7 @@ pub record ReleasesAt (steps : List Event) (actor number j : ℕ) : Type 0 where
 
 -- the blocks of a range, in a file of so many bytes
 unfoldable pub blocks_if_any : Shape → Range → ℕ → Bool → List ℕ
-blocks_if_any layout range end true = blocks_touched layout range.from end
+blocks_if_any layout range end true = blocks_touched layout.s layout.r range.from end
 blocks_if_any layout range end false = []
 
 unfoldable pub blocks_of_range : Shape → Range → ℕ → List ℕ

@@ -9,7 +9,8 @@ use Rattle.qfs_base.specs.declared.request.ChunkRequest.{ChunkRequest}
 use Rattle.qfs_base.specs.declared.request.ChunkRequest.TheVariants as Serve
 use Rattle.qfs_base.specs.declared.request.NodeRequest.{NodeRequest}
 use Rattle.qfs_base.specs.declared.request.NodeRequest.TheVariants as To
-use Rattle.qfs_model_meta.specs.Lists.{NineCopies, slot_numbers}
+use Rattle.qfs_base.specs.Mask.{all_slots}
+use Rattle.qfs_model_meta.specs.Lists.{NineCopies}
 use Rattle.qfs_model_meta.specs.Slots.{same_block}
 use Rattle.qfs_model_server.specs.Server.{Server}
 use Rattle.qfs_model_text.specs.Order.{same_outcome}
@@ -57,7 +58,7 @@ listed_at nine slot = unwrap_or (slice_get nine slot) None
 -- `own` are the get's
 unfoldable pub six_stay : BlockId → NineCopies → List Event → List Event → Bool
 six_stay block nine between own =
-    nat_le 6 (count_by (λ slot. copy_stays block slot between own (listed_at nine slot)) slot_numbers)
+    nat_le 6 (count_by (λ slot. copy_stays block slot between own (listed_at nine slot)) all_slots)
 
 -- whether a block is held for a get, a command of an actor that opened its file at step i and released it at step j
 unfoldable pub is_held : List Event → ℕ → ℕ → ℕ → ℕ → Opened → ℕ → Bool

@@ -1,5 +1,6 @@
 use Rattle.std.proofs.Common.{ℕ, List, ◌++◌, sym, subst}
-use Rattle.qfs_code.specs.Code.{slots_of, AreCodeWords}
+use Rattle.qfs_model_slot.specs.CodeWord.{AreCodeWords}
+use Rattle.qfs_code.specs.Code.{slots_of}
 use Rattle.qfs_code.proofs.Columns.{length-slots_of}
 use Rattle.qfs_code.proofs.Encoding.{encoded, slots_of_sizes, slots_of_bytes, as_parity_slot, three_parity_slots}
 use Rattle.qfs_code.proofs.encode.Goals as goal

@@ -1,6 +1,6 @@
 use Rattle.std.proofs.Common.{◌≡◌, take, drop, length, ◌+◌, ◌-◌, ◌*◌, ap, sym, ◌∙◌, arith}
-use Rattle.qfs_code.specs.Code.{slots_of, weighed}
-use Rattle.qfs_code.specs.Restored.{weights, weights_by}
+use Rattle.qfs_model_slot.specs.Restored.{weighed, weights, weights_by}
+use Rattle.qfs_code.specs.Code.{slots_of}
 use Rattle.qfs_code.proofs.Columns.{slot_at-slots_of, length-slots_of}
 use Rattle.qfs_code.proofs.Restoring.{restored_is_slot, restored_at_hand, restored_from_others}
 use Rattle.qfs_code.proofs.restore.Goals as goal

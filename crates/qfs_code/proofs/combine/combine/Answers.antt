@@ -1,7 +1,9 @@
 use Rattle.std.proofs.Common.{◌≡◌, ℕ, ◌+◌, ◌-◌, ◌*◌, ◌<◌, List, length, get_or, take, drop, bit_xor, sym, ap, ◌∙◌, arith}
 use Rattle.std.specs.Int.Bits.{xor_assoc, xor_zero_r}
 use Rattle.qfs_galois.specs.Field.{product}
-use Rattle.qfs_code.specs.Code.{dot, column, slots_of}
+use Rattle.qfs_model_slot.specs.CodeWord.{column}
+use Rattle.qfs_model_slot.specs.Restored.{dot}
+use Rattle.qfs_code.specs.Code.{slots_of}
 use Rattle.qfs_code.proofs.Dot.{dot-drop, dot-past}
 use Rattle.qfs_code.proofs.Columns.{length-column, get_or-column, length-slots_of, slot_at-slots_of, weighed_by_bytes}
 use Rattle.qfs_code.proofs.combine.combine.Goals as goal

@@ -1,5 +1,7 @@
 use Rattle.std.proofs.Common.{◌≡◌, ℕ, ◌<◌, bit_xor, drop, get_or, length}
-use Rattle.qfs_code.specs.Code.{dot, column, slots_of}
+use Rattle.qfs_model_slot.specs.CodeWord.{column}
+use Rattle.qfs_model_slot.specs.Restored.{dot}
+use Rattle.qfs_code.specs.Code.{slots_of}
 use Rattle.qfs_code.proofs.combine.combine.Given as goal
 
 -- at each offset, the sum so far and that of the slots from j on

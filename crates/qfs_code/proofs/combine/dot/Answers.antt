@@ -1,6 +1,6 @@
 use Rattle.std.proofs.Common.{◌+◌, drop, bit_xor, sym, ap, ◌∙◌, arith}
 use Rattle.std.specs.Int.Bits.{xor_assoc, xor_zero_r}
-use Rattle.qfs_code.specs.Code.{dot}
+use Rattle.qfs_model_slot.specs.Restored.{dot}
 use Rattle.qfs_code.proofs.Dot.{dot-drop, dot-past}
 use Rattle.qfs_code.proofs.combine.dot.Goals as goal
 

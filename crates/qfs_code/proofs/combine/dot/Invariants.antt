@@ -1,5 +1,5 @@
 use Rattle.std.proofs.Common.{◌≡◌, bit_xor, drop}
-use Rattle.qfs_code.specs.Code.{dot}
+use Rattle.qfs_model_slot.specs.Restored.{dot}
 use Rattle.qfs_code.proofs.combine.dot.Given as goal
 
 -- the sum so far and that of the other products

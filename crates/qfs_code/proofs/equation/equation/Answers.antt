@@ -1,6 +1,5 @@
 use Rattle.std.proofs.Common.{◌≡◌, ap, ap₂, sym, ◌∙◌}
-use Rattle.qfs_code.specs.Code.{dot}
-use Rattle.qfs_code.specs.Restored.{combination, without_slots, left_out, counts_of}
+use Rattle.qfs_model_slot.specs.Restored.{dot, combination, without_slots, left_out, counts_of}
 use Rattle.qfs_code.proofs.WantedSlot.{counts_some}
 use Rattle.qfs_code.proofs.equation.equation.Goals as goal
 

@@ -1,5 +1,5 @@
 use Rattle.std.proofs.Common.{unwrap_or, sym, ap, ◌∙◌, arith}
-use Rattle.qfs_code.specs.Restored.{left_out, last_besides}
+use Rattle.qfs_model_slot.specs.Restored.{left_out, last_besides}
 use Rattle.qfs_code.proofs.Spares.{first_spare_here, first_spare_later, first_spare_past}
 use Rattle.qfs_code.proofs.equation.left_out.Goals as goal
 

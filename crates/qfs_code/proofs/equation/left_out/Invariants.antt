@@ -1,5 +1,5 @@
 use Rattle.std.proofs.Common.{◌≡◌}
-use Rattle.qfs_code.specs.Restored.{first_spare}
+use Rattle.qfs_model_slot.specs.Restored.{first_spare}
 use Rattle.qfs_code.proofs.equation.left_out.Given as goal
 
 -- what is looked for isn't below the slot that the loop has come to

@@ -1,6 +1,6 @@
 use Rattle.std.proofs.Common.{◌≡◌, ◌≢◌, ℕ, ◌+◌, ◌<◌, List, length, get_or, set, refl, ap, ◌∙◌, arith, below_more, length-set, get_or-set_other, get_or-set_same}
 use Rattle.std.proofs.lemmas.List.FromFn.{fill_by_all}
-use Rattle.qfs_code.specs.Restored.{equation, weight, weights, weights_by}
+use Rattle.qfs_model_slot.specs.Restored.{equation, weight, weights, weights_by}
 use Rattle.qfs_code.proofs.equation.weights.Goals as goal
 
 -- one weight more

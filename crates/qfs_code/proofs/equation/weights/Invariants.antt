@@ -1,5 +1,5 @@
 use Rattle.std.proofs.Common.{◌≡◌, ℕ, ◌<◌, length, get_or}
-use Rattle.qfs_code.specs.Restored.{equation, weight}
+use Rattle.qfs_model_slot.specs.Restored.{equation, weight}
 use Rattle.qfs_code.proofs.equation.weights.Given as goal
 
 abbrev pub invariant-loop-slot : goal.invariant-loop-slot

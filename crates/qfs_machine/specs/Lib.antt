@@ -1,0 +1,3 @@
+pub mod Askable
+pub mod Asking
+pub mod Kept
