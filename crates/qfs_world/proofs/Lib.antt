@@ -1,4 +1,2 @@
-pub mod ServedCommands
-pub mod ServedWork
 pub mod Simulation
 pub mod Stands

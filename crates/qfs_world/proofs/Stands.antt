@@ -11,7 +11,7 @@ use Rattle.qfs_model_server.specs.Server.{Server, Answered, chunk_refusal, chunk
 use Rattle.qfs_store.specs.Stands.{kept, HandsOut}
 use Rattle.qfs_store.specs.Stored.{Stored}
 use Rattle.qfs_world.specs.Follows.{IsServer, StandForAll}
-use Rattle.qfs_world.specs.Served.{IsServedByStore}
+use Rattle.qfs_machine.specs.Askable.{IsAskedOfServer}
 use Rattle.qfs_world.specs.Turns.{StoreServes}
 
 -- the server of a store
@@ -85,7 +85,7 @@ kept-on : (device server device' server' : ℕ) → kept device ≡ kept server 
     → kept device' ≡ kept (device + (server' - server)) → kept device' ≡ kept server'
 kept-on device server device' server' same rises handed = omega arith
 
-hands-out : (request : ChunkRequest) (count old new : ℕ) → IsServedByStore request
+hands-out : (request : ChunkRequest) (count old new : ℕ) → IsAskedOfServer request
     → HandsOut request count old new → kept new ≡ kept (old + count)
 hands-out (Serve.Put key life bytes) count old new served h = h
 hands-out (Serve.Fetch key life from room) count old new served h = h
@@ -102,7 +102,7 @@ pub record Follows (request : ChunkRequest) (answer : ChunkReply) (server : Serv
   pub is : IsServer behind (server_step request (chunk_outcome answer.answer) server).server
 
 pub store-follows : (before : Stored) (request : ChunkRequest) (answer : ChunkReply) (behind : Stored) (server : Server)
-    → IsServedByStore request → IsServer before server → StoreServes before request answer behind
+    → IsAskedOfServer request → IsServer before server → StoreServes before request answer behind
     → Follows request answer server behind
 store-follows before request answer behind server served is serves =
     let led = serves.step server is.held is.told is.stands in

@@ -1,5 +1,4 @@
 pub mod Calls
 pub mod Follows
 pub mod Running
-pub mod Served
 pub mod Turns
