@@ -13,7 +13,7 @@ use Rattle.qfs_actor.specs.declared.course.Course.{Course}
 use Rattle.qfs_actor.specs.declared.doing.Doing.{Doing}
 
 -- how an actor stands to its next request, by that of its machine; one that has finished is unready
-unfoldable pub readiness_in : Option Doing → Readiness
+abbrev pub readiness_in : Option Doing → Readiness
 readiness_in None = Unready
 readiness_in (Some doing) = readiness_of doing
 

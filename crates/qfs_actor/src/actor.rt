@@ -53,7 +53,7 @@ impl Actor {
         ensures { result ≡ at_start layout number commands }
     {
         let post = Post { number, layout };
-        let told = told_at_start(&post, commands.as_slice());
+        let told = told_at_start(&post, &commands);
         let course = Course::new(alloc, post, commands.into_vec());
         Actor { course, told }
     }

@@ -5,6 +5,7 @@ ghost use Rattle.qfs_model_actor.specs.Actor.{starting, after_reply};
 
 use qfs_base::command::Command;
 use qfs_base::layout::Layout;
+use qfs_base::listing::Listing;
 use qfs_base::numbers::ActorId;
 use qfs_base::reply::NodeReply;
 use qfs_machine::Told;
@@ -31,10 +32,10 @@ pub struct Post {
 }
 
 /// An actor at its first command.
-pub fn told_at_start(post: &Post, commands: &[Command]) -> Told<Plain>
+pub fn told_at_start(post: &Post, commands: &Listing<Command>) -> Told<Plain>
     ensures { result.value ≡ starting post.now.layout post.now.number commands.now }
 {
-    Told::of(post, &commands)
+    Told::of(post, commands)
 }
 
 /// The same actor after a node's reply.

@@ -1,0 +1,4 @@
+pub mod Stripes
+pub mod Puts
+pub mod Turns
+pub mod Nodes

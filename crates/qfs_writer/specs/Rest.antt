@@ -1,0 +1,85 @@
+-- What is left of a put at each of its stages.
+use Rattle.std.specs.Prelude.{ℕ, ◌+◌, ◌<◌, Bool, true, List, [], length, ⊤}
+use Rattle.qfs_base.specs.Layout.{blocks_of}
+use Rattle.qfs_base.specs.Recipe.{bytes_of}
+use Rattle.qfs_base.specs.declared.chunk.Copy.{Copy}
+use Rattle.qfs_base.specs.declared.command.Reply.TheVariants as Report
+use Rattle.qfs_base.specs.declared.reply.Granted.{Granted}
+use Rattle.qfs_base.specs.declared.request.MetaRequest.TheVariants as Ask
+use Rattle.qfs_model_actor.specs.Ask.{ask}
+use Rattle.qfs_model_actor.specs.Hold.{nothing, unclosed, end_with}
+use Rattle.qfs_model_actor.specs.Put.{aborted, store, store_slot, put_slots_from, close_file, put_work}
+use Rattle.qfs_model_actor.specs.Work.{Report, Work, ends}
+use Rattle.qfs_writer.specs.declared.stage.Ending.{Ending}
+use Rattle.qfs_writer.specs.declared.stage.Ending.TheVariants as With
+use Rattle.qfs_writer.specs.declared.stage.Fault.{Fault}
+use Rattle.qfs_writer.specs.declared.stage.Fault.TheVariants as By
+use Rattle.qfs_writer.specs.declared.stage.Put.{Put}
+use Rattle.qfs_writer.specs.declared.stage.PutSlot.{PutSlot}
+use Rattle.qfs_writer.specs.declared.stage.Stage.{Stage}
+use Rattle.qfs_writer.specs.declared.stage.Stage.TheVariants as At
+
+-- the bytes that are put
+unfoldable pub bytes_put : Put → List ℕ
+bytes_put put = bytes_of put.recipe
+
+-- the report of a command that a fault ends
+unfoldable pub fault_report : Fault → Report
+fault_report By.LogFault = Report.LogFault
+fault_report By.NoMemory = Report.NoMemory
+fault_report (By.BadLog right offset) = Report.BadLog right offset
+
+-- the report of a put that ends so
+unfoldable pub report_of : Ending → Report
+report_of (With.Stored place len) = Report.Stored place len
+report_of (With.NoServer place index slot) = Report.PutNoServer place index slot
+report_of (With.Refused place refusal) = Report.Refused place refusal
+report_of (With.Dropped turn) = Report.Dropped turn
+report_of (With.Fault fault) = fault_report fault
+report_of With.Unnamed = Report.Unnamed
+
+-- a grant of a copy
+unfoldable pub grant_of : PutSlot → Copy → Granted
+grant_of at copy =
+    record {
+      block = record { file = at.file; index = at.index };
+      slot = at.slot;
+      version = copy.version;
+      server = copy.server;
+      life = copy.life;
+      lease = 0;
+      sources = [];
+      rows = 0;
+    }
+
+-- what is left of a put behind a slot
+unfoldable pub behind : Put → PutSlot → Work
+behind put at = put_slots_from put.layout (bytes_put put) at.file at.index (at.slot + 1)
+
+-- what is left of a put that asks for a server, `again` or for the first time, and may take so many grants
+unfoldable pub rest_of_grant : Put → PutSlot → ℕ → Bool → Work
+rest_of_grant put at grants again =
+    store_slot grants again put.layout (bytes_put put) at.file at.index at.slot (behind put at)
+
+-- what is left of a put
+unfoldable pub rest_at : Put → Stage → Work
+rest_at put At.Creating = put_work put.layout put.number put.path (bytes_put put)
+rest_at put (At.Granting at) = rest_of_grant put at at.grants at.again
+rest_at put (At.Storing at copy) =
+    store put.layout (bytes_put put) at.file at.index at.slot (behind put at) (rest_of_grant put at at.grants true)
+    (grant_of at copy)
+rest_at put (At.Closing file) = close_file (length (bytes_put put)) file
+rest_at put (At.Aborting file index slot) = ask nothing (Ask.Abort file) (aborted index slot)
+rest_at put (At.GivingUp file fault) = end_with (unclosed file) (fault_report fault)
+rest_at put (At.Ended ending) = ends (report_of ending)
+
+-- the slot is one of a block of the file
+pub record IsPutSlot (put : Put) (at : PutSlot) : Type 0 where
+  pub block : at.index < blocks_of put.layout.s put.layout.r (length (bytes_put put))
+  pub slot : at.slot < 9
+
+-- what holds at each stage
+abbrev pub IsAt : Put → Stage → Type 0
+IsAt put (At.Granting at) = IsPutSlot put at
+IsAt put (At.Storing at copy) = IsPutSlot put at
+IsAt put stage = ⊤

@@ -1,0 +1,106 @@
+//! The chunks of a file: what a put stores in each slot of each block.
+
+ghost use Rattle.std.specs.Prelude.{◌≡◌, ℕ, ◌+◌, ◌-◌, ◌*◌, ◌<◌, ◌≤◌, length, slice_index, EachIndex, IfOk};
+ghost use Rattle.qfs_base.specs.Layout.{blocks_of};
+ghost use Rattle.qfs_base.specs.Recipe.{bytes_of};
+ghost use Rattle.qfs_model_slot.specs.CodeWord.{parity};
+ghost use Rattle.qfs_model_slot.specs.Slot.{data_byte, data_bytes, slot_of};
+
+use qfs_base::listing::Listing;
+use qfs_base::lists::Bytes;
+use qfs_base::numbers::Slot;
+use qfs_base::recipe::Recipe;
+use qfs_galois::{add_scaled, pow2};
+use qfs_recipe::RecipeCalls;
+use qfs_stripe::{Layout, LayoutCalls};
+use std::alloc::{AllocError, Global};
+
+/// The slots of a block that hold the file's own bytes.
+const DATA_SLOTS: Slot = 6;
+
+/// The bytes of slot `slot` of block `index` of a file with these bytes, at most 67,108,864 of them:
+/// a data slot holds one stripe of each row, with zeros past the file's end, and a parity slot
+/// completes the code words.
+pub fn chunk_of(
+    alloc: Global,
+    layout: &Layout,
+    recipe: &Recipe,
+    index: u32,
+    slot: Slot,
+) -> Result<Bytes, AllocError>
+    requires block { index < blocks_of layout.now.s layout.now.r (length (bytes_of recipe.now)) }
+    ensures value { IfOk result (λ chunk. chunk ≡ slot_of layout.now (bytes_of recipe.now) index slot) }
+    ensures bound { IfOk result (λ chunk. length chunk ≤ 67108864) }
+{
+    let rows = layout.rows_of(recipe.len(), index);
+    let len = rows as usize * layout.s as usize;
+    let mut chunk = vec![in alloc; 0; len]?;
+    if slot < DATA_SLOTS {
+        fill_stripes(layout, recipe, index, slot, rows, chunk.as_mut_slice());
+    } else {
+        let mut part = vec![in alloc; 0; len]?;
+        add_data(
+            layout,
+            recipe,
+            index,
+            slot - DATA_SLOTS,
+            rows,
+            part.as_mut_slice(),
+            chunk.as_mut_slice(),
+        );
+    }
+    Ok(Listing::from_vec(chunk))
+}
+
+/// Adds up the six data slots of the first `rows` rows of block `index`, each with its weight in the
+/// parity slot of this number. `part` is room for one of them.
+fn add_data(
+    layout: &Layout,
+    recipe: &Recipe,
+    index: u32,
+    number: u8,
+    rows: u32,
+    part: &mut [u8],
+    sums: &mut [u8],
+)
+    requires part_len { length part.old ≡ rows * layout.now.s }
+    requires sums_len { length sums.old ≡ rows * layout.now.s }
+    requires zeros { (a : ℕ) → slice_index sums.old a ≡ 0 }
+    ensures { EachIndex sums.new (λ a. slice_index sums.new a ≡ parity number (data_bytes layout.now (bytes_of recipe.now) index a)) }
+{
+    let mut slot = DATA_SLOTS;
+    while slot > 0 {
+        slot -= 1;
+        fill_stripes(layout, recipe, index, slot, rows, part);
+        let weight = pow2(u32::from(number) * u32::from(slot));
+        add_scaled(sums, part, weight);
+    }
+}
+
+/// Fills `out` with the stripes of a data slot in the first `rows` rows of block `index`.
+fn fill_stripes(layout: &Layout, recipe: &Recipe, index: u32, slot: Slot, rows: u32, out: &mut [u8])
+    requires slot { slot < 6 }
+    requires len { length out.old ≡ rows * layout.now.s }
+    ensures { EachIndex out.new (λ a. slice_index out.new a ≡ data_byte layout.now (bytes_of recipe.now) index slot a) }
+{
+    let stripe = layout.s as usize;
+    let row_bytes = 6 * stripe;
+    let block_bytes = row_bytes * layout.r as usize;
+    let first = index as usize * block_bytes + slot as usize * stripe;
+    for row in 0..rows as usize {
+        let at = row * stripe;
+        fill_from(recipe, first + row * row_bytes, &mut out[at..at + stripe]);
+    }
+}
+
+/// Fills `out` with the recipe's bytes from `from` on, and with zeros past the last of them.
+fn fill_from(recipe: &Recipe, from: usize, out: &mut [u8])
+    ensures { EachIndex out.new (λ i. slice_index out.new i ≡ slice_index (bytes_of recipe.now) (from + i)) }
+{
+    let len = recipe.len() as usize;
+    let start = from.min(len);
+    let count = out.len().min(len - start);
+    let (filled, past) = out.split_at_mut(count);
+    recipe.fill(start as u32, filled);
+    past.fill(0);
+}

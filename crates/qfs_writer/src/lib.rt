@@ -1,0 +1,11 @@
+//! A put: it makes a file, stores each slot of each block on a server, and closes the file.
+#![tactic(auto)]
+
+mod chunk;
+mod request;
+mod stage;
+mod turn;
+mod writer;
+
+pub use chunk::chunk_of;
+pub use writer::Writer;

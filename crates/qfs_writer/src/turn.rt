@@ -1,0 +1,289 @@
+//! How a put goes on when a node has answered.
+#![tactic(auto, unfolding(crate::specs::Rest::rest_at, crate::specs::Rest::report_of, crate::specs::Rest::fault_report, crate::specs::Moves::on_answer_at, crate::specs::Moves::on_grant, crate::specs::Moves::on_store, crate::specs::Moves::hold_at, qfs_model_actor::specs::Put::closed, qfs_model_actor::specs::Put::aborted, qfs_model_actor::specs::Put::chosen, qfs_model_actor::specs::Put::created, qfs_model_actor::specs::Tree::refused, qfs_model_actor::specs::Ask::on_served, qfs_model_actor::specs::Ask::after_store, qfs_model_actor::specs::Hold::on_answer, qfs_model_actor::specs::Hold::was_given_back, qfs_model_actor::specs::Hold::end_with, qfs_model_actor::specs::Hold::give_back, qfs_model_actor::specs::Grants::is_grant_of))]
+
+ghost use Rattle.std.specs.Prelude.{◌≡◌, ◌+◌, length, true, false};
+ghost use Rattle.qfs_base.specs.declared.chunk.Copy.{Copy};
+ghost use Rattle.qfs_model_actor.specs.Grants.{is_grant_of};
+ghost use Rattle.qfs_model_actor.specs.Hold.{end_with, on_answer, was_given_back};
+ghost use Rattle.qfs_model_actor.specs.Put.{aborted, closed, created, put_blocks_from};
+ghost use Rattle.qfs_model_actor.specs.Tree.{refused};
+ghost use Rattle.qfs_model_actor.specs.Work.{ends, goes_on};
+ghost use Rattle.qfs_writer.specs.Moves.{hold_at, on_answer_at, on_grant, on_store, AsksMeta};
+ghost use Rattle.qfs_writer.specs.Rest.{bytes_put, behind, fault_report, rest_at, IsAt, IsPutSlot};
+
+use crate::stage::{Ending, Fault, Put, PutSlot, Stage};
+use qfs_base::chunk::Copy;
+use qfs_base::numbers::{FileId, Slot};
+use qfs_base::reply::{ChunkAnswer, Granted, MetaReply, NodeReply};
+
+/// The last slot of a block.
+const LAST_SLOT: Slot = 8;
+
+/// How many grants of one slot a put takes.
+const MOST_GRANTS: u8 = 64;
+
+/// The stage of a put at a slot that has had no server yet.
+fn at_slot(file: FileId, index: u32, slot: Slot) -> Stage
+    ensures { result ≡ Stage.Granting (record { file = file; index = index; slot = slot; grants = 64; again = false }) }
+{
+    Stage::Granting(PutSlot {
+        file,
+        index,
+        slot,
+        grants: MOST_GRANTS,
+        again: false,
+    })
+}
+
+/// The stage of a put whose file is there.
+fn begun(put: &Put, file: FileId) -> Stage
+    ensures rest { rest_at put.now result ≡ put_blocks_from put.now.layout (bytes_put put.now) file 0 }
+    ensures at { IsAt put.now result }
+{
+    if put.blocks() == 0 {
+        Stage::Closing(file)
+    } else {
+        at_slot(file, 0, 0)
+    }
+}
+
+/// The stage of a put behind a slot that was stored: at the next slot of its block, at the first
+/// one of the next block, or at the end of the file.
+fn behind(put: &Put, at: PutSlot) -> Stage
+    requires { IsPutSlot put.now at }
+    ensures rest { rest_at put.now result ≡ behind put.now at }
+    ensures at { IsAt put.now result }
+{
+    if at.slot < LAST_SLOT {
+        return at_slot(at.file, at.index, at.slot + 1);
+    }
+    let blocks = put.blocks();
+    if at.index + 1 < blocks {
+        at_slot(at.file, at.index + 1, 0)
+    } else {
+        Stage::Closing(at.file)
+    }
+}
+
+/// The stage of a put that wants something else than this answer to its first request: it ends at
+/// a refusal of the tree.
+fn refused(put: &Put, answer: &MetaReply) -> Stage
+    ensures rest { rest_at put.now result ≡ refused answer.now }
+    ensures at { IsAt put.now result }
+{
+    match answer {
+        MetaReply::Refused { refusal, place } => Stage::Ended(Ending::Refused {
+            place: *place,
+            refusal: *refusal,
+        }),
+        _ => Stage::Ended(Ending::Unnamed),
+    }
+}
+
+/// The stage of a put at the answer to its first request.
+fn created(put: &Put, answer: &MetaReply) -> Stage
+    ensures rest { rest_at put.now result ≡ created put.now.layout (bytes_put put.now) answer.now }
+    ensures at { IsAt put.now result }
+{
+    match answer {
+        MetaReply::Created { file, .. } => begun(put, *file),
+        _ => refused(put, answer),
+    }
+}
+
+/// Whether a grant is one of the block and slot that were asked for.
+fn is_grant_of(at: PutSlot, grant: &Granted) -> bool
+    ensures { result ≡ is_grant_of at.index at.slot grant.now }
+{
+    grant.block.index == at.index && grant.slot == at.slot
+}
+
+/// The stage of a put at a grant.
+fn use_grant(put: &Put, at: PutSlot, grant: &Granted) -> Stage
+    requires { IsPutSlot put.now at }
+    ensures rest { rest_at put.now result ≡ on_grant put.now at (MetaReply.Granted grant.now) }
+    ensures at { IsAt put.now result }
+{
+    if at.grants == 0 || !is_grant_of(at, grant) {
+        return Stage::Ended(Ending::Unnamed);
+    }
+    let copy = Copy {
+        server: grant.server,
+        life: grant.life,
+        version: grant.version,
+    };
+    let at = PutSlot {
+        file: at.file,
+        index: at.index,
+        slot: at.slot,
+        grants: at.grants - 1,
+        again: at.again,
+    };
+    Stage::Storing(at, copy)
+}
+
+/// The stage of a put at the answer to its request for a server.
+fn granted(put: &Put, at: PutSlot, answer: &MetaReply) -> Stage
+    requires { IsPutSlot put.now at }
+    ensures rest { rest_at put.now result ≡ on_grant put.now at answer.now }
+    ensures at { IsAt put.now result }
+{
+    match answer {
+        MetaReply::Granted(grant) => use_grant(put, at, grant),
+        MetaReply::NoServer { .. } => Stage::Aborting(at.file, at.index, at.slot),
+        _ => Stage::Ended(Ending::Unnamed),
+    }
+}
+
+/// The stage of a put whose server for a slot failed.
+fn grant_again(at: PutSlot) -> Stage
+    ensures { result ≡ Stage.Granting (record at { again = true }) }
+{
+    Stage::Granting(PutSlot {
+        file: at.file,
+        index: at.index,
+        slot: at.slot,
+        grants: at.grants,
+        again: true,
+    })
+}
+
+/// The stage of a put at a server's answer to a slot that is stored there.
+fn stored(put: &Put, at: PutSlot, answer: &ChunkAnswer) -> Stage
+    requires { IsPutSlot put.now at }
+    ensures rest { rest_at put.now result ≡ on_store put.now at answer.now }
+    ensures at { IsAt put.now result }
+{
+    match answer {
+        ChunkAnswer::Stored => behind(put, at),
+        ChunkAnswer::NoMemory => Stage::GivingUp(at.file, Fault::NoMemory),
+        ChunkAnswer::Down | ChunkAnswer::Lost { .. } | ChunkAnswer::Fault => grant_again(at),
+        _ => Stage::Ended(Ending::Unnamed),
+    }
+}
+
+/// The ending of a put at the answer to its request to close the file.
+fn closed(put: &Put, answer: &MetaReply) -> Ending
+    ensures { rest_at put.now (Stage.Ended result) ≡ closed (length (bytes_put put.now)) answer.now }
+{
+    match answer {
+        MetaReply::Done { place } => Ending::Stored {
+            place: *place,
+            len: put.len(),
+        },
+        _ => Ending::Unnamed,
+    }
+}
+
+/// The ending of a put that found no server for a slot, at the answer to its request to give the
+/// file up.
+fn aborted(put: &Put, index: u32, slot: Slot, answer: &MetaReply) -> Ending
+    ensures { rest_at put.now (Stage.Ended result) ≡ aborted index slot answer.now }
+{
+    match answer {
+        MetaReply::Done { place } => Ending::NoServer {
+            place: *place,
+            index,
+            slot,
+        },
+        _ => Ending::Unnamed,
+    }
+}
+
+/// The ending of a put that gave its file up at a fault.
+fn given_up(put: &Put, fault: Fault, answer: &MetaReply) -> Ending
+    ensures { rest_at put.now (Stage.Ended result) ≡ was_given_back (ends (fault_report fault)) answer.now }
+{
+    match answer {
+        MetaReply::Done { .. } => Ending::Fault(fault),
+        _ => Ending::Unnamed,
+    }
+}
+
+/// The stage of a put that a fault of the metaserver ends: it gives its file up if the file isn't
+/// given up or closed yet by this very request.
+fn give_up(put: &Put, stage: Stage, fault: Fault) -> Stage
+    ensures rest { rest_at put.now result ≡ end_with (hold_at stage) (fault_report fault) }
+    ensures at { IsAt put.now result }
+{
+    match stage {
+        Stage::Granting(at) => Stage::GivingUp(at.file, fault),
+        Stage::Closing(file) => Stage::GivingUp(file, fault),
+        _ => Stage::Ended(Ending::Fault(fault)),
+    }
+}
+
+/// The stage of a put at an answer of the metaserver that doesn't end every command.
+fn answered(put: &Put, stage: Stage, answer: &MetaReply) -> Stage
+    requires { IsAt put.now stage }
+    ensures rest { rest_at put.now result ≡ on_answer_at put.now stage answer.now }
+    ensures at { IsAt put.now result }
+{
+    match stage {
+        Stage::Creating => created(put, answer),
+        Stage::Granting(at) => granted(put, at, answer),
+        Stage::Closing(_) => Stage::Ended(closed(put, answer)),
+        Stage::Aborting(_, index, slot) => Stage::Ended(aborted(put, index, slot, answer)),
+        Stage::GivingUp(_, fault) => Stage::Ended(given_up(put, fault, answer)),
+        Stage::Storing(..) | Stage::Ended(_) => Stage::Ended(Ending::Unnamed),
+    }
+}
+
+/// The stage of a put at an answer of the metaserver.
+fn on_meta(put: &Put, stage: Stage, answer: &MetaReply) -> Stage
+    requires { IsAt put.now stage }
+    ensures rest { rest_at put.now result ≡ on_answer (end_with (hold_at stage)) (on_answer_at put.now stage) answer.now }
+    ensures at { IsAt put.now result }
+{
+    match answer {
+        MetaReply::Dropped { turn } => Stage::Ended(Ending::Dropped { turn: *turn }),
+        MetaReply::LogFault => give_up(put, stage, Fault::LogFault),
+        MetaReply::NoMemory => give_up(put, stage, Fault::NoMemory),
+        MetaReply::BadLog { right, offset } => {
+            let fault = Fault::BadLog {
+                right: *right,
+                offset: *offset,
+            };
+            give_up(put, stage, fault)
+        }
+        _ => answered(put, stage, answer),
+    }
+}
+
+/// The stage of a put that asked the metaserver, at a node's reply.
+fn after_question(put: &Put, stage: Stage, reply: &NodeReply) -> Stage
+    requires at { IsAt put.now stage }
+    requires asks { AsksMeta stage }
+    ensures rest { rest_at put.now result ≡ goes_on (rest_at put.now stage) reply.now }
+    ensures at { IsAt put.now result }
+{
+    match reply {
+        NodeReply::Meta(answer) => on_meta(put, stage, answer),
+        NodeReply::Chunk(_) => Stage::Ended(Ending::Unnamed),
+    }
+}
+
+/// The stage of a put that asked a server to store a slot, at a node's reply.
+fn after_store(put: &Put, at: PutSlot, reply: &NodeReply) -> Stage
+    requires { IsPutSlot put.now at }
+    ensures rest { (copy : Copy) → rest_at put.now result ≡ goes_on (rest_at put.now (Stage.Storing at copy)) reply.now }
+    ensures at { IsAt put.now result }
+{
+    match reply {
+        NodeReply::Chunk(reply) => stored(put, at, &reply.answer),
+        NodeReply::Meta(_) => Stage::Ended(Ending::Unnamed),
+    }
+}
+
+/// The stage of a put after a node's reply to its request. One that has ended stays so.
+pub fn stage_after(put: &Put, stage: Stage, reply: &NodeReply) -> Stage
+    requires { IsAt put.now stage }
+    ensures rest { rest_at put.now result ≡ goes_on (rest_at put.now stage) reply.now }
+    ensures at { IsAt put.now result }
+{
+    match stage {
+        Stage::Storing(at, _) => after_store(put, at, reply),
+        Stage::Ended(_) => stage,
+        _ => after_question(put, stage, reply),
+    }
+}

@@ -1,0 +1,149 @@
+//! The machine of a put.
+
+ghost use Rattle.std.specs.Prelude.{◌≡◌, None};
+ghost use Rattle.qfs_base.specs.Recipe.{bytes_of};
+ghost use Rattle.qfs_model_actor.specs.Shown.{kept_report};
+ghost use Rattle.qfs_machine.specs.declared.machine.Readiness.{Readiness};
+ghost use Rattle.qfs_model_actor.specs.Put.{put_work};
+ghost use Rattle.qfs_model_actor.specs.Work.{ends, request_in};
+ghost use Rattle.qfs_writer.specs.Rest.{fault_report, report_of};
+ghost use Rattle.qfs_writer.specs.Standing.{rest_of};
+
+use crate::request::{node_of, request_at};
+use crate::stage::{Ending, Fault, Put, Stage};
+use crate::turn::stage_after;
+use qfs_base::command::{Excerpt, Reply};
+use qfs_base::numbers::NodeId;
+use qfs_base::path::Path;
+use qfs_base::recipe::Recipe;
+use qfs_base::reply::NodeReply;
+use qfs_base::request::NodeRequest;
+use qfs_machine::{Machine, Readiness};
+use qfs_stripe::Layout;
+use std::alloc::{AllocError, Global};
+use std::marker::Model;
+
+/// A put at work. Contracts see what is put, what the put waits for, and how it stands to its next
+/// request. What is left of it is a tree of questions, by the definition of a put.
+///
+/// It makes the bytes of a slot anew for each request that stores them.
+#[derive(Drop)]
+pub struct Writer {
+    alloc: Global,
+    put: Put,
+    stage: Stage,
+    readiness: Readiness,
+    request: Option<NodeRequest>,
+}
+
+impl Model for Writer {
+    ghost use Rattle.qfs_writer.specs.Standing.{Standing};
+
+    ghost Value = { Standing };
+
+    ghost use Rattle.qfs_writer.specs.Rest.{IsAt};
+    ghost use Rattle.qfs_writer.specs.Standing.{IsKept};
+
+    ghost view = { λ it. record { put = it.put; stage = it.stage; readiness = it.readiness } };
+
+    ghost invariant = { λ it. IsAt it.put it.stage × IsKept it.put it.stage it.request it.readiness };
+}
+
+impl Writer {
+    /// The put of a recipe's bytes as a new file at this path, which is the actor's command of this
+    /// number, from 1. Takes no memory.
+    pub fn new(alloc: Global, layout: Layout, number: u16, path: Path, recipe: Recipe) -> Writer
+        ensures rest { rest_of result ≡ put_work layout number path (bytes_of recipe) }
+        ensures unready { result.readiness ≡ Readiness.Unready }
+    {
+        let put = Put {
+            layout,
+            number,
+            path,
+            recipe,
+        };
+        Writer {
+            alloc,
+            put,
+            stage: Stage::Creating,
+            readiness: Readiness::Unready,
+            request: None,
+        }
+    }
+
+    /// How the put has ended.
+    fn ending(&self) -> Ending
+        requires { request_in (rest_of self.now) ≡ None }
+        ensures { rest_of self.now ≡ ends (report_of result) }
+    {
+        match self.stage {
+            Stage::Ended(ending) => ending,
+            _ => unreachable!(),
+        }
+    }
+}
+
+impl Machine for Writer {
+    ghost rest = { rest_of };
+
+    ghost readiness = { λ it. it.readiness };
+
+    fn ready(&mut self) -> Result<(), AllocError> {
+        match self.readiness {
+            Readiness::Unready => {
+                self.request = request_at(self.alloc, &self.put, self.stage)?;
+                self.readiness = Readiness::Ready;
+                Ok(())
+            }
+            _ => Ok(()),
+        }
+    }
+
+    fn goes_to(&self) -> Option<NodeId> {
+        node_of(self.stage)
+    }
+
+    fn next(&mut self) -> Option<NodeRequest> {
+        let request = self.request.take();
+        if request.is_some() {
+            self.readiness = Readiness::Out;
+        }
+        request
+    }
+
+    fn took(&mut self, reply: NodeReply) {
+        self.stage = stage_after(&self.put, self.stage, &reply);
+        self.readiness = Readiness::Unready;
+    }
+
+    fn into_reply(self) -> Reply<Excerpt> {
+        reply_of(self.ending())
+    }
+}
+
+/// The report of a put that ends so.
+#[tactic(auto, unfolding(crate::specs::Rest::report_of, crate::specs::Rest::fault_report, qfs_model_actor::specs::Shown::shown_reply))]
+fn reply_of(ending: Ending) -> Reply<Excerpt>
+    ensures { result ≡ kept_report (report_of ending) }
+{
+    match ending {
+        Ending::Stored { place, len } => Reply::Stored { place, len },
+        Ending::NoServer { place, index, slot } => Reply::PutNoServer { place, index, slot },
+        Ending::Refused { place, refusal } => Reply::Refused { place, refusal },
+        Ending::Dropped { turn } => Reply::Dropped { turn },
+        Ending::Fault(fault) => reply_of_fault(fault),
+        Ending::Unnamed => Reply::Unnamed,
+    }
+}
+
+/// The report of a put that a fault ends.
+#[tactic(auto, unfolding(crate::specs::Rest::fault_report, qfs_model_actor::specs::Shown::shown_reply))]
+fn reply_of_fault(fault: Fault) -> Reply<Excerpt>
+    ensures { result ≡ kept_report (fault_report fault) }
+{
+    match fault {
+        Fault::LogFault => Reply::LogFault,
+        Fault::NoMemory => Reply::NoMemory,
+        Fault::BadLog { right, offset } => Reply::BadLog { right, offset },
+    }
+}
