@@ -1,2 +1,4 @@
+pub mod Lists
 pub mod Simulation
 pub mod Stands
+pub mod TurnLists

@@ -1,3 +1,4 @@
+pub mod AtWork
 pub mod Calls
 pub mod Follows
 pub mod Running
