@@ -1,5 +1,5 @@
 -- What an actor keeps is that of the actor of the definitions, at its first command and after each reply.
-use Rattle.std.proofs.Common.{◌≤◌, ◌<◌, ◌^◌, ◌+◌, ◌-◌, ◌≡◌, ◌∙◌, refl, sym, ap, subst, arith, zero, suc, true, false, ℕ, List, [], ◌∷◌, ◌++◌, length, Option, Some, None, IfSome, length-append}
+use Rattle.std.proofs.Common.{◌<◌, ◌^◌, ◌+◌, ◌-◌, ◌≡◌, ◌∙◌, refl, sym, ap, subst, arith, zero, suc, true, false, ℕ, List, [], ◌∷◌, ◌++◌, length, Option, Some, None, IfSome, length-append}
 use Rattle.std.specs.Prelude.{slice_get, drop, All, is_some, IsSome, option_map, option_and_then, Result, Ok, Err, OnOk, vec_len, vec_capacity}
 use Rattle.std.specs.Vec.Iter.{into_iter_items}
 use Rattle.std.proofs.lemmas.List.{length-drop}
@@ -10,13 +10,12 @@ use Rattle.qfs_base.specs.declared.command.Command.{Command}
 use Rattle.qfs_base.specs.declared.command.Command.TheVariants as Does
 use Rattle.qfs_base.specs.declared.command.FileCommand.TheVariants as File
 use Rattle.qfs_base.specs.declared.reply.NodeReply.{NodeReply}
-use Rattle.qfs_machine.specs.Asking.{IsOut, MayAsk}
+use Rattle.qfs_machine.specs.Asking.{MayAsk}
 use Rattle.qfs_machine.specs.declared.machine.Readiness.{Readiness}
 use Rattle.qfs_machine.specs.declared.machine.Readiness.TheVariants.{Unready, Ready, Out}
 use Rattle.qfs_model_actor.specs.Actor.{Actor, starting, work_left, request_of, node_of, moved_on, after_reply}
 use Rattle.qfs_model_actor.specs.Ask.{ask}
 use Rattle.qfs_model_actor.specs.Command.{work_of, file_work}
-use Rattle.qfs_model_actor.specs.Get.{get_work}
 use Rattle.qfs_model_actor.specs.Hold.{ask_or}
 use Rattle.qfs_model_actor.specs.Put.{put_work}
 use Rattle.qfs_model_actor.specs.Shown.{kept_report, lines_from}
@@ -80,9 +79,8 @@ has_ended (asks request next) none = absurd (cc)
 
 -- each command begins with a request
 pub work_of-asks : (layout : Shape) (number : ℕ) (command : Command) → IsBuilt command → IsSome (request_in (work_of layout number command))
-unfolding work_of file_work put_work get_work ask ask_or request_in
+unfolding work_of file_work put_work ask ask_or request_in
 work_of-asks layout number (Does.File (File.Put path recipe)) built = refl
-work_of-asks layout number (Does.File (File.Get path range)) built = refl
 work_of-asks layout number (Does.File command) built = absurd built
 work_of-asks layout number command built = absurd built
 

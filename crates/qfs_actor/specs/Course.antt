@@ -1,12 +1,11 @@
 -- When what an actor keeps is that of an actor of the definitions.
-use Rattle.std.specs.Prelude.{◌≡◌, ℕ, ◌+◌, ◌<◌, ◌^◌, List, length, drop, All, Option, Some, None, option_map, IfSome, IsSome, vec_len, vec_capacity, ⊤}
+use Rattle.std.specs.Prelude.{◌≡◌, ◌+◌, ◌<◌, ◌^◌, length, drop, All, Option, Some, None, option_map, IfSome, IsSome, vec_len, vec_capacity, ⊤}
 use Rattle.std.specs.Vec.Iter.{into_iter_items}
-use Rattle.qfs_base.specs.declared.command.ReplyLine.{ReplyLine}
 use Rattle.qfs_model_actor.specs.Shown.{lines_from}
 use Rattle.qfs_machine.specs.declared.machine.Readiness.{Readiness}
 use Rattle.qfs_machine.specs.declared.machine.Readiness.TheVariants.{Unready, Ready, Out}
 use Rattle.qfs_model_actor.specs.Actor.{Actor, work_left}
-use Rattle.qfs_model_actor.specs.Work.{Work, request_in}
+use Rattle.qfs_model_actor.specs.Work.{request_in}
 use Rattle.qfs_actor.specs.Doing.{rest_of, readiness_of}
 use Rattle.qfs_actor.specs.Forms.{IsBuilt}
 use Rattle.qfs_actor.specs.declared.course.Course.{Course}

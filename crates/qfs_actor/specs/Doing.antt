@@ -2,13 +2,11 @@
 use Rattle.qfs_machine.specs.declared.machine.Readiness.{Readiness}
 use Rattle.qfs_model_actor.specs.Work.{Work}
 use Rattle.qfs_actor.specs.declared.doing.Doing.{Doing}
-use Rattle.qfs_actor.specs.declared.doing.Doing.TheVariants.{Put, Get}
-use Rattle.qfs_actor.specs.Standin.{writer_rest, reader_rest}
+use Rattle.qfs_actor.specs.declared.doing.Doing.TheVariants.{Put}
+use Rattle.qfs_writer.specs.Standing.{rest_of as writer_rest}
 
 unfoldable pub rest_of : Doing → Work
 rest_of (Put writer) = writer_rest writer
-rest_of (Get reader) = reader_rest reader
 
 unfoldable pub readiness_of : Doing → Readiness
 readiness_of (Put writer) = writer.readiness
-readiness_of (Get reader) = reader.readiness

@@ -3,4 +3,3 @@ pub mod Doing
 pub mod Forms
 pub mod Plain
 pub mod Standing
-pub mod Standin

@@ -45,8 +45,7 @@ impl Model for Actor {
 }
 
 impl Actor {
-    /// An actor at its first command. Each command is one that is built: a put of bytes that are
-    /// spelled out, or a get. Takes no memory.
+    /// An actor at its first command. Each command is one that is built so far: a put. Takes no memory.
     pub fn new(alloc: Global, layout: Layout, number: ActorId, commands: Listing<Command>) -> Actor
         requires few { length commands < 2 ^ 16 }
         requires built { All IsBuilt commands }

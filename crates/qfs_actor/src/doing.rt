@@ -7,21 +7,19 @@ ghost use Rattle.qfs_model_actor.specs.Command.{work_of, file_work};
 ghost use Rattle.qfs_actor.specs.Forms.{IsBuilt, IsBuiltFile};
 ghost use Rattle.qfs_actor.specs.Doing.{rest_of, readiness_of};
 
-use crate::standin::{Reader, Writer};
 use qfs_base::command::{Command, Excerpt, FileCommand, Reply};
 use qfs_base::numbers::NodeId;
-use qfs_base::recipe::Form;
 use qfs_base::reply::NodeReply;
 use qfs_base::request::NodeRequest;
 use qfs_machine::Machine;
 use qfs_stripe::Layout;
+use qfs_writer::Writer;
 use std::alloc::{AllocError, Global};
 
 /// A command at work.
 #[derive(Drop)]
 pub enum Doing {
     Put(Writer),
-    Get(Reader),
 }
 
 impl Doing {
@@ -45,11 +43,9 @@ fn begin_file(alloc: Global, layout: Layout, number: u16, command: FileCommand) 
     ensures unready { readiness_of result ≡ Readiness.Unready }
 {
     match command {
-        FileCommand::Put(path, recipe) => match recipe.form {
-            Form::Hex(bytes) => Doing::Put(Writer::new(alloc, layout, number, path, bytes)),
-            _ => unreachable!(),
-        },
-        FileCommand::Get(path, range) => Doing::Get(Reader::new(alloc, layout, path, range)),
+        FileCommand::Put(path, recipe) => {
+            Doing::Put(Writer::new(alloc, layout, number, path, recipe))
+        }
         _ => unreachable!(),
     }
 }
@@ -62,35 +58,30 @@ impl Machine for Doing {
     fn ready(&mut self) -> Result<(), AllocError> {
         match self {
             Doing::Put(writer) => writer.ready(),
-            Doing::Get(reader) => reader.ready(),
         }
     }
 
     fn goes_to(&self) -> Option<NodeId> {
         match self {
             Doing::Put(writer) => writer.goes_to(),
-            Doing::Get(reader) => reader.goes_to(),
         }
     }
 
     fn next(&mut self) -> Option<NodeRequest> {
         match self {
             Doing::Put(writer) => writer.next(),
-            Doing::Get(reader) => reader.next(),
         }
     }
 
     fn took(&mut self, reply: NodeReply) {
         match self {
             Doing::Put(writer) => writer.took(reply),
-            Doing::Get(reader) => reader.took(reply),
         }
     }
 
     fn into_reply(self) -> Reply<Excerpt> {
         match self {
             Doing::Put(writer) => writer.into_reply(),
-            Doing::Get(reader) => reader.into_reply(),
         }
     }
 }

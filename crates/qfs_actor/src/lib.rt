@@ -5,7 +5,8 @@ mod actor;
 mod course;
 mod doing;
 mod plain;
-mod standin;
+#[cfg(test)]
+mod tests;
 
 pub use actor::Actor;
 pub use doing::Doing;

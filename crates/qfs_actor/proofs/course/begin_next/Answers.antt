@@ -1,4 +1,4 @@
-use Rattle.std.proofs.Common.{◌≡◌, subst, sym}
+use Rattle.std.proofs.Common.{subst, sym}
 use Rattle.std.specs.Prelude.{IsSome}
 use Rattle.qfs_model_actor.specs.Work.{Work, request_in}
 use Rattle.qfs_actor.specs.Forms.{IsBuilt}

@@ -2,10 +2,6 @@ use Rattle.qfs_model_actor.specs.Command.{file_work}
 use Rattle.qfs_actor.specs.Doing.{rest_of}
 use Rattle.qfs_actor.proofs.doing.begin_file.Goals as goal
 
-pub returns-in-Hex-clause-rest : goal.returns-in-Hex-clause-rest
+pub returns-clause-rest : goal.returns-clause-rest
 unfolding rest_of file_work
-returns-in-Hex-clause-rest c = rw (c.in-Put.is, ← c.recipe.view_is, c.in-Hex.is) (rw c.in-Hex.bytes-is at c.new.ensures.rest)
-
-pub returns-in-Get-clause-rest : goal.returns-in-Get-clause-rest
-unfolding rest_of file_work
-returns-in-Get-clause-rest c = rw c.in-Get.is c.new-in-Get.ensures.rest
+returns-clause-rest c = rw c.in-Put.is c.new.ensures.rest

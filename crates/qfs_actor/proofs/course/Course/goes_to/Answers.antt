@@ -1,4 +1,4 @@
-use Rattle.std.proofs.Common.{sym, refl}
+use Rattle.std.proofs.Common.{refl}
 use Rattle.qfs_actor.proofs.Courses.{node_of-course}
 use Rattle.qfs_actor.proofs.course.Course.goes_to.Goals as goal
 

@@ -1,4 +1,4 @@
-use Rattle.std.proofs.Common.{sym, refl}
+use Rattle.std.proofs.Common.{refl}
 use Rattle.qfs_actor.proofs.Courses.{has_taken, request_of-course, same_rest}
 use Rattle.qfs_actor.proofs.course.Course.next.Goals as goal
 
