@@ -1,19 +1,28 @@
 -- What changes keep of the metaserver's state.
-use Rattle.std.proofs.Common.{ℕ, ◌+◌, ◌<◌, ◌^◌, true, false, List, [], ◌∷◌, ◌++◌, length, sym, subst, arith, length-append}
-use Rattle.std.proofs.lemmas.List.Elements.{All-cons, All-head, All-tail, All-map, All-weaker}
+use Rattle.std.proofs.Common.{◌≡◌, ℕ, ◌+◌, ◌<◌, ◌^◌, true, false, not, List, [], ◌∷◌, ◌++◌, length, refl, sym, subst, arith, length-append}
+use Rattle.std.proofs.lemmas.List.Elements.{All-cons, All-head, All-tail, All-map, All-filter, All-weaker}
 use Rattle.std.specs.List.{All}
+use Rattle.std.specs.Option.{IfSome}
+use Rattle.qfs_base.specs.declared.image.Grant.{Grant}
+use Rattle.qfs_base.specs.declared.image.SlotRecord.{SlotRecord}
 use Rattle.std.specs.declared.cmp.Ordering.{Ordering}
 use Rattle.std.specs.declared.cmp.Ordering.TheVariants.{Less, Equal, Greater}
-use Rattle.qfs_base.specs.declared.chunk.BlockId.{BlockId}
 use Rattle.qfs_base.specs.declared.image.MetaImage.{MetaImage}
 use Rattle.qfs_base.specs.declared.image.SlotRow.{SlotRow}
 use Rattle.qfs_base.specs.NameTree.{PathNames}
-use Rattle.qfs_base.specs.Table.{place, place_before, change_row}
-use Rattle.qfs_model_meta.specs.Apply.{apply, add_file, write_entry, with_slots, grant_slot, finish_lease}
-use Rattle.qfs_model_meta.specs.Change.{AddFile, CloseFile, GrantSlot, GiveLease, EndLease}
-use Rattle.qfs_model_meta.specs.Slots.{change_state, sealed_slot, is_of_file, seal_file, with_slot, granted_slot, slot_cmp}
+use Rattle.qfs_base.specs.declared.chunk.Copy.{Copy}
+use Rattle.qfs_base.specs.declared.request.SlotId.{SlotId}
+use Rattle.qfs_base.specs.Table.{IsRising, place, place_before, change_row}
+use Rattle.qfs_model_meta.specs.Apply.{apply, add_file, write_entry, with_slots, finish_lease}
+use Rattle.qfs_model_meta.specs.Change.{AddFile, CloseFile, GiveLease, EndLease}
+use Rattle.qfs_model_meta.specs.Condemned.{condemn, condemned_row, list_if_live}
+use Rattle.qfs_model_meta.specs.Servers.{is_live}
+use Rattle.qfs_model_meta.specs.Slots.{change_state, sealed_slot, is_slot, is_of_file, seal_file, forget_file, with_slot, granted_slot, failed_slot, ungranted_slot, slot_cmp, slot_at, never_granted}
 use Rattle.qfs_model_meta.specs.Step.{next_turn}
+use Rattle.qfs_meta.specs.Condemning.{aborting}
+use Rattle.qfs_meta.specs.Granting.{granted_in, freed_row, freed_slots}
 use Rattle.qfs_meta.specs.Kept.{IsKept, IsGrantedOnServer, AreGrantedOnServers, IsServerNumber}
+use Rattle.qfs_meta.proofs.RisingLaws.{slot_at-here, slot_at-behind, place_rises, map_rises, filter_rises, slot_cmp_total, state_keeps_order}
 use Rattle.qfs_meta.proofs.TableLaws.{change_where-map}
 
 one_more : {X : Type 0} (xs : List X) (x : X) → length xs + 1 < 2 ^ 32 → length (xs ++ x ∷ []) < 2 ^ 32
@@ -31,6 +40,12 @@ sealed_rows file rows granted =
     subst AreGrantedOnServers (sym (change_where-map (is_of_file file) (change_state sealed_slot) rows))
     (All-map IsGrantedOnServer (λ row. change_row (change_state sealed_slot) row (is_of_file file row)) rows
     (All-weaker IsGrantedOnServer _ (sealed_row file) rows granted))
+
+sealed_rise : (file : ℕ) (rows : List SlotRow) → IsRising slot_cmp rows → IsRising slot_cmp (seal_file file rows)
+unfolding seal_file
+sealed_rise file rows rising =
+    subst (IsRising slot_cmp) (sym (change_where-map (is_of_file file) (change_state sealed_slot) rows))
+    (map_rises slot_cmp (λ row. change_row (change_state sealed_slot) row (is_of_file file row)) rows (state_keeps_order sealed_slot (is_of_file file)) rising)
 
 pub placed_rows : {X : Type 0} (P : X → Type 0) (order : X → X → Ordering) (new : X) (rows : List X) → P new → All P rows → All P (place order new rows)
 placed_rows P order new [] holds all = All-cons P new [] holds all
@@ -50,6 +65,7 @@ kept-create m path actor command len kept file place = record {
   condemned = kept.condemned;
   places = one_more m.history _ place;
   servers = kept.servers;
+  slots = kept.slots;
   grants = kept.grants;
 }
 
@@ -62,6 +78,7 @@ kept-close m file actor command kept place = record {
   condemned = kept.condemned;
   places = one_more m.history _ place;
   servers = kept.servers;
+  slots = sealed_rise file m.slots kept.slots;
   grants = sealed_rows file m.slots kept.grants;
 }
 
@@ -73,6 +90,7 @@ kept-lease m actor file kept lease = record {
   condemned = kept.condemned;
   places = kept.places;
   servers = kept.servers;
+  slots = kept.slots;
   grants = kept.grants;
 }
 
@@ -84,17 +102,84 @@ kept-release m lease kept = record {
   condemned = kept.condemned;
   places = kept.places;
   servers = kept.servers;
+  slots = kept.slots;
   grants = kept.grants;
 }
 
-pub kept-grant : (m : MetaImage) (block : BlockId) (slot server actor : ℕ) → IsKept m → IsServerNumber server →
-    IsKept (next_turn (apply m (GrantSlot block slot server actor 0)))
-unfolding next_turn apply grant_slot with_slots with_slot granted_slot
-kept-grant m block slot server actor kept number = record {
+pub kept-grant : (m : MetaImage) (id : SlotId) (server actor : ℕ) → IsKept m → IsServerNumber server →
+    IsKept (next_turn (record m { slots = granted_in m.servers m.slots id server actor }))
+unfolding next_turn with_slot granted_slot
+kept-grant m id server actor kept number = record {
   files = kept.files;
   leases = kept.leases;
   condemned = kept.condemned;
   places = kept.places;
   servers = kept.servers;
+  slots = place_rises slot_cmp_total _ m.slots kept.slots;
   grants = placed_rows IsGrantedOnServer slot_cmp _ m.slots number kept.grants;
 }
+
+freed_row_granted : (id : SlotId) (server : ℕ) (row : SlotRow) → IsGrantedOnServer row → IsGrantedOnServer (freed_row id server row)
+unfolding change_state failed_slot ungranted_slot
+freed_row_granted id server row granted =
+    elim (is_slot id.block id.slot row) as (λ b. IsGrantedOnServer (change_row (change_state (λ state. failed_slot server (ungranted_slot state))) row b))
+    [ true ↦ tt | false ↦ granted ]
+
+pub freed_granted : (id : SlotId) (server : ℕ) (rows : List SlotRow) → AreGrantedOnServers rows → AreGrantedOnServers (freed_slots id server rows)
+freed_granted id server rows granted =
+    All-map IsGrantedOnServer (freed_row id server) rows (All-weaker IsGrantedOnServer _ (freed_row_granted id server) rows granted)
+
+-- what condemning a copy leaves alone
+pub condemn-kept : (id : SlotId) (copy : Copy) (m : MetaImage) → IsKept m → (condemn id.block id.slot copy m).next_condemned < 2 ^ 64 → IsKept (condemn id.block id.slot copy m)
+unfolding condemn list_if_live
+condemn-kept id copy m kept fits =
+    elim (is_live m.servers copy) as (λ b. (list_if_live (condemned_row m.next_condemned id.block id.slot copy m.leases) m b).next_condemned < 2 ^ 64 → IsKept (list_if_live (condemned_row m.next_condemned id.block id.slot copy m.leases) m b)) [
+      | true ↦ λ fits. record {
+        files = kept.files;
+        leases = kept.leases;
+        condemned = fits;
+        places = kept.places;
+        servers = kept.servers;
+        slots = kept.slots;
+        grants = kept.grants;
+      }
+      | false ↦ λ fits. kept
+    ] fits
+
+pub kept-again : (m n : MetaImage) (id : SlotId) (failed server actor : ℕ) → IsKept m → IsServerNumber server →
+    IsKept n →
+    IsKept (next_turn (record n { slots = granted_in m.servers (freed_slots id failed m.slots) id server actor }))
+unfolding next_turn with_slot granted_slot
+kept-again m n id failed server actor kept number rest = record {
+  files = rest.files;
+  leases = rest.leases;
+  condemned = rest.condemned;
+  places = rest.places;
+  servers = rest.servers;
+  slots = place_rises slot_cmp_total _ (freed_slots id failed m.slots)
+      (map_rises slot_cmp (freed_row id failed) m.slots (state_keeps_order (λ state. failed_slot failed (ungranted_slot state)) (is_slot id.block id.slot)) kept.slots);
+  grants = placed_rows IsGrantedOnServer slot_cmp _ (freed_slots id failed m.slots) number (freed_granted id failed m.slots kept.grants);
+}
+
+pub kept-abort : (m : MetaImage) (file : ℕ) → IsKept m → length m.history + 1 < 2 ^ 32 → (aborting file m).next_condemned < 2 ^ 64 → IsKept (next_turn (aborting file m))
+unfolding next_turn forget_file
+kept-abort m file kept place fits = record {
+  files = kept.files;
+  leases = kept.leases;
+  condemned = fits;
+  places = one_more m.history _ place;
+  servers = kept.servers;
+  slots = filter_rises slot_cmp (λ row. not (is_of_file file row)) m.slots kept.slots;
+  grants = All-filter (λ row. not (is_of_file file row)) IsGrantedOnServer m.slots kept.grants;
+}
+
+-- the pending grant of a slot is on a server
+pub granted_at : (slots : List SlotRow) (id : SlotId) → AreGrantedOnServers slots → IfSome (slot_at slots id.block id.slot).grant (λ (grant : Grant). IsServerNumber grant.copy.server)
+unfolding slot_at never_granted
+granted_at [] id granted = tt
+granted_at (row ∷ rows) id granted =
+    let OnServer : SlotRecord → Type 0 = λ state. IfSome state.grant (λ (grant : Grant). IsServerNumber grant.copy.server) in
+    elim (is_slot id.block id.slot row) as (λ b. is_slot id.block id.slot row ≡ b → OnServer (slot_at (row ∷ rows) id.block id.slot)) [
+      | true ↦ λ here. subst OnServer (sym (slot_at-here row rows id.block id.slot here)) (All-head IsGrantedOnServer row rows granted)
+      | false ↦ λ other. subst OnServer (sym (slot_at-behind row rows id.block id.slot other)) (granted_at rows id (All-tail IsGrantedOnServer row rows granted))
+    ] refl

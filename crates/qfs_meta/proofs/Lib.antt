@@ -9,3 +9,5 @@ pub mod ServerLaws
 pub mod StepLaws
 pub mod TableLaws
 pub mod TreeLaws
+pub mod RisingLaws
+pub mod CondemnLaws

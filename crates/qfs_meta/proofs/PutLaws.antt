@@ -1,5 +1,5 @@
 -- How the requests of a put are served, by what the code finds out.
-use Rattle.std.proofs.Common.{◌≡◌, ℕ, [], ◌∷◌, Some, None, length, refl, sym, ap, subst}
+use Rattle.std.proofs.Common.{◌≡◌, ℕ, [], ◌∷◌, Some, None, length, refl, sym, ap, ◌∙◌, subst}
 use Rattle.qfs_base.specs.declared.image.MetaImage.{MetaImage}
 use Rattle.qfs_base.specs.declared.image.TreeRow.{TreeRow}
 use Rattle.qfs_base.specs.declared.reply.MetaReply.TheVariants as Told
@@ -11,11 +11,13 @@ use Rattle.qfs_base.specs.Shape.{Shape}
 use Rattle.qfs_model_meta.specs.Apply.{apply, apply_all}
 use Rattle.qfs_model_meta.specs.Change.{AddFile, CloseFile}
 use Rattle.qfs_model_meta.specs.Lists.{block_count}
-use Rattle.qfs_model_meta.specs.PutRequests.{decide_create, decide_close, close_complete, incomplete, first_ungranted}
+use Rattle.qfs_model_meta.specs.PutRequests.{decide_create, decide_close, decide_abort, abort_unclosed, abort_changes, close_complete, incomplete, first_ungranted}
 use Rattle.qfs_model_meta.specs.Step.{next_turn}
 use Rattle.qfs_model_meta.specs.TreeRows.{standing, unclosed_file}
+use Rattle.qfs_meta.specs.Condemning.{aborting}
 use Rattle.qfs_meta.specs.Kept.{IsKept}
 use Rattle.qfs_meta.specs.Serving.{Serves}
+use Rattle.qfs_meta.proofs.CondemnLaws.{abort-is}
 use Rattle.qfs_meta.proofs.StepLaws.{tells, makes, served_as, refuse_some, refuse_none, refuse_file-some, refuse_file-none, need_some, need_none}
 
 pub create-refused : (m : MetaImage) (actor : ℕ) (path : PathNames) (command len place : ℕ) (why : TreeRefusal) → place ≡ length m.history →
@@ -59,3 +61,17 @@ close-made layout actor file m row place new at found granted made kept =
     (served_as m _ _ new _ (need_some Told.Gone (close_complete layout actor file m) _ row found)
     (served_as m _ _ new _ (refuse_none (incomplete (first_ungranted file (block_count layout row.len) m.slots)) _ (ap incomplete granted))
     (makes m (CloseFile file actor row.command ∷ []) (Told.Done (length m.history)) new refl made kept)))
+
+pub abort-gone : (actor file : ℕ) (m : MetaImage) → unclosed_file actor file m.tree ≡ None → Serves m (decide_abort actor file m) m Told.Gone
+unfolding decide_abort meta_outcome
+abort-gone actor file m gone =
+    served_as m _ _ m _ (need_none Told.Gone _ _ gone) (tells m Told.Gone refl)
+
+pub abort-made : (actor file : ℕ) (m : MetaImage) (row : TreeRow) (place : ℕ) (new : MetaImage) → place ≡ length m.history →
+    unclosed_file actor file m.tree ≡ Some row → IsKept m → new ≡ next_turn (aborting file m) → IsKept new →
+    Serves m (decide_abort actor file m) new (Told.Done place)
+unfolding decide_abort abort_unclosed meta_outcome
+abort-made actor file m row place new at found before made kept =
+    subst (λ p. Serves m (decide_abort actor file m) new (Told.Done p)) (sym at)
+    (served_as m _ _ new _ (need_some Told.Gone (abort_unclosed file m) _ row found)
+    (makes m (abort_changes file m.slots) (Told.Done (length m.history)) new refl (made ∙ ap next_turn (sym (abort-is file m before.slots))) kept))

@@ -13,7 +13,7 @@ use Rattle.qfs_model_meta.specs.Decide.{decide, decide_request}
 use Rattle.qfs_model_meta.specs.Decision.{Tells, unless}
 use Rattle.qfs_model_meta.specs.Dropped.{dropped_at}
 use Rattle.qfs_model_meta.specs.GetRequests.{decide_open, decide_release}
-use Rattle.qfs_model_meta.specs.PutRequests.{decide_create, decide_grant, decide_close}
+use Rattle.qfs_model_meta.specs.PutRequests.{decide_create, decide_grant, decide_close, decide_abort}
 use Rattle.qfs_model_meta.specs.Range.{in_range, is_slot_number}
 use Rattle.qfs_model_meta.specs.Step.{meta_step, serve_unless_dropped, stays, end_step}
 use Rattle.qfs_meta.specs.Serving.{Serves}
@@ -39,6 +39,10 @@ module _ (layout : Shape) (actor : ℕ) (m : MetaImage) where
   unfolding decide decide_request in_range unless
   decide-close file = refl
 
+  pub decide-abort : (file : ℕ) → decide layout actor m (Ask.Abort file) ≡ decide_abort actor file m
+  unfolding decide decide_request in_range unless
+  decide-abort file = refl
+
   pub decide-open : (path : PathNames) → decide layout actor m (Ask.OpenFile path) ≡ decide_open layout actor path m
   unfolding decide decide_request in_range unless
   decide-open path = refl
@@ -60,4 +64,4 @@ module _ (layout : Shape) (actor : ℕ) (m : MetaImage) where
       meta_step layout actor request (meta_outcome reply) m ≡ record { meta = new; reply = reply }
   unfolding meta_step serve_unless_dropped
   step-served request new reply stands served =
-      ap (serve_unless_dropped m (end_step m (decide layout actor m request) (meta_outcome reply))) stands ∙ served
+      ap (serve_unless_dropped m (end_step m (decide layout actor m request) (meta_outcome reply))) stands ∙ served.step

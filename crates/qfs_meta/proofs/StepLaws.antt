@@ -1,5 +1,5 @@
 -- How a step ends, by what was decided.
-use Rattle.std.proofs.Common.{◌≡◌, ℕ, ◌<◌, ◌≤◌, nat_lt, Result, Ok, Err, ◌&&◌, Bool, true, false, List, Option, Some, None, refl, sym, ap, ◌∙◌, arith}
+use Rattle.std.proofs.Common.{◌≡◌, ℕ, ◌<◌, ◌≤◌, nat_lt, Result, Ok, Err, ◌&&◌, Bool, true, false, List, [], ◌∷◌, ◌++◌, fold, Option, Some, None, refl, sym, ap, ◌∙◌, arith}
 use Rattle.std.proofs.lemmas.Grind.{common_steps}
 use Rattle.std.specs.Result.{IfOk}
 use Rattle.qfs_base.specs.declared.history.Outcome.TheVariants as Ended
@@ -8,23 +8,32 @@ use Rattle.qfs_base.specs.declared.reply.MetaReply.{MetaReply}
 use Rattle.qfs_base.specs.declared.reply.MetaReply.TheVariants as Told
 use Rattle.qfs_base.specs.declared.reply.TreeRefusal.{TreeRefusal}
 use Rattle.qfs_base.specs.Outcome.{meta_outcome}
-use Rattle.qfs_model_meta.specs.Apply.{apply_all}
+use Rattle.qfs_model_meta.specs.Apply.{apply, apply_all}
 use Rattle.qfs_model_meta.specs.Change.{Change}
 use Rattle.qfs_model_meta.specs.Counters.{counters_fit}
 use Rattle.qfs_model_meta.specs.Decision.{Decision, Tells, Makes, refuse, unless, need, refuse_file}
 use Rattle.qfs_model_meta.specs.Step.{Served, end_step, carry_out, take_step, stays, next_turn}
 use Rattle.qfs_meta.specs.Kept.{IsKept}
-use Rattle.qfs_meta.specs.Serving.{Serves}
+use Rattle.qfs_meta.specs.Serving.{Serves, IsNoFailure}
+
+-- a step that is done didn't fail
+pub no_failure : (reply : MetaReply) → meta_outcome reply ≡ Ended.Done → IsNoFailure reply
+no_failure reply done failed = let same : Ended.Done ≡ Ended.Failed = sym done ∙ failed in cc
+
+-- neither did one that found no memory
+pub memory_is_no_failure : IsNoFailure Told.NoMemory
+unfolding meta_outcome
+memory_is_no_failure failed = cc
 
 -- what is told is told, and the state stays
 pub tells : (m : MetaImage) (reply : MetaReply) → meta_outcome reply ≡ Ended.Done → Serves m (Tells reply) m reply
 unfolding end_step carry_out stays
-tells m reply done = ap (end_step m (Tells reply)) done
+tells m reply done = record { step = ap (end_step m (Tells reply)) done; never_fails = no_failure reply done }
 
 -- memory may run out whatever was decided
 pub runs_out : (m : MetaImage) (decision : Decision) → Serves m decision m Told.NoMemory
 unfolding end_step stays meta_outcome
-runs_out m decision = refl
+runs_out m decision = record { step = refl; never_fails = memory_is_no_failure }
 
 pub is_below : (n bound : ℕ) → n < bound → nat_lt n bound ≡ true
 is_below n bound h = grind (arith, common_steps)
@@ -43,12 +52,18 @@ makes old changes reply new done made kept =
     let fit : counters_fit next ≡ true = ap counters_fit (sym made) ∙ fits new kept in
     let served : Served = record { meta = next_turn next; reply = reply } in
     let taken : take_step old next reply (counters_fit next) ≡ served = ap (take_step old next reply) fit in
-    ap (end_step old (Makes changes reply)) done ∙ taken ∙ (λ i. record { meta = sym made i; reply = reply })
+    record {
+      step = ap (end_step old (Makes changes reply)) done ∙ taken ∙ (λ i. record { meta = sym made i; reply = reply });
+      never_fails = no_failure reply done;
+    }
 
 -- a decision that is the same as another is served as that one is
 pub served_as : (old : MetaImage) (decision same : Decision) (new : MetaImage) (reply : MetaReply) → decision ≡ same →
     Serves old same new reply → Serves old decision new reply
-served_as old decision same new reply e served = ap (λ d. end_step old d (meta_outcome reply)) e ∙ served
+served_as old decision same new reply e served = record {
+  step = ap (λ d. end_step old d (meta_outcome reply)) e ∙ served.step;
+  never_fails = served.never_fails;
+}
 
 -- what is decided on a refusal, a test or a thing that has to be there
 pub refuse_some : (refusal : Option MetaReply) (further : Decision) (reply : MetaReply) → refusal ≡ Some reply → refuse refusal further ≡ Tells reply
@@ -90,3 +105,12 @@ IfOk-weaker P Q weaker (Err e) holds = tt
 
 pub not_below : (n bound : ℕ) → bound ≤ n → nat_lt n bound ≡ false
 not_below n bound h = grind (arith, common_steps)
+
+-- the last of some changes
+fold-append : {A B : Type 0} (f : B → A → B) (start : B) (xs ys : List A) → fold f start (xs ++ ys) ≡ fold f (fold f start xs) ys
+fold-append f start [] ys = refl
+fold-append f start (x ∷ xs) ys = fold-append f (f start x) xs ys
+
+pub last_change : (m : MetaImage) (changes : List Change) (last : Change) → apply_all (changes ++ last ∷ []) m ≡ apply (apply_all changes m) last
+unfolding apply_all
+last_change m changes last = fold-append apply m changes (last ∷ [])

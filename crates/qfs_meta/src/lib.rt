@@ -2,8 +2,10 @@
 //! change.
 #![tactic(auto)]
 
+mod aborting;
 mod census;
 mod closing;
+mod condemning;
 mod creating;
 mod gets;
 mod granting;

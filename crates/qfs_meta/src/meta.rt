@@ -1,9 +1,11 @@
 //! The metaserver: its layout, its state, and how it serves.
-ghost use Rattle.std.specs.Prelude.{◌≡◌, ◌≤◌, true, replicate, IfOk, IsOk, OnErr};
+ghost use Rattle.std.specs.Prelude.{◌≡◌, ◌≤◌, replicate, IfOk, OnErr};
+ghost use Rattle.std.specs.Result.{is_ok};
 ghost use Rattle.qfs_base.specs.Outcome.{meta_outcome};
 ghost use Rattle.qfs_model_meta.specs.Dropped.{dropped_at};
 ghost use Rattle.qfs_model_meta.specs.Step.{meta_step, opening, first_server};
 ghost use Rattle.qfs_meta.specs.Metaserver.{is_built};
+ghost use Rattle.qfs_meta.specs.Serving.{IsNoFailure};
 
 use crate::requests::{is_built, serve_request};
 use qfs_base::image::{DroppedActor, MetaImage, ServerView, Servers};
@@ -95,14 +97,16 @@ impl Meta {
 
     /// Serves a request of an actor: the state takes the step of the request, with the outcome
     /// that the reply shows. On want of memory, and where a number would be its type's last, the
-    /// reply is `NoMemory`, and the state stays.
+    /// reply is `NoMemory`, and the state stays. No reply is that of a log's disks that failed.
     ///
-    /// `NotBuilt` says that the request isn't one of those that are served yet; the state stays.
+    /// `NotBuilt` comes exactly where the request isn't one of those that are served yet; the
+    /// state stays.
     pub fn serve(&mut self, actor: ActorId, request: &MetaRequest) -> Result<MetaReply, NotBuilt>
         ensures layout { self.new.layout ≡ self.old.layout }
         ensures step { IfOk result (λ reply. meta_step self.old.layout actor request.now (meta_outcome reply) self.old.image ≡ record { meta = self.new.image; reply = reply }) }
+        ensures never_fails { IfOk result IsNoFailure }
+        ensures built { is_ok result ≡ is_built request.now }
         ensures unbuilt { OnErr result (self.new.image ≡ self.old.image) }
-        ensures built { is_built request.now ≡ true → IsOk result }
     {
         if !is_built(request) {
             return Err(NotBuilt);

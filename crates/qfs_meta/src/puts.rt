@@ -1,11 +1,11 @@
-//! The requests of a put: a file is created, its slots are granted one after another, and it is
-//! closed.
+//! The requests of a put but for the grants: a file is created, and it is closed or given up.
 ghost use Rattle.std.specs.Prelude.{◌≡◌, IfOk, OnErr};
 ghost use Rattle.qfs_base.specs.declared.chunk.BlockId.{BlockId};
-ghost use Rattle.qfs_model_meta.specs.PutRequests.{decide_create, decide_close};
+ghost use Rattle.qfs_model_meta.specs.PutRequests.{decide_create, decide_close, decide_abort};
 ghost use Rattle.qfs_meta.specs.Kept.{IsKept};
 ghost use Rattle.qfs_meta.specs.Serving.{Serves};
 
+use crate::aborting::abort_file;
 use crate::closing::{close_file, first_ungranted};
 use crate::creating::add_file;
 use crate::names::{add_refusal, unclosed_file};
@@ -72,6 +72,30 @@ pub fn close(
         return Ok(MetaReply::NoMemory);
     }
     close_file(alloc, image, file, actor, command)?;
+    raise_turn(image);
+    Ok(MetaReply::Done { place })
+}
+
+/// Gives a file up that the actor hasn't closed yet. On want of memory the state stays.
+pub fn abort(
+    alloc: Global,
+    image: &mut MetaImage,
+    actor: ActorId,
+    file: FileId,
+) -> Result<MetaReply, AllocError>
+    requires { IsKept image.old }
+    ensures ok { IfOk result (λ reply. Serves image.old (decide_abort actor file image.old) image.new reply) }
+    ensures err { OnErr result (image.new ≡ image.old) }
+    ensures kept { IsKept image.new }
+{
+    let Some(_row) = unclosed_file(image.tree.as_slice(), actor, file) else {
+        return Ok(MetaReply::Gone);
+    };
+    let place = next_place(image);
+    if place == Place::MAX {
+        return Ok(MetaReply::NoMemory);
+    }
+    abort_file(alloc, image, file)?;
     raise_turn(image);
     Ok(MetaReply::Done { place })
 }

@@ -8,12 +8,12 @@ ghost use Rattle.qfs_meta.specs.Serving.{Serves};
 use crate::gets::{open, release};
 use crate::granting::grant;
 use crate::listed::SLOTS;
-use crate::puts::{close, create};
+use crate::puts::{abort, close, create};
 use qfs_base::chunk::BlockId;
 use qfs_base::image::MetaImage;
 use qfs_base::numbers::ActorId;
 use qfs_base::reply::MetaReply;
-use qfs_base::request::MetaRequest;
+use qfs_base::request::{MetaRequest, SlotId};
 use qfs_stripe::Layout;
 use std::alloc::{AllocError, Global};
 
@@ -22,9 +22,10 @@ pub fn is_built(request: &MetaRequest) -> bool
     ensures { result ≡ is_built request.now }
 {
     match request {
-        MetaRequest::Grant { again, .. } => !*again,
         MetaRequest::Create { .. }
+        | MetaRequest::Grant { .. }
         | MetaRequest::Close { .. }
+        | MetaRequest::Abort { .. }
         | MetaRequest::OpenFile { .. }
         | MetaRequest::Release { .. } => true,
         _ => false,
@@ -51,7 +52,7 @@ pub fn serve_request(
             file,
             index,
             slot,
-            ..
+            again,
         } => {
             if *slot >= SLOTS {
                 return Ok(MetaReply::Nothing);
@@ -60,9 +61,11 @@ pub fn serve_request(
                 file: *file,
                 index: *index,
             };
-            grant(alloc, layout, image, actor, block, *slot)
+            let id = SlotId { block, slot: *slot };
+            grant(alloc, layout, image, actor, id, *again)
         }
         MetaRequest::Close { file } => close(alloc, layout, image, actor, *file),
+        MetaRequest::Abort { file } => abort(alloc, image, actor, *file),
         MetaRequest::OpenFile { path } => open(alloc, layout, image, actor, path),
         MetaRequest::Release { lease } => Ok(release(alloc, image, actor, *lease)),
         _ => unreachable!("only requests that are served come here"),

@@ -1,16 +1,10 @@
-use Rattle.std.proofs.Common.{◌≡◌, Bool, true, false, not, ap, ◌∙◌, refl, sym}
+use Rattle.std.proofs.Common.{ap, ◌∙◌, refl}
 use Rattle.qfs_base.specs.declared.reply.MetaReply.TheVariants as Told
 use Rattle.qfs_base.specs.Outcome.{meta_outcome}
 use Rattle.qfs_model_meta.specs.Decide.{decide}
-use Rattle.qfs_model_meta.specs.PutRequests.{decide_grant}
-use Rattle.qfs_meta.specs.Metaserver.{is_built}
-use Rattle.qfs_meta.proofs.RequestLaws.{decide-create, decide-grant, decide-no_slot, decide-close, decide-open, decide-release}
+use Rattle.qfs_meta.proofs.RequestLaws.{decide-create, decide-grant, decide-no_slot, decide-close, decide-abort, decide-open, decide-release}
 use Rattle.qfs_meta.proofs.StepLaws.{tells, served_as, IfOk-weaker, is_below, not_below}
 use Rattle.qfs_meta.proofs.requests.serve_request.Goals as goal
-
-not_true : (b : Bool) → not b ≡ true → b ≡ false
-not_true true e = sym e
-not_true false e = refl
 
 pub returns-then-slot-ge-SLOTS-clause-ok : goal.returns-then-slot-ge-SLOTS-clause-ok
 unfolding meta_outcome
@@ -32,13 +26,19 @@ returns-in-Create-clause-ok c =
 pub returns-else-slot-ge-SLOTS-clause-ok : goal.returns-else-slot-ge-SLOTS-clause-ok
 returns-else-slot-ge-SLOTS-clause-ok c =
     let m = c.args.image.now in
-    let first : c.in-Grant.again ≡ false = not_true c.in-Grant.again (ap is_built (sym c.in-Grant.is) ∙ c.requires.built) in
     IfOk-weaker _ _
     (λ reply served. served_as m _ _ _ reply
     (ap (decide c.args.layout.now c.args.actor m) c.in-Grant.is
-    ∙ decide-grant c.args.layout.now c.args.actor m c.in-Grant.file c.in-Grant.index c.in-Grant.slot c.in-Grant.again (is_below _ _ c.if-slot-ge-SLOTS.false)
-    ∙ ap (λ again. decide_grant c.args.layout.now c.args.actor (record { file = c.in-Grant.file; index = c.in-Grant.index }) c.in-Grant.slot again m) first) served)
+    ∙ decide-grant c.args.layout.now c.args.actor m c.in-Grant.file c.in-Grant.index c.in-Grant.slot c.in-Grant.again (is_below _ _ c.if-slot-ge-SLOTS.false)) served)
     c.grant.result c.grant.ensures.ok
+
+pub returns-in-Abort-clause-ok : goal.returns-in-Abort-clause-ok
+returns-in-Abort-clause-ok c =
+    let m = c.args.image.now in
+    IfOk-weaker _ _
+    (λ reply served. served_as m _ _ _ reply
+    (ap (decide c.args.layout.now c.args.actor m) c.in-Abort.is ∙ decide-abort c.args.layout.now c.args.actor m c.in-Abort.file) served)
+    c.abort.result c.abort.ensures.ok
 
 pub returns-in-Close-clause-ok : goal.returns-in-Close-clause-ok
 returns-in-Close-clause-ok c =

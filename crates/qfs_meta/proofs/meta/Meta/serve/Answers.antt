@@ -1,11 +1,12 @@
-use Rattle.std.proofs.Common.{ap, ◌∙◌, sym, subst}
+use Rattle.std.proofs.Common.{ap, ◌∙◌, refl, sym, subst}
 use Rattle.qfs_base.specs.declared.reply.MetaReply.TheVariants as Told
+use Rattle.qfs_base.specs.Outcome.{meta_outcome}
 use Rattle.qfs_model_meta.specs.Decide.{decide}
 use Rattle.qfs_model_meta.specs.Dropped.{dropped_at}
 use Rattle.qfs_meta.specs.Metaserver.{Metaserver}
 use Rattle.qfs_meta.specs.Serving.{Serves}
 use Rattle.qfs_meta.proofs.RequestLaws.{step-dropped, step-served}
-use Rattle.qfs_meta.proofs.StepLaws.{runs_out}
+use Rattle.qfs_meta.proofs.StepLaws.{runs_out, no_failure, memory_is_no_failure}
 use Rattle.qfs_meta.proofs.meta.Meta.serve.Goals as goal
 
 pub returns-in-Some-clause-step : goal.returns-in-Some-clause-step
@@ -32,3 +33,13 @@ returns-clause-step c =
     ∙ ap (dropped_at c.args.actor) (sym c.as_slice.ensures) ∙ sym c.dropped_at.ensures ∙ c.in_default.is)
     (subst (λ (meta : Metaserver). Serves meta.image (decide meta.layout c.args.actor meta.image c.args.request.now) c.serve_request.new.image c.in-Ok.reply)
     c.self.view_is c.in-Ok.ensures.ok)
+
+pub returns-in_default-serve_request-clause-never_fails : goal.returns-in_default-serve_request-clause-never_fails
+returns-in_default-serve_request-clause-never_fails c = memory_is_no_failure
+
+pub returns-in-Some-clause-never_fails : goal.returns-in-Some-clause-never_fails
+unfolding meta_outcome
+returns-in-Some-clause-never_fails c = no_failure (Told.Dropped c.in-Some.turn) refl
+
+pub returns-clause-never_fails : goal.returns-clause-never_fails
+returns-clause-never_fails c = c.in-Ok.ensures.ok.never_fails

@@ -1,0 +1,231 @@
+-- Copies that are condemned one after another, and what giving a file up changes.
+use Rattle.std.proofs.Common.{◌≡◌, ℕ, ◌+◌, ◌==◌, Bool, true, false, cond, not, List, [], ◌∷◌, ◌++◌, length, map, Option, Some, None, refl, sym, ap, ◌∙◌, append_assoc, length-append, arith}
+use Rattle.std.specs.Bool.{then_some}
+use Rattle.std.specs.List.{cons_option}
+use Rattle.std.specs.Option.{option_to_list}
+use Rattle.std.proofs.lemmas.List.{append-nil}
+use Rattle.std.specs.declared.cmp.Ordering.TheVariants.{Less}
+use Rattle.qfs_base.specs.declared.chunk.BlockId.{BlockId}
+use Rattle.qfs_base.specs.declared.chunk.Copy.{Copy}
+use Rattle.qfs_base.specs.declared.history.Entry.TheVariants as Wrote
+use Rattle.qfs_base.specs.declared.image.Grant.{Grant}
+use Rattle.qfs_base.specs.declared.image.Lease.{Lease}
+use Rattle.qfs_base.specs.declared.image.MetaImage.{MetaImage}
+use Rattle.qfs_base.specs.declared.image.SlotRecord.{SlotRecord}
+use Rattle.qfs_base.specs.declared.image.SlotRow.{SlotRow}
+use Rattle.qfs_base.specs.declared.request.SlotId.{SlotId}
+use Rattle.qfs_base.specs.Table.{Each, IsRising, change_row, change_where}
+use Rattle.qfs_model_meta.specs.Apply.{apply, apply_all, write_entry, with_slots, change_record, give_up, fail_grant}
+use Rattle.qfs_model_meta.specs.Change.{Change, GiveUp, AbortFile, FailGrant}
+use Rattle.qfs_model_meta.specs.Condemned.{condemn, condemned_row, list_if_live}
+use Rattle.qfs_model_meta.specs.PutRequests.{abort_changes}
+use Rattle.qfs_model_meta.specs.Servers.{is_live}
+use Rattle.qfs_model_meta.specs.Slots.{is_slot, is_of_file, slot_at, slot_cmp, slots_of, change_slot, change_state, forget_file, ungranted_slot, failed_slot}
+use Rattle.qfs_model_meta.specs.TreeRows.{take_file}
+use Rattle.qfs_meta.specs.Condemning.{condemned_rows, condemning, live_granted, live_grants, aborting}
+use Rattle.qfs_meta.specs.declared.condemning.SlotCopy.{SlotCopy}
+use Rattle.qfs_meta.specs.Granting.{freed_row, freed_slots}
+use Rattle.qfs_meta.proofs.StepLaws.{last_change}
+use Rattle.qfs_meta.proofs.RisingLaws.{each_weaker, each_both, each_filtered, each_passes, each_found, filter_rises, same_file, same_key, slot_at-other}
+
+-- ---- one after another
+
+condemned_rows-append : (leases : List Lease) (number : ℕ) (xs ys : List SlotCopy) →
+    condemned_rows leases number (xs ++ ys) ≡ condemned_rows leases number xs ++ condemned_rows leases (number + length xs) ys
+condemned_rows-append leases number [] ys =
+    let e : number ≡ number + 0 = omega arith in
+    ap (λ n. condemned_rows leases n ys) e
+condemned_rows-append leases number (it ∷ xs) ys =
+    let e : number + 1 + length xs ≡ number + length (it ∷ xs) = omega arith in
+    ap (λ rows. condemned_row number it.id.block it.id.slot it.copy leases ∷ rows)
+    (condemned_rows-append leases (number + 1) xs ys ∙ ap (λ n. condemned_rows leases (number + 1) xs ++ condemned_rows leases n ys) e)
+
+-- no copy condemned
+condemning-none : (m : MetaImage) → condemning [] m ≡ m
+condemning-none m =
+    let next : m.next_condemned + 0 ≡ m.next_condemned = omega arith in
+    λ i. record m { condemned = append-nil m.condemned i; next_condemned = next i }
+
+-- copies condemned after others, with these slots in between and those at the end
+condemning-more : (xs ys : List SlotCopy) (m : MetaImage) (between after : List SlotRow) →
+    record (condemning ys (record (condemning xs m) { slots = between })) { slots = after }
+    ≡ record (condemning (xs ++ ys) m) { slots = after }
+condemning-more xs ys m between after =
+    let rows = append_assoc m.condemned (condemned_rows m.leases m.next_condemned xs) (condemned_rows m.leases (m.next_condemned + length xs) ys)
+    ∙ ap (λ rows. m.condemned ++ rows) (sym (condemned_rows-append m.leases m.next_condemned xs ys)) in
+    let next : m.next_condemned + length xs + length ys ≡ m.next_condemned + length (xs ++ ys) = omega (arith, length-append xs ys) in
+    λ i. record m { slots = after; condemned = rows i; next_condemned = next i }
+
+-- ---- one grant
+
+-- condemning a copy of a slot lists it where it is live
+pub condemn-is : (id : SlotId) (grant : Grant) (m : MetaImage) → condemn id.block id.slot grant.copy m ≡ condemning (option_to_list (live_granted m.servers id (Some grant))) m
+unfolding condemn list_if_live
+condemn-is id grant m =
+    elim (is_live m.servers grant.copy) as (λ b.
+    list_if_live (condemned_row m.next_condemned id.block id.slot grant.copy m.leases) m b
+    ≡ condemning (option_to_list (then_some b (record { id = id; copy = grant.copy }))) m) [
+      | true ↦ refl
+      | false ↦ sym (condemning-none m)
+    ]
+
+-- a slot's grant given up: it is condemned where it is live, and pending no more
+give_up-is : (id : SlotId) (grant : Grant) (m : MetaImage) →
+    give_up id.block id.slot m (Some grant)
+    ≡ record (condemning (option_to_list (live_granted m.servers id (Some grant))) m) { slots = change_slot id.block id.slot ungranted_slot m.slots }
+unfolding give_up change_record with_slots
+give_up-is id grant m =
+    ap (λ (n : MetaImage). record n { slots = change_slot id.block id.slot ungranted_slot n.slots }) (condemn-is id grant m)
+
+-- ---- a failed grant
+
+key_kept : (id : SlotId) (change : SlotRecord → SlotRecord) (row : SlotRow) (b : Bool) →
+    is_slot id.block id.slot (change_row (change_state change) row b) ≡ is_slot id.block id.slot row
+key_kept id change row true = same_key change row id.block id.slot
+key_kept id change row false = refl
+
+freed_at : (server : ℕ) (row : SlotRow) (b : Bool) →
+    change_row (change_state (failed_slot server)) (change_row (change_state ungranted_slot) row b) b
+    ≡ change_row (change_state (λ state. failed_slot server (ungranted_slot state))) row b
+unfolding change_state
+freed_at server row true = refl
+freed_at server row false = refl
+
+-- the slot's grant is pending no more, and then its server counts as failed
+change_twice : (id : SlotId) (server : ℕ) (slots : List SlotRow) →
+    change_slot id.block id.slot (failed_slot server) (change_slot id.block id.slot ungranted_slot slots) ≡ freed_slots id server slots
+unfolding change_slot
+change_twice id server [] = refl
+change_twice id server (row ∷ rows) =
+    let here = is_slot id.block id.slot row in
+    let once : SlotRow = change_row (change_state ungranted_slot) row here in
+    let head : change_row (change_state (failed_slot server)) once (is_slot id.block id.slot once) ≡ freed_row id server row =
+    ap (change_row (change_state (failed_slot server)) once) (key_kept id ungranted_slot row here) ∙ freed_at server row here in
+    λ i. head i ∷ change_twice id server rows i
+
+condemn-slots : (block : BlockId) (slot : ℕ) (copy : Copy) (m : MetaImage) → (condemn block slot copy m).slots ≡ m.slots
+unfolding condemn list_if_live
+condemn-slots block slot copy m =
+    elim (is_live m.servers copy) as (λ b. (list_if_live (condemned_row m.next_condemned block slot copy m.leases) m b).slots ≡ m.slots) [ true ↦ refl | false ↦ refl ]
+
+-- what is left once the server of a slot's pending grant failed the put
+pub failed-is : (id : SlotId) (grant : Grant) (m : MetaImage) → (slot_at m.slots id.block id.slot).grant ≡ Some grant →
+    apply m (FailGrant id.block id.slot) ≡ record (condemn id.block id.slot grant.copy m) { slots = freed_slots id grant.copy.server m.slots }
+unfolding apply fail_grant give_up change_record with_slots
+failed-is id grant m pending =
+    let slots = ap (λ slots. change_slot id.block id.slot (failed_slot grant.copy.server) (change_slot id.block id.slot ungranted_slot slots)) (condemn-slots id.block id.slot grant.copy m)
+    ∙ change_twice id grant.copy.server m.slots in
+    ap (fail_grant id.block id.slot m) pending
+    ∙ (λ i. record (condemn id.block id.slot grant.copy m) { slots = slots i })
+
+condemn-servers : (block : BlockId) (slot : ℕ) (copy : Copy) (m : MetaImage) → (condemn block slot copy m).servers ≡ m.servers
+unfolding condemn list_if_live
+condemn-servers block slot copy m =
+    elim (is_live m.servers copy) as (λ b. (list_if_live (condemned_row m.next_condemned block slot copy m.leases) m b).servers ≡ m.servers) [ true ↦ refl | false ↦ refl ]
+
+-- the servers and the slots once the server of a slot's pending grant failed the put
+pub failed-servers : (id : SlotId) (grant : Grant) (m : MetaImage) → (slot_at m.slots id.block id.slot).grant ≡ Some grant →
+    (apply_all (FailGrant id.block id.slot ∷ []) m).servers ≡ m.servers
+unfolding apply_all
+failed-servers id grant m pending = ap (λ (n : MetaImage). n.servers) (failed-is id grant m pending) ∙ condemn-servers id.block id.slot grant.copy m
+
+pub failed-slots : (id : SlotId) (grant : Grant) (m : MetaImage) → (slot_at m.slots id.block id.slot).grant ≡ Some grant →
+    (apply_all (FailGrant id.block id.slot ∷ []) m).slots ≡ freed_slots id grant.copy.server m.slots
+unfolding apply_all
+failed-slots id grant m pending = ap (λ (n : MetaImage). n.slots) (failed-is id grant m pending)
+
+-- ---- the grants of a file
+
+forget_at : (file : ℕ) (row other : SlotRow) (b : Bool) (xs ys : List SlotRow) → is_of_file file row ≡ true → (is_slot row.block row.slot other ≡ b) →
+    forget_file file xs ≡ forget_file file ys →
+    forget_file file (change_row (change_state ungranted_slot) other b ∷ xs) ≡ forget_file file (other ∷ ys)
+unfolding forget_file is_of_file change_state
+forget_at file row other true xs ys of is rest =
+    let gone : (other.block.file == file) ≡ true = ap (λ number. number == file) (same_file other row is) ∙ of in
+    ap (λ b. cond (not b) (change_row (change_state ungranted_slot) other true ∷ forget_file file xs) (forget_file file xs)) gone
+    ∙ rest
+    ∙ sym (ap (λ b. cond (not b) (other ∷ forget_file file ys) (forget_file file ys)) gone)
+forget_at file row other false xs ys of is rest = λ i. cond (not (other.block.file == file)) (other ∷ rest i) (rest i)
+
+-- a change of a slot of a file leaves the slots of the others
+forget_changed : (file : ℕ) (row : SlotRow) (slots : List SlotRow) → is_of_file file row ≡ true →
+    forget_file file (change_slot row.block row.slot ungranted_slot slots) ≡ forget_file file slots
+unfolding change_slot
+forget_changed file row [] of = refl
+forget_changed file row (other ∷ slots) of =
+    forget_at file row other (is_slot row.block row.slot other) (change_where (is_slot row.block row.slot) (change_state ungranted_slot) slots) slots of refl (forget_changed file row slots of)
+
+-- grants of slots of a file are given up one after another: the live ones are condemned, and the slots of other files
+-- stay
+record GivesUp (file : ℕ) (rows : List SlotRow) (m : MetaImage) : Type 0 where
+  slots : List SlotRow
+  others : forget_file file slots ≡ forget_file file m.slots
+  is : apply_all (map (λ (row : SlotRow). GiveUp row.block row.slot) rows) m ≡ record (condemning (live_grants m.servers rows) m) { slots = slots }
+
+listed_first : (o : Option SlotCopy) (xs : List SlotCopy) → option_to_list o ++ xs ≡ cons_option o xs
+listed_first None xs = refl
+listed_first (Some x) xs = refl
+
+gives_up : (file : ℕ) (rows : List SlotRow) (m : MetaImage) → IsRising slot_cmp rows → Each (λ row. slot_at m.slots row.block row.slot ≡ row.state) rows →
+    Each (λ row. is_of_file file row ≡ true) rows → GivesUp file rows m
+unfolding apply_all apply give_up
+gives_up file [] m rising found of = record { slots = m.slots; others = refl; is = sym (condemning-none m) }
+gives_up file (row ∷ rows) m rising found of =
+    let id : SlotId = record { block = row.block; slot = row.slot } in
+    let changes : List Change = map (λ (row : SlotRow). GiveUp row.block row.slot) rows in
+    let pending : (slot_at m.slots row.block row.slot).grant ≡ row.state.grant = ap (λ (state : SlotRecord). state.grant) found.0 in
+    elim row.state.grant as (λ grant. row.state.grant ≡ grant → GivesUp file (row ∷ rows) m) [
+      | None ↦ λ none.
+          let rest = gives_up file rows m rising.1 found.1 of.1 in
+          record {
+            slots = rest.slots;
+            others = rest.others;
+            is = ap (λ grant. apply_all changes (give_up row.block row.slot m grant)) (pending ∙ none)
+                ∙ rest.is
+                ∙ (λ i. record (condemning (cons_option (live_granted m.servers id (sym none i)) (live_grants m.servers rows)) m) { slots = rest.slots });
+          }
+      | Some grant ↦ λ some.
+          let between : List SlotRow = change_slot row.block row.slot ungranted_slot m.slots in
+          let first : List SlotCopy = option_to_list (live_granted m.servers id (Some grant)) in
+          let now : MetaImage = record (condemning first m) { slots = between } in
+          let still = each_weaker _ _ (λ later both. slot_at-other m.slots ungranted_slot row later both.0 ∙ both.1) rows
+          (each_both (λ later. slot_cmp row later ≡ Less) (λ later. slot_at m.slots later.block later.slot ≡ later.state) rows rising.0 found.1) in
+          let rest = gives_up file rows now rising.1 still of.1 in
+          record {
+            slots = rest.slots;
+            others = rest.others ∙ forget_changed file row m.slots of.0;
+            is = ap (λ grant. apply_all changes (give_up row.block row.slot m grant)) (pending ∙ some)
+                ∙ ap (apply_all changes) (give_up-is id grant m)
+                ∙ rest.is
+                ∙ condemning-more first (live_grants m.servers rows) m between rest.slots
+                ∙ (λ i. record (condemning (listed_first (live_granted m.servers id (Some grant)) (live_grants m.servers rows) i) m) { slots = rest.slots })
+                ∙ (λ i. record (condemning (cons_option (live_granted m.servers id (sym some i)) (live_grants m.servers rows)) m) { slots = rest.slots });
+          }
+    ] refl
+
+-- ---- a file that is given up
+
+pub abort-is : (file : ℕ) (m : MetaImage) → IsRising slot_cmp m.slots → apply_all (abort_changes file m.slots) m ≡ aborting file m
+unfolding abort_changes apply_all apply write_entry with_slots slots_of
+abort-is file m rising =
+    let rows : List SlotRow = slots_of file m.slots in
+    let done = gives_up file rows m (filter_rises slot_cmp (is_of_file file) m.slots rising) (each_filtered _ (is_of_file file) m.slots (each_found m.slots rising)) (each_passes (is_of_file file) m.slots) in
+    last_change m (map (λ (row : SlotRow). GiveUp row.block row.slot) rows) (AbortFile file)
+    ∙ ap (λ (n : MetaImage). apply n (AbortFile file)) done.is
+    ∙ (λ i. record (condemning (live_grants m.servers rows) m) {
+      slots = done.others i;
+      tree = take_file file m.tree;
+      history = m.history ++ Wrote.Aborted file ∷ [];
+    })
+
+-- ---- one copy
+
+-- a copy that isn't live is forgotten
+pub condemn-dead : (id : SlotId) (copy : Copy) (m : MetaImage) → is_live m.servers copy ≡ false → condemn id.block id.slot copy m ≡ m
+unfolding condemn list_if_live
+condemn-dead id copy m dead = ap (list_if_live (condemned_row m.next_condemned id.block id.slot copy m.leases) m) dead
+
+-- a live one is listed
+pub condemn-live : (id : SlotId) (copy : Copy) (m : MetaImage) → is_live m.servers copy ≡ true → condemn id.block id.slot copy m ≡ condemning (record { id = id; copy = copy } ∷ []) m
+unfolding condemn list_if_live
+condemn-live id copy m live = ap (list_if_live (condemned_row m.next_condemned id.block id.slot copy m.leases) m) live
