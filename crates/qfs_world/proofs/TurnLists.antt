@@ -5,7 +5,7 @@ use Rattle.std.specs.List.{list_any}
 use Rattle.qfs_base.specs.declared.command.Command.{Command}
 use Rattle.qfs_model_actor.specs.Actor.{Actor, has_finished}
 use Rattle.qfs_model_world.specs.Fits.{unfinished, by_phase, first_filled}
-use Rattle.qfs_world.specs.AtWork.{size_before, sizes_of}
+use Rattle.qfs_world.specs.AtWork.{sizes_of, by_sizes}
 use Rattle.qfs_world.proofs.Lists.{get-take, get-drop}
 
 -- an actor of this number is among these, and it hasn't finished
@@ -39,21 +39,19 @@ this_or_later : (number : ℕ) (actor : Actor) (actors : List Actor) → has_fin
     → (same : Bool) → (actor.number == number) ≡ same
     → (same || list_any (λ n. n == number) (unfinished actors)) ≡ true
     → HasUnfinished number (actor ∷ actors)
-this_or_later number actor actors open rest true e any =
-    record { at = 0; actor = actor; there = refl; number_is = eqb-true actor.number number e; unfinished = open }
-this_or_later number actor actors open rest false e any = later number actor actors (rest any)
+this_or_later number actor actors going rest true e any =
+    record { at = 0; actor = actor; there = refl; number_is = eqb-true actor.number number e; unfinished = going }
+this_or_later number actor actors going rest false e any = later number actor actors (rest any)
+
+nobody : (number : ℕ) → list_any (λ n. n == number) (unfinished []) ≡ true → HasUnfinished number []
+unfolding unfinished
+nobody number any = absurd (cc)
 
 pub in-unfinished : (number : ℕ) (actors : List Actor) → list_any (λ n. n == number) (unfinished actors) ≡ true
     → HasUnfinished number actors
-in-unfinished number [] any = nothing any
-  where
-    nothing : list_any (λ n. n == number) (unfinished []) ≡ true → HasUnfinished number []
-    unfolding unfinished
-    nothing any = absurd (cc)
+in-unfinished number [] any = nobody number any
 in-unfinished number (actor ∷ actors) any = choice (has_finished actor) refl
   where
-    test : ℕ → Bool
-    test n = n == number
     choice : (finished : Bool) → has_finished actor ≡ finished → HasUnfinished number (actor ∷ actors)
     choice true e =
         later number actor actors
@@ -71,7 +69,6 @@ in-turn number [] actors any = absurd (cc)
 in-turn number (phase ∷ phases) actors any = choice (unfinished (take (length phase) actors)) refl
   where
     choice : (list : List ℕ) → unfinished (take (length phase) actors) ≡ list → HasUnfinished number actors
-    unfolding by_phase first_filled
     choice [] e =
         let rest =
         in-turn number phases (drop (length phase) actors)
@@ -98,11 +95,6 @@ in-turn number (phase ∷ phases) actors any = choice (unfinished (take (length 
 
 -- ---- by the sizes of the phases
 
--- the actors of phases of these sizes
-abbrev pub by_sizes : List ℕ → List Actor → List (List Actor)
-by_sizes [] actors = []
-by_sizes (size ∷ sizes) actors = take size actors ∷ by_sizes sizes (drop size actors)
-
 -- a phase without actors has no turn
 pub turn-by_sizes : (phases : List (List (List Command))) (actors : List Actor)
     → first_filled (map unfinished (by_phase phases actors)) ≡ first_filled (map unfinished (by_sizes (sizes_of phases) actors))
@@ -114,6 +106,5 @@ turn-by_sizes ((commands ∷ more) ∷ phases) actors = choice (unfinished (take
     choice : (list : List ℕ) → unfinished (take (length (commands ∷ more)) actors) ≡ list
         → first_filled (unfinished (take (length (commands ∷ more)) actors) ∷ map unfinished (by_phase phases (drop (length (commands ∷ more)) actors)))
         ≡ first_filled (unfinished (take (length (commands ∷ more)) actors) ∷ map unfinished (by_sizes (sizes_of phases) (drop (length (commands ∷ more)) actors)))
-    unfolding first_filled
     choice [] e = rw e (turn-by_sizes phases (drop (length (commands ∷ more)) actors))
     choice (x ∷ xs) e = rw e refl

@@ -1,12 +1,14 @@
 -- What holds of the parts of a world at work.
-use Rattle.std.specs.Prelude.{ℕ, ◌≡◌, ◌+◌, ◌<◌, ◌≤◌, ◌^◌, List, [], ◌∷◌, length, map, sum, Option, Some, None, nat_lt, if◌then◌else◌, slice_get, slice_set}
-use Rattle.qfs_actor.specs.Standing.{Standing}
+use Rattle.std.specs.Prelude.{ℕ, ◌≡◌, ◌+◌, ◌<◌, ◌≤◌, ◌^◌, List, [], ◌∷◌, length, map, sum, take, drop, Option, Some, None, nat_lt, if◌then◌else◌, slice_get, slice_set}
+use Rattle.qfs_actor.specs.Standing.{Standing, at_start}
+use Rattle.qfs_base.specs.Shape.{Shape}
 use Rattle.qfs_base.specs.declared.command.Command.{Command}
 use Rattle.qfs_base.specs.declared.history.Outcome.{Outcome}
 use Rattle.qfs_base.specs.declared.history.Step.{Step}
 use Rattle.qfs_base.specs.declared.image.MetaImage.{MetaImage}
 use Rattle.qfs_base.specs.declared.script.Script.{Script}
 use Rattle.qfs_machine.specs.Asking.{IsOut}
+use Rattle.qfs_meta.specs.Metaserver.{Metaserver}
 use Rattle.qfs_model_actor.specs.Actor.{Actor, node_of}
 use Rattle.qfs_model_meta.specs.Step.{opening}
 use Rattle.qfs_store.specs.Stored.{Stored}
@@ -17,6 +19,11 @@ use Rattle.qfs_world.specs.declared.node.NodeState.{NodeState}
 use Rattle.qfs_world.specs.declared.node.NodeState.TheVariants as Node
 
 -- ---- nodes
+
+-- the node that takes a turn: the one of this number, or the metaserver where there is none
+abbrev pub place_in : ℕ → Option ℕ → ℕ
+place_in count None = 0
+place_in count (Some number) = if nat_lt number count then number else 0
 
 module _ {D : Type 0} where
   -- the state of the metaserver, which is the first node
@@ -37,10 +44,10 @@ module _ {D : Type 0} where
   stores_of [] = []
   stores_of (node ∷ nodes) = store_before (stores_of nodes) node
 
-  -- the node that takes a turn: the one of this number, or the metaserver where there is none
-  abbrev pub place_in : ℕ → Option ℕ → ℕ
-  place_in count None = 0
-  place_in count (Some number) = if nat_lt number count then number else 0
+  -- the metaserver is first, and chunk servers alone stand behind it
+  pub record StartsWithMeta (nodes : List (NodeState D)) : Type 0 where
+    pub meta : Metaserver
+    pub nodes_are : nodes ≡ Node.Meta meta ∷ map Node.Store (stores_of nodes)
 
   -- one node took its turn with an actor; the others are as they were
   pub record TakesTurn (before : List (NodeState D)) (actor : Actor) (outcome : Outcome) (behind : List (NodeState D)) (moved : Actor) : Type 0 where
@@ -69,6 +76,16 @@ size_before sizes (commands ∷ more) = length (commands ∷ more) ∷ sizes
 abbrev pub sizes_of : List (List (List Command)) → List ℕ
 sizes_of [] = []
 sizes_of (phase ∷ phases) = size_before (sizes_of phases) phase
+
+-- the actors of phases of these sizes
+abbrev pub by_sizes : List ℕ → List Actor → List (List Actor)
+by_sizes [] actors = []
+by_sizes (size ∷ sizes) actors = take size actors ∷ by_sizes sizes (drop size actors)
+
+-- the actors of these commands at their start, numbered from here on
+abbrev pub starts_from : Shape → ℕ → List (List Command) → List Standing
+starts_from layout number [] = []
+starts_from layout number (commands ∷ more) = at_start layout number commands ∷ starts_from layout (number + 1) more
 
 -- ---- the whole
 

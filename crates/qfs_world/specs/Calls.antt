@@ -48,10 +48,12 @@ module _ {D L : Type 0} where
   HasTurn world actor = IsTrue (list_any (λ number. number == actor) (turn_of world.script world.actors))
 
   -- the node of this number is a server whose device's count of faults rose
-  abbrev pub HasRisen : Running D L → Running D L → Option ℕ → Type 0
-  HasRisen before behind node =
-      (server : ℕ) × (old : Stored) × (new : Stored) × (node ≡ Some server)
-      × (numbered before.stores server ≡ Some old) × (numbered behind.stores server ≡ Some new) × Rose old.faults new.faults
+  pub record HasRisen (before behind : Running D L) (node : ℕ) : Type 0 where
+    pub old : Stored
+    pub new : Stored
+    pub before_is : numbered before.stores node ≡ Some old
+    pub behind_is : numbered behind.stores node ≡ Some new
+    pub rose : Rose old.faults new.faults
 
   -- every node but the one of this number is as it was
   pub record OthersStay (before behind : Running D L) (node : ℕ) : Type 0 where
@@ -70,7 +72,7 @@ module _ {D L : Type 0} where
     pub actors : behind.actors ≡ renumbered before.actors number (after_reply actor reply)
     pub others : OthersStay before behind node
     pub goes_on : AllZip GoesOn before.stores behind.stores
-    pub cause : outcome ≡ Ended.Failed → HasRisen before behind (Some node)
+    pub cause : outcome ≡ Ended.Failed → HasRisen before behind node
     pub falls : steps_left behind.actors < steps_left before.actors
     pub script_is : behind.script ≡ before.script
     pub spare_are : behind.spare ≡ before.spare
@@ -82,10 +84,12 @@ module _ {D L : Type 0} where
 abbrev pub lines_of_actors : List Actor → List ReplyLine
 lines_of_actors actors = flat_map lines_of_actor actors
 
-module _ {D L : Type 0} where
-  -- these devices are those of a world, each in its place: those of the servers tell what the servers' did, and those
-  -- above are as they came
-  pub record AreDevicesOf (told : D → Option Held) (faults : D → ℕ) (world : Running D L) (devices : List D) : Type 0 where
-    pub told_are : map told (take (length world.stores) devices) ≡ map (λ (stored : Stored). stored.told) world.stores
-    pub faults_are : map faults (take (length world.stores) devices) ≡ map (λ (stored : Stored). stored.faults) world.stores
-    pub spare_are : drop (length world.stores) devices ≡ world.spare
+-- these devices are those of chunk servers, which tell what the servers' did, and behind them these others
+pub record AreHome {D : Type 0} (told : D → Option Held) (faults : D → ℕ) (stores : List Stored) (others devices : List D) : Type 0 where
+  pub told_are : map told (take (length stores) devices) ≡ map (λ (stored : Stored). stored.told) stores
+  pub faults_are : map faults (take (length stores) devices) ≡ map (λ (stored : Stored). stored.faults) stores
+  pub others_are : drop (length stores) devices ≡ others
+
+-- these devices are those of a world, each in its place; those above the script's servers are as they came
+abbrev pub AreDevicesOf : {D L : Type 0} → (D → Option Held) → (D → ℕ) → Running D L → List D → Type 0
+AreDevicesOf told faults world devices = AreHome told faults world.stores world.spare devices

@@ -14,6 +14,7 @@ use Rattle.qfs_base.specs.declared.request.MetaRequest.{MetaRequest}
 use Rattle.qfs_base.specs.declared.request.NodeRequest.{NodeRequest}
 use Rattle.qfs_base.specs.declared.request.NodeRequest.TheVariants as To
 use Rattle.qfs_device.specs.Fault.{Rose}
+use Rattle.qfs_machine.specs.Askable.{IsAskable}
 use Rattle.qfs_meta.specs.Metaserver.{Metaserver}
 use Rattle.qfs_model_actor.specs.Actor.{Actor, request_of, after_reply}
 use Rattle.qfs_model_meta.specs.Step.{meta_step}
@@ -79,6 +80,7 @@ module _ {D : Type 0} where
     pub request : NodeRequest
     pub reply : NodeReply
     pub asked : request_of actor ≡ Some request
+    pub askable : IsAskable request
     pub serves : Serves actor.number before request reply node
     pub took : behind ≡ after_reply actor reply
     pub outcome_is : outcome ≡ outcome_of reply

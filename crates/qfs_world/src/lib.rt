@@ -3,4 +3,11 @@
 #![tactic(auto)]
 
 mod node;
+mod parts;
+mod start;
+mod turns;
 mod world;
+
+pub use node::{MetaNode, NodeState, turn_on};
+pub use parts::{Parts, PartsError, WorldLoadError};
+pub use world::World;

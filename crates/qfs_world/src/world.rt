@@ -1,14 +1,18 @@
 //! The world at work.
-ghost use Rattle.std.specs.Prelude.{◌≡◌, ◌+◌, ◌≤◌, ◌<◌, ◌++◌, ◌∷◌, [], length, map, All, IfOk, IfErr, OnErr, OnOk, false};
+ghost use Rattle.std.specs.Prelude.{◌≡◌, ◌+◌, ◌≤◌, ◌<◌, ◌++◌, ◌∷◌, [], length, map, All, IfOk, IfErr, OnErr, false, vec_len, vec_capacity};
 ghost use Rattle.qfs_machine.specs.Asking.{IsOut};
 ghost use Rattle.qfs_model_actor.specs.Actor.{has_finished};
-ghost use Rattle.qfs_world.specs.AtWork.{TakesTurn, place_in};
+ghost use Rattle.qfs_world.specs.AtWork.{TakesTurn, place_in, sizes_of, starts_from};
 ghost use Rattle.qfs_world.specs.Calls.{IsNew, Starts, HasTurn, Steps, AreDevicesOf, lines_of_actors};
 ghost use Rattle.qfs_world.specs.Follows.{IsAfter};
-ghost use Rattle.qfs_world.specs.Running.{IsRunnable, turn_of};
-ghost use Rattle.qfs_base.specs.declared.history.Step.{Step};
+ghost use Rattle.qfs_world.specs.Running.{IsRunnable, commands_by_actor, turn_of};
+ghost use Rattle.qfs_model_meta.specs.Step.{opening};
+ghost use Rattle.qfs_world.specs.declared.node.NodeState.TheVariants as Node;
 
 use crate::node::{NodeState, turn_on};
+use crate::parts::{Parts, PartsError, WorldLoadError, all_replies, hand_back};
+use crate::start::{first_actors, first_node, phase_sizes, take_devices};
+use crate::turns::current_turn;
 use qfs_actor::Actor;
 use qfs_base::history::{Order, Outcome, Step};
 use qfs_base::lists::TurnList;
@@ -52,6 +56,44 @@ impl<D: ChunkDevice, L: LogDisk> Model for World<D, L> {
 }
 
 impl<D: ChunkDevice, L: LogDisk> World<D, L> {
+    /// The world in which a script starts. Device s - 1 becomes that of server s. An Err says that
+    /// memory is wanting, and hands devices and disks back as they came.
+    pub fn new(
+        alloc: Global,
+        script: &Script,
+        devices: Vec<D>,
+        disks: MetaDisks<L>,
+    ) -> Result<World<D, L>, WorldLoadError<D, L>>
+        requires runnable { IsRunnable script.now }
+        requires enough { script.now.servers ≤ length devices.items }
+        requires fresh { All (IsNew D.told) devices.items }
+        ensures ok { IfOk result (Starts D.told D.faults script.now devices.items disks) }
+        ensures err_devices { IfErr result (λ error. error.devices.items ≡ devices.items) }
+        ensures err_disks { IfErr result (λ error. error.disks ≡ disks) }
+    {
+        match prepare(alloc, script) {
+            Err(_) => Err(WorldLoadError { devices, disks }),
+            Ok(Prepared {
+                mut nodes,
+                actors,
+                phases,
+            }) => {
+                let mut spare = devices;
+                take_devices(alloc, &mut spare, &mut nodes, script.servers);
+                Ok(World {
+                    alloc,
+                    script: Snapshot::of(script),
+                    nodes,
+                    actors,
+                    phases,
+                    order: Order::new(alloc),
+                    spare,
+                    disks,
+                })
+            }
+        }
+    }
+
     /// The actor takes its next step. On want of memory the world is as it was.
     pub fn step(&mut self, actor: ActorId) -> Result<Outcome, AllocError>
         requires turn { HasTurn self.old actor }
@@ -62,6 +104,15 @@ impl<D: ChunkDevice, L: LogDisk> World<D, L> {
         step_on(&mut self.nodes, &mut self.actors[at], &mut self.order)
     }
 
+    /// Whose turn it may be: the unfinished actors of the current phase, by number. None is left
+    /// where all have finished.
+    pub fn turn(&self) -> Result<TurnList, AllocError>
+        ensures turn { IfOk result (λ turn. turn ≡ turn_of self.now.script self.now.actors) }
+        ensures after { IsAfter self.now }
+    {
+        current_turn(self.alloc, &self.actors, &self.phases)
+    }
+
     /// The entries of the steps taken so far.
     pub fn order(&self) -> &Order
         ensures order { result.now ≡ self.now.order }
@@ -69,6 +120,66 @@ impl<D: ChunkDevice, L: LogDisk> World<D, L> {
     {
         &self.order
     }
+
+    /// Takes the world apart. An Err says that memory is wanting, and hands devices and disks back.
+    pub fn into_parts(self) -> Result<Parts<D, L>, PartsError<D, L>>
+        ensures devices { IfOk result (λ parts. AreDevicesOf D.told D.faults self parts.devices.items) }
+        ensures disks { IfOk result (λ parts. parts.disks ≡ self.disks) }
+        ensures image { IfOk result (λ parts. parts.image ≡ self.meta) }
+        ensures order { IfOk result (λ parts. parts.order ≡ self.order) }
+        ensures replies { IfOk result (λ parts. parts.replies ≡ lines_of_actors self.actors) }
+        ensures err_devices { IfErr result (λ error. AreDevicesOf D.told D.faults self error.devices.items) }
+        ensures err_disks { IfErr result (λ error. error.disks ≡ self.disks) }
+        ensures after { IsAfter self }
+    {
+        let World {
+            alloc,
+            nodes,
+            actors,
+            order,
+            spare,
+            disks,
+            ..
+        } = self;
+        let mut devices = spare;
+        let image = hand_back(nodes, &mut devices);
+        match all_replies(alloc, actors) {
+            Err(_) => Err(PartsError { devices, disks }),
+            Ok(replies) => Ok(Parts {
+                devices,
+                disks,
+                image,
+                order,
+                replies,
+            }),
+        }
+    }
+}
+
+/// The nodes and actors of a world at its start, but for the chunk servers.
+#[derive(Drop)]
+struct Prepared<D: ChunkDevice> {
+    nodes: Vec<NodeState<D>>,
+    actors: Vec<Actor>,
+    phases: Vec<usize>,
+}
+
+/// Takes all memory that a world takes at its start.
+fn prepare<D: ChunkDevice>(alloc: Global, script: &Script) -> Result<Prepared<D>, AllocError>
+    requires { IsRunnable script.now }
+    ensures nodes { IfOk result (λ it. it.nodes.items ≡ Node.Meta (record { layout = script.now.layout; image = opening script.now.servers }) ∷ []) }
+    ensures room { IfOk result (λ it. vec_len it.nodes + script.now.servers ≤ vec_capacity it.nodes) }
+    ensures actors { IfOk result (λ it. it.actors.items ≡ starts_from script.now.layout 1 (commands_by_actor script.now)) }
+    ensures phases { IfOk result (λ it. it.phases.items ≡ sizes_of script.now.phases) }
+{
+    let nodes = first_node(alloc, script)?;
+    let actors = first_actors(alloc, script)?;
+    let phases = phase_sizes(alloc, script)?;
+    Ok(Prepared {
+        nodes,
+        actors,
+        phases,
+    })
 }
 
 /// One step of an actor that hasn't finished, with its entry in the order. On want of memory all is
