@@ -60,6 +60,10 @@ module _ {D : Type 0} where
   abbrev pub nodes_with : Metaserver → List Stored → List (NodeState D)
   nodes_with meta stores = Node.Meta meta ∷ map Node.Store stores
 
+pub stores-with : (D : Type 0) (meta : Metaserver) (stores : List Stored) → stores_of (nodes_with {D = D} meta stores) ≡ stores
+stores-with D meta stores = stores-map D stores
+
+module _ {D : Type 0} where
   -- the metaserver served the actor's request
   pub record OfMeta (meta : Metaserver) (stores : List Stored) (actor : Actor) (outcome : Outcome) (behind : List (NodeState D)) (moved : Actor) : Type 0 where
     pub request : MetaRequest
@@ -104,7 +108,7 @@ module _ {D : Type 0} where
   module _ (meta : Metaserver) (stores : List Stored) (actor : Actor) (outcome : Outcome) (behind : List (NodeState D)) (moved : Actor)
       (turn : TakesTurn (nodes_with meta stores) actor outcome behind moved) where
 
-    at-place : (place : ℕ) (node : NodeState D) → place_in (length (nodes_with meta stores)) (node_of actor) ≡ place
+    at-place : (place : ℕ) (node : NodeState D) → place_in (length (nodes_with {D = D} meta stores)) (node_of actor) ≡ place
         → slice_get (nodes_with meta stores) place ≡ Some node
         → (Serves actor.number node turn.turns.request turn.turns.reply turn.next) × (behind ≡ slice_set (nodes_with meta stores) place turn.next)
     at-place place node at there =
@@ -174,9 +178,9 @@ module _ {D : Type 0} where
     by-place place request is askable (Some stored) there =
         let within : place < length stores = slice_get_within stores place stored there in
         let long : length (map {A = Stored} {B = NodeState D} Node.Store stores) ≡ length stores = length-map stores Node.Store in
-        let at : place_in (length (nodes_with meta stores)) (node_of actor) ≡ suc place =
-        ap (place_in (length (nodes_with meta stores))) (node-chunk actor (suc place) request (asked-is _ is))
-        ∙ place-within (length (nodes_with meta stores)) (suc place) (omega arith) in
+        let at : place_in (length (nodes_with {D = D} meta stores)) (node_of actor) ≡ suc place =
+        ap (place_in (length (nodes_with {D = D} meta stores))) (node-chunk actor (suc place) request (asked-is _ is))
+        ∙ place-within (length (nodes_with {D = D} meta stores)) (suc place) (omega arith) in
         let found : slice_get (map {A = Stored} {B = NodeState D} Node.Store stores) place ≡ Some (Node.Store stored) =
         slice_get-map Node.Store stores place ∙ ap (option_map Node.Store) there in
         let t = at-place (suc place) (Node.Store stored) at found in
@@ -185,9 +189,9 @@ module _ {D : Type 0} where
     by-place place request is askable None there =
         let long : length (map {A = Stored} {B = NodeState D} Node.Store stores) ≡ length stores = length-map stores Node.Store in
         let past : length stores ≤ place = past_end stores place there in
-        let at : place_in (length (nodes_with meta stores)) (node_of actor) ≡ 0 =
-        ap (place_in (length (nodes_with meta stores))) (node-chunk actor (suc place) request (asked-is _ is))
-        ∙ place-past (length (nodes_with meta stores)) (suc place) (omega arith) in
+        let at : place_in (length (nodes_with {D = D} meta stores)) (node_of actor) ≡ 0 =
+        ap (place_in (length (nodes_with {D = D} meta stores))) (node-chunk actor (suc place) request (asked-is _ is))
+        ∙ place-past (length (nodes_with {D = D} meta stores)) (suc place) (omega arith) in
         let t = at-place 0 (Node.Meta meta) at refl in
         let P : NodeRequest → Type 0 = λ r. Serves actor.number (Node.Meta meta) r turn.turns.reply turn.next in
         inr (inr (of-none (suc place) request is there (subst P is t.0) t.1))
@@ -201,14 +205,14 @@ module _ {D : Type 0} where
         → Took meta stores actor outcome behind moved
     unfolding numbered
     by-request (To.Meta request) is askable =
-        let at : place_in (length (nodes_with meta stores)) (node_of actor) ≡ 0 =
-        ap (place_in (length (nodes_with meta stores))) (node-meta actor request (asked-is _ is)) ∙ place-none _ in
+        let at : place_in (length (nodes_with {D = D} meta stores)) (node_of actor) ≡ 0 =
+        ap (place_in (length (nodes_with {D = D} meta stores))) (node-meta actor request (asked-is _ is)) ∙ place-none _ in
         let t = at-place 0 (Node.Meta meta) at refl in
         let P : NodeRequest → Type 0 = λ r. Serves actor.number (Node.Meta meta) r turn.turns.reply turn.next in
         inl (of-meta request is (subst P is t.0) t.1)
     by-request (To.Chunk zero request) is askable =
-        let at : place_in (length (nodes_with meta stores)) (node_of actor) ≡ 0 =
-        ap (place_in (length (nodes_with meta stores))) (node-chunk actor 0 request (asked-is _ is)) ∙ place-none _ in
+        let at : place_in (length (nodes_with {D = D} meta stores)) (node_of actor) ≡ 0 =
+        ap (place_in (length (nodes_with {D = D} meta stores))) (node-chunk actor 0 request (asked-is _ is)) ∙ place-none _ in
         let t = at-place 0 (Node.Meta meta) at refl in
         let P : NodeRequest → Type 0 = λ r. Serves actor.number (Node.Meta meta) r turn.turns.reply turn.next in
         inr (inr (of-none 0 request is refl (subst P is t.0) t.1))

@@ -42,7 +42,7 @@ module _ (script : Script) (order : List Step) (world : World) (number : ℕ) (a
   module _ (outcome : Outcome) (served : World) (reply : NodeReply)
       (turned : node_turn world number outcome request ≡ record { world = served; reply = reply }) where
     -- the world after the step
-    step-is : move world (record { actor = number; outcome = outcome })
+    pub step-is : move world (record { actor = number; outcome = outcome })
         ≡ record served { actors = renumbered served.actors number (after_reply actor reply) }
     unfolding move move_actor move_asking handed_over
     step-is =
@@ -50,7 +50,7 @@ module _ (script : Script) (order : List Step) (world : World) (number : ℕ) (a
         ∙ ap (move_asking world number outcome actor) asked
         ∙ ap (handed_over number actor) turned
 
-    world-after : after script (order ++ record { actor = number; outcome = outcome } ∷ [])
+    pub world-after : after script (order ++ record { actor = number; outcome = outcome } ∷ [])
         ≡ record served { actors = renumbered served.actors number (after_reply actor reply) }
     world-after =
         after-snoc script order (record { actor = number; outcome = outcome })
@@ -73,7 +73,7 @@ module _ (script : Script) (order : List Step) (world : World) (number : ℕ) (a
       unfolding may_come turn
       comes = and-both (list_any (λ n. n == number) (turn_of script world.actors)) _ turns possible
 
-      fits-after : IsTrue (fits script order) → IsTrue (fits script (order ++ record { actor = number; outcome = outcome } ∷ []))
+      pub fits-after : IsTrue (fits script order) → IsTrue (fits script (order ++ record { actor = number; outcome = outcome } ∷ []))
       fits-after fitting =
           fits-snoc script order (record { actor = number; outcome = outcome })
           ∙ and-both (fits script order) _ fitting

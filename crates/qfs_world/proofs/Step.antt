@@ -1,6 +1,9 @@
 -- A step of a world at work, by its parts.
 use Rattle.std.proofs.Common.{◌≡◌, ℕ, suc, zero, ◌+◌, ◌-◌, ◌<◌, ◌≤◌, ◌^◌, Bool, true, false, List, [], ◌∷◌, ◌++◌, length, Option, Some, None, refl, sym, ◌∙◌, ap, ap₂, subst, arith, slice_get, slice_set, ◌⊎◌, inl, inr, length-set}
-use Rattle.std.specs.Prelude.{map, ◌==◌, IsTrue, sum, is_some}
+use Rattle.std.specs.Prelude.{map, take, drop, ◌==◌, IsTrue, sum, is_some, Result, Ok, Err, IfOk, OnErr}
+use Rattle.std.specs.declared.alloc.AllocError.{AllocError}
+use Rattle.std.proofs.lemmas.Grind.{common_steps}
+use Rattle.std.proofs.lemmas.List.{length-map}
 use Rattle.std.specs.List.{list_any, AllZip}
 use Rattle.qfs_actor.specs.Standing.{Standing}
 use Rattle.qfs_base.specs.Outcome.{outcome_of, meta_outcome, chunk_outcome}
@@ -29,7 +32,7 @@ use Rattle.qfs_world.specs.Turns.{GoesOn, no_server}
 use Rattle.qfs_world.specs.declared.node.NodeState.{NodeState}
 use Rattle.qfs_world.specs.declared.node.NodeState.TheVariants as Node
 use Rattle.qfs_world.proofs.Kept.{all-tell-set, chunk-ends, fault-of, meta-ends, numbered-is, follows-meta, follows-none, follows-store}
-use Rattle.qfs_world.proofs.Lists.{get-set, get-set-other}
+use Rattle.qfs_world.proofs.Lists.{get-set, get-set-other, set-same}
 use Rattle.qfs_world.proofs.Nodes.{node-meta, node-chunk, nodes_with, stores-with, OfMeta, OfStore, OfNone, Took, took-turn}
 use Rattle.qfs_world.proofs.Numbered.{number-kept, number-at, numbered-set, actors-at, standing-at, actors-set, left-all-falls}
 use Rattle.qfs_world.proofs.TurnLists.{in-turn}
@@ -60,10 +63,8 @@ none-fails : (outcome : Outcome) → outcome ≡ outcome_of no_server → outcom
 unfolding outcome_of chunk_outcome
 none-fails outcome e failed = cc
 
--- an actor whose turn it is
-pub record AtTurn (actors : List Standing) (number : ℕ) : Type 0 where
-  pub place : ℕ
-  pub it : Standing
+-- an actor whose turn it is: it has this number, stands at this place, and hasn't finished
+pub record AtTurn (actors : List Standing) (number place : ℕ) (it : Standing) : Type 0 where
   pub number_is : number ≡ suc place
   pub there : slice_get actors place ≡ Some it
   pub own : it.actor.number ≡ suc place
@@ -73,21 +74,22 @@ pub record AtTurn (actors : List Standing) (number : ℕ) : Type 0 where
 pub turn-place : {D : Type 0} (script : Script) (nodes : List (NodeState D)) (actors : List Standing) (phases : List ℕ) (order : List Step)
     → IsAtWork script nodes actors phases order → (number : ℕ)
     → IsTrue (list_any (λ n. n == number) (turn_of script (actors_of actors)))
-    → AtTurn actors number
+    → (it : Standing) × AtTurn actors number (number - 1) it
 turn-place script nodes actors phases order work number turn =
     let has = in-turn number script.phases (actors_of actors) turn in
-    let found = standing-at actors has.at has.actor hfound.there in
+    let found = standing-at actors has.at has.actor has.there in
     let own = number-at 1 actors has.at found.it work.numbered found.there in
     let next : 1 + has.at ≡ suc has.at = omega arith in
-    record {
-      place = has.at;
-      it = found.it;
-      number_is = sym has.number_is ∙ ap (λ (a : Actor). a.number) (sym found.actor_is) ∙ own.number_is ∙ next;
+    let number_is : number ≡ suc has.at =
+    sym has.number_is ∙ ap (λ (a : Actor). a.number) (sym found.actor_is) ∙ own.number_is ∙ next in
+    let place : has.at ≡ number - 1 = omega arith in
+    let at : AtTurn actors number has.at found.it = record {
+      number_is = number_is;
       there = found.there;
       own = own.number_is ∙ next;
       rests = own.rests;
       unfinished = ap has_finished found.actor_is ∙ has.unfinished;
-    }
+    } in (found.it, subst (λ p. AtTurn actors number p found.it) place at)
 
 module _ {D : Type 0} where
   -- nodes with this metaserver and these chunk servers have them
@@ -98,7 +100,7 @@ module _ {D : Type 0} where
       e
       ∙ ap (λ l. nodes_with (record { layout = l; image = meta.image }) stores) layout
       ∙ ap (λ ns. nodes_with (record { layout = script.layout; image = image_of ns }) stores) (sym e)
-      ∙ ap (λ ss. nodes_with (record { layout = script.layout; image = image_of nodes }) ss) (sym (stores-with meta stores))
+      ∙ ap (λ ss. nodes_with (record { layout = script.layout; image = image_of nodes }) ss) (sym (stores-with D meta stores))
       ∙ ap (λ ns. nodes_with (record { layout = script.layout; image = image_of nodes }) (stores_of ns)) (sym e)
 
   -- a turn of an actor, and what the nodes and actors are behind it
@@ -136,7 +138,7 @@ module _ {D : Type 0} where
         → IsAtWork script behind (slice_set actors place next) phases (order ++ entry ∷ [])
     at-work meta' stores' reply b =
         let image : meta'.image ≡ image_of behind = ap image_of (sym b.nodes_are) in
-        let same : stores' ≡ stores_of behind = sym (stores-with meta' stores') ∙ ap stores_of (sym b.nodes_are) in
+        let same : stores' ≡ stores_of behind = sym (stores-with D meta' stores') ∙ ap stores_of (sym b.nodes_are) in
         let long : length (slice_set actors place next) ≡ length actors = length-set actors place next in
         record {
           nodes_are = again script behind meta' stores' b.nodes_are b.layout;
@@ -206,8 +208,8 @@ module _ {D : Type 0} where
     record HasFault (stores' : List Stored) (node : ℕ) : Type 0 where
       pub old : Stored
       pub new : Stored
-      pub before : numbered stores node ≡ Some old
-      pub behind : numbered stores' node ≡ Some new
+      pub was : numbered stores node ≡ Some old
+      pub is_now : numbered stores' node ≡ Some new
       pub rose : Rose old.faults new.faults
 
     record Tells (meta' : Metaserver) (stores' : List Stored) (reply : NodeReply) (node : ℕ) : Type 0 where
@@ -251,8 +253,8 @@ module _ {D : Type 0} where
           record {
             old = t.stored;
             new = t.next;
-            before = numbered-is stores t.place t.stored t.there;
-            behind = numbered-is (slice_set stores t.place t.next) t.place t.next (get-set stores t.place t.stored t.next t.there);
+            was = numbered-is stores t.place t.stored t.there;
+            is_now = numbered-is (slice_set stores t.place t.next) t.place t.next (get-set stores t.place t.stored t.next t.there);
             rose =
                 fault-of t.answer.answer (Rose t.stored.faults t.next.faults) t.serves.cause
                 (sym (chunk-ends outcome t.answer t.outcome_is) ∙ failed);
@@ -285,7 +287,7 @@ module _ {D : Type 0} where
       steps : (meta' : Metaserver) (stores' : List Stored) (reply : NodeReply) (node : ℕ) → Tells meta' stores' reply node
           → Steps before_step (suc place) outcome behind_step
       steps meta' stores' reply node t =
-          let same : stores' ≡ stores_of behind = sym (stores-with meta' stores') ∙ ap stores_of (sym t.is.nodes_are) in
+          let same : stores' ≡ stores_of behind = sym (stores-with D meta' stores') ∙ ap stores_of (sym t.is.nodes_are) in
           let image : image_of behind ≡ meta'.image = ap image_of t.is.nodes_are in
           let all : actors_of (slice_set actors place next) ≡ slice_set (actors_of actors) place (after_reply it.actor reply) =
           actors-set actors place next ∙ ap (slice_set (actors_of actors) place) t.is.took in
@@ -308,8 +310,8 @@ module _ {D : Type 0} where
                 record {
                   old = f.old;
                   new = f.new;
-                  before_is = f.before;
-                  behind_is = ap (λ ss. numbered ss node) (sym same) ∙ f.behind;
+                  before_is = f.was;
+                  behind_is = ap (λ ss. numbered ss node) (sym same) ∙ f.is_now;
                   rose = f.rose;
                 };
             falls =
@@ -330,3 +332,104 @@ module _ {D : Type 0} where
               | inr t ↦ steps meta stores no_server t.server (tells-none t)
               ]
           ]
+
+-- ---- behind the call
+
+length-with : {D : Type 0} (nodes : List (NodeState D)) (meta : Metaserver) (stores : List Stored) → nodes ≡ nodes_with meta stores
+    → length nodes ≡ suc (length stores)
+length-with {D} nodes meta stores e = ap length e ∙ ap (λ n. suc n) (length-map {A = Stored} {B = NodeState D} stores Node.Store)
+
+-- as many nodes have as many chunk servers
+pub stores-long : {D : Type 0} (script : Script) (nodes behind : List (NodeState D)) (actors next : List Standing) (phases : List ℕ) (order more : List Step)
+    → IsAtWork script nodes actors phases order → IsAtWork script behind next phases more → length behind ≡ length nodes
+    → length (stores_of behind) ≡ length (stores_of nodes)
+stores-long script nodes behind actors next phases order more work works same =
+    omega (arith, length-with nodes _ _ work.nodes_are, length-with behind _ _ works.nodes_are, same)
+
+-- what was written behind a slice is the slice
+pub slice-back : {X : Type 0} (count : ℕ) (xs ys : List X) → count ≡ length xs → length ys ≡ length xs
+    → take count (ys ++ drop (length ys) xs) ≡ ys
+slice-back count xs ys c l = grind (arith, common_steps)
+
+module _ {D L : Type 0} (script : Script) (nodes : List (NodeState D)) (actors : List Standing) (phases : List ℕ) (order : List Step)
+    (spare : List D) (disks : MetaDisks L)
+    (work : IsAtWork script nodes actors phases order) (number place : ℕ) (it next : Standing) (at : AtTurn actors number place it)
+    (turn : IsTrue (list_any (λ n. n == number) (turn_of script (actors_of actors))))
+    (rests : IsOut next.readiness → ⊥) (behind : List (NodeState D)) (more : List Step) where
+  turns : IsTrue (list_any (λ n. n == suc place) (turn_of script (actors_of actors)))
+  turns = subst (λ m. IsTrue (list_any (λ n. n == m) (turn_of script (actors_of actors)))) at.number_is turn
+
+  entry-is : (outcome : Outcome) → more ≡ order ++ record { actor = it.actor.number; outcome = outcome } ∷ []
+      → more ≡ order ++ record { actor = suc place; outcome = outcome } ∷ []
+  entry-is outcome e = e ∙ ap (λ n. order ++ record { actor = n; outcome = outcome } ∷ []) at.own
+
+  -- where the actor is as it was, so are all
+  pub stays : behind ≡ nodes → next.actor ≡ it.actor → more ≡ order → IsAtWork script behind (slice_set actors place next) phases more
+  stays b a m =
+      let same : actors_of (slice_set actors place next) ≡ actors_of actors =
+      actors-set actors place next ∙ ap (slice_set (actors_of actors) place) a
+      ∙ set-same (actors_of actors) place it.actor (actors-at actors place it at.there) in
+      let long : length (slice_set actors place next) ≡ length actors = length-set actors place next in
+      let P : List (NodeState D) → Type 0 = λ ns. IsAtWork script ns (slice_set actors place next) phases more in
+      let Q : List Step → Type 0 = λ o. IsAtWork script nodes (slice_set actors place next) phases o in
+      let R : List Actor → Type 0 = λ all. Follows script order (image_of nodes) (stores_of nodes) all in
+      subst P (sym b) (subst Q (sym m) (record {
+        nodes_are = work.nodes_are;
+        numbered = numbered-set 1 actors place it next work.numbered at.there (ap (λ (x : Actor). x.number) a) rests;
+        few = omega (arith, work.few, long);
+        phases_are = work.phases_are;
+        whole = work.whole ∙ sym long;
+        follows = λ tell. subst R (sym same) (work.follows tell);
+      }))
+
+  pub works : (r : Result Outcome AllocError) → IfOk r (λ outcome. TakesTurn nodes it.actor outcome behind next.actor)
+      → IfOk r (λ outcome. more ≡ order ++ record { actor = it.actor.number; outcome = outcome } ∷ [])
+      → OnErr r (behind ≡ nodes) → OnErr r (next.actor ≡ it.actor) → OnErr r (more ≡ order)
+      → IsAtWork script behind (slice_set actors place next) phases more
+  works (Ok outcome) t o b a m =
+      subst (λ l. IsAtWork script behind (slice_set actors place next) phases l) (sym (entry-is outcome o))
+      (works-on script nodes actors phases order work place it next outcome behind at.there at.own turns rests t)
+  works (Err error) t o b a m = stays b a m
+
+  abbrev pub seen : Running D L
+  seen = record {
+    script = script;
+    meta = image_of nodes;
+    stores = stores_of nodes;
+    actors = actors_of actors;
+    order = order;
+    spare = spare;
+    disks = disks;
+  }
+
+  abbrev pub seen_behind : Running D L
+  seen_behind = record {
+    script = script;
+    meta = image_of behind;
+    stores = stores_of behind;
+    actors = actors_of (slice_set actors place next);
+    order = more;
+    spare = spare;
+    disks = disks;
+  }
+
+  pub tells : (r : Result Outcome AllocError) → IfOk r (λ outcome. TakesTurn nodes it.actor outcome behind next.actor)
+      → IfOk r (λ outcome. more ≡ order ++ record { actor = it.actor.number; outcome = outcome } ∷ [])
+      → IfOk r (λ outcome. Steps seen number outcome seen_behind)
+  tells (Ok outcome) t o =
+      let P : List Step → Type 0 = λ l. Steps seen number outcome (record seen_behind { order = l }) in
+      let Q : ℕ → Type 0 = λ n. Steps seen n outcome (record seen_behind { order = order ++ record { actor = suc place; outcome = outcome } ∷ [] }) in
+      subst P (sym (entry-is outcome o))
+      (subst Q (sym at.number_is) (steps-on script nodes actors phases order work place it next outcome behind at.there at.own turns rests t spare disks at.unfinished))
+  tells (Err error) t o = tt
+
+  pub stays-same : (r : Result Outcome AllocError) → OnErr r (behind ≡ nodes) → OnErr r (next.actor ≡ it.actor) → OnErr r (more ≡ order)
+      → OnErr r (seen_behind ≡ seen)
+  stays-same (Ok outcome) b a m = tt
+  stays-same (Err error) b a m =
+      let same : actors_of (slice_set actors place next) ≡ actors_of actors =
+      actors-set actors place next ∙ ap (slice_set (actors_of actors) place) a
+      ∙ set-same (actors_of actors) place it.actor (actors-at actors place it at.there) in
+      ap (λ ns. record seen_behind { meta = image_of ns; stores = stores_of ns }) b
+      ∙ ap (λ all. record seen { actors = all; order = more }) same
+      ∙ ap (λ l. record seen { order = l }) m

@@ -47,18 +47,49 @@ nobody : (number : ℕ) → list_any (λ n. n == number) (unfinished []) ≡ tru
 unfolding unfinished
 nobody number any = absurd (cc)
 
-pub in-unfinished : (number : ℕ) (actors : List Actor) → list_any (λ n. n == number) (unfinished actors) ≡ true
+unfinished-choice : (number : ℕ) (actor : Actor) (actors : List Actor)
+    → (list_any (λ n. n == number) (unfinished actors) ≡ true → HasUnfinished number actors)
+    → list_any (λ n. n == number) (unfinished (actor ∷ actors)) ≡ true
+    → (finished : Bool) → has_finished actor ≡ finished → HasUnfinished number (actor ∷ actors)
+unfinished-choice number actor actors rest any true e =
+    later number actor actors (rest (sym (ap (list_any (λ n. n == number)) (unfinished-skip actor actors e)) ∙ any))
+unfinished-choice number actor actors rest any false e =
+    this_or_later number actor actors e rest (actor.number == number) refl
+    (sym (ap (list_any (λ n. n == number)) (unfinished-keep actor actors e)) ∙ any)
+
+in-unfinished : (number : ℕ) (actors : List Actor) → list_any (λ n. n == number) (unfinished actors) ≡ true
     → HasUnfinished number actors
 in-unfinished number [] any = nobody number any
-in-unfinished number (actor ∷ actors) any = choice (has_finished actor) refl
-  where
-    choice : (finished : Bool) → has_finished actor ≡ finished → HasUnfinished number (actor ∷ actors)
-    choice true e =
-        later number actor actors
-        (in-unfinished number actors (sym (ap (list_any (λ n. n == number)) (unfinished-skip actor actors e)) ∙ any))
-    choice false e =
-        this_or_later number actor actors e (in-unfinished number actors) (actor.number == number) refl
-        (sym (ap (list_any (λ n. n == number)) (unfinished-keep actor actors e)) ∙ any)
+in-unfinished number (actor ∷ actors) any =
+    unfinished-choice number actor actors (in-unfinished number actors) any (has_finished actor) refl
+
+-- who is in the first list that is filled is in the first phase or behind it
+turn-choice : (number size : ℕ) (actors : List Actor) (lists : List (List ℕ))
+    → (list_any (λ n. n == number) (first_filled lists) ≡ true → HasUnfinished number (drop size actors))
+    → list_any (λ n. n == number) (first_filled (unfinished (take size actors) ∷ lists)) ≡ true
+    → (list : List ℕ) → unfinished (take size actors) ≡ list → HasUnfinished number actors
+unfolding first_filled
+turn-choice number size actors lists rest any [] e =
+    let behind = rest (sym (ap (λ l. list_any (λ n. n == number) (first_filled (l ∷ lists))) e) ∙ any) in
+    record {
+      at = size + behind.at;
+      actor = behind.actor;
+      there = get-drop size actors behind.at behind.actor behind.there;
+      number_is = behind.number_is;
+      unfinished = behind.unfinished;
+    }
+turn-choice number size actors lists rest any (x ∷ xs) e =
+    let first =
+    in-unfinished number (take size actors)
+    (ap (list_any (λ n. n == number)) e
+    ∙ (sym (ap (λ l. list_any (λ n. n == number) (first_filled (l ∷ lists))) e) ∙ any)) in
+    record {
+      at = first.at;
+      actor = first.actor;
+      there = get-take size actors first.at first.actor first.there;
+      number_is = first.number_is;
+      unfinished = first.unfinished;
+    }
 
 -- who is in the turn's list is an unfinished actor
 pub in-turn : (number : ℕ) (phases : List (List (List Command))) (actors : List Actor)
@@ -66,34 +97,17 @@ pub in-turn : (number : ℕ) (phases : List (List (List Command))) (actors : Lis
     → HasUnfinished number actors
 unfolding by_phase first_filled
 in-turn number [] actors any = absurd (cc)
-in-turn number (phase ∷ phases) actors any = choice (unfinished (take (length phase) actors)) refl
-  where
-    choice : (list : List ℕ) → unfinished (take (length phase) actors) ≡ list → HasUnfinished number actors
-    choice [] e =
-        let rest =
-        in-turn number phases (drop (length phase) actors)
-        (sym (ap (λ l. list_any (λ n. n == number) (first_filled (l ∷ map unfinished (by_phase phases (drop (length phase) actors))))) e) ∙ any) in
-        record {
-          at = length phase + rest.at;
-          actor = rest.actor;
-          there = get-drop (length phase) actors rest.at rest.actor rest.there;
-          number_is = rest.number_is;
-          unfinished = rest.unfinished;
-        }
-    choice (x ∷ xs) e =
-        let first =
-        in-unfinished number (take (length phase) actors)
-        (ap (list_any (λ n. n == number)) e
-        ∙ (sym (ap (λ l. list_any (λ n. n == number) (first_filled (l ∷ map unfinished (by_phase phases (drop (length phase) actors))))) e) ∙ any)) in
-        record {
-          at = first.at;
-          actor = first.actor;
-          there = get-take (length phase) actors first.at first.actor first.there;
-          number_is = first.number_is;
-          unfinished = first.unfinished;
-        }
+in-turn number (phase ∷ phases) actors any =
+    turn-choice number (length phase) actors (map unfinished (by_phase phases (drop (length phase) actors)))
+    (in-turn number phases (drop (length phase) actors)) any (unfinished (take (length phase) actors)) refl
 
 -- ---- by the sizes of the phases
+
+same-filled : (first : List ℕ) (xs ys : List (List ℕ)) → first_filled xs ≡ first_filled ys
+    → first_filled (first ∷ xs) ≡ first_filled (first ∷ ys)
+unfolding first_filled
+same-filled [] xs ys e = e
+same-filled (n ∷ ns) xs ys e = refl
 
 -- a phase without actors has no turn
 pub turn-by_sizes : (phases : List (List (List Command))) (actors : List Actor)
@@ -101,10 +115,6 @@ pub turn-by_sizes : (phases : List (List (List Command))) (actors : List Actor)
 unfolding by_phase first_filled unfinished
 turn-by_sizes [] actors = refl
 turn-by_sizes ([] ∷ phases) actors = turn-by_sizes phases actors
-turn-by_sizes ((commands ∷ more) ∷ phases) actors = choice (unfinished (take (length (commands ∷ more)) actors)) refl
-  where
-    choice : (list : List ℕ) → unfinished (take (length (commands ∷ more)) actors) ≡ list
-        → first_filled (unfinished (take (length (commands ∷ more)) actors) ∷ map unfinished (by_phase phases (drop (length (commands ∷ more)) actors)))
-        ≡ first_filled (unfinished (take (length (commands ∷ more)) actors) ∷ map unfinished (by_sizes (sizes_of phases) (drop (length (commands ∷ more)) actors)))
-    choice [] e = rw e (turn-by_sizes phases (drop (length (commands ∷ more)) actors))
-    choice (x ∷ xs) e = rw e refl
+turn-by_sizes ((commands ∷ more) ∷ phases) actors =
+    same-filled (unfinished (take (length (commands ∷ more)) actors)) _ _
+    (turn-by_sizes phases (drop (length (commands ∷ more)) actors))

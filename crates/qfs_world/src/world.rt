@@ -100,8 +100,11 @@ impl<D: ChunkDevice, L: LogDisk> World<D, L> {
         ensures ok { IfOk result (λ outcome. Steps self.old actor outcome self.new) }
         ensures err { OnErr result (self.new ≡ self.old) }
     {
-        let at = actor as usize - 1;
-        step_on(&mut self.nodes, &mut self.actors[at], &mut self.order)
+        step_on(
+            &mut self.nodes,
+            &mut self.actors[actor as usize - 1],
+            &mut self.order,
+        )
     }
 
     /// Whose turn it may be: the unfinished actors of the current phase, by number. None is left
