@@ -1,0 +1,230 @@
+-- A world at work stays that of the definitions through a step.
+use Rattle.std.proofs.Common.{◌≡◌, ℕ, suc, zero, ◌+◌, ◌<◌, ◌≤◌, Bool, true, false, List, [], ◌∷◌, ◌++◌, length, Option, Some, None, refl, sym, ◌∙◌, ap, ap₂, subst, arith, slice_get, slice_set, ◌⊎◌, inl, inr}
+use Rattle.std.specs.Prelude.{map, ◌==◌, IsSome, IsTrue, is_some, All}
+use Rattle.std.specs.List.{list_any, AllZip, AllByRecursion}
+use Rattle.std.proofs.lemmas.List.Elements.{All-from_recursion, recursion_from_All}
+use Rattle.qfs_base.specs.Outcome.{outcome_of, meta_outcome, chunk_outcome}
+use Rattle.qfs_base.specs.declared.history.Outcome.{Outcome}
+use Rattle.qfs_base.specs.declared.history.Outcome.TheVariants as Ended
+use Rattle.qfs_base.specs.declared.history.Step.{Step}
+use Rattle.qfs_base.specs.declared.reply.ChunkAnswer.{ChunkAnswer}
+use Rattle.qfs_base.specs.declared.reply.ChunkAnswer.TheVariants as Did
+use Rattle.qfs_base.specs.declared.reply.ChunkReply.{ChunkReply}
+use Rattle.qfs_base.specs.declared.reply.MetaReply.{MetaReply}
+use Rattle.qfs_base.specs.declared.reply.NodeReply.{NodeReply}
+use Rattle.qfs_base.specs.declared.reply.NodeReply.TheVariants as From
+use Rattle.qfs_base.specs.declared.request.ChunkRequest.{ChunkRequest}
+use Rattle.qfs_base.specs.declared.request.ChunkRequest.TheVariants as Serve
+use Rattle.qfs_base.specs.declared.request.MetaRequest.{MetaRequest}
+use Rattle.qfs_base.specs.declared.request.NodeRequest.{NodeRequest}
+use Rattle.qfs_base.specs.declared.request.NodeRequest.TheVariants as To
+use Rattle.qfs_base.specs.declared.script.Script.{Script}
+use Rattle.qfs_device.specs.Fault.{Rose}
+use Rattle.qfs_machine.specs.Askable.{IsAskedOfServer}
+use Rattle.qfs_meta.specs.Metaserver.{Metaserver}
+use Rattle.qfs_model_actor.specs.Actor.{Actor, request_of, after_reply}
+use Rattle.qfs_model_meta.specs.Step.{Served, meta_step}
+use Rattle.qfs_model_server.specs.Server.{Server, Answered, server_step}
+use Rattle.qfs_model_world.specs.Fits.{chunk_may_fail, chunk_may_want, may_fail, may_want_memory, may_end, fits}
+use Rattle.qfs_model_world.specs.World.{World, Turned, numbered, renumbered, node_turn, meta_turned, chunk_turn, chunk_turned, after}
+use Rattle.qfs_store.specs.Stands.{OnFault, MemoryFor, TakesNoMemory}
+use Rattle.qfs_store.specs.Stored.{Stored}
+use Rattle.qfs_world.specs.Follows.{Follows, StandForAll}
+use Rattle.qfs_world.specs.Running.{AllTell, turn_of}
+use Rattle.qfs_world.specs.Turns.{GoesOn, MetaServes, StoreServes, no_server}
+use Rattle.qfs_world.specs.declared.node.NodeState.{NodeState}
+use Rattle.qfs_world.proofs.Lists.{get-set, get-set-other}
+use Rattle.qfs_world.proofs.Nodes.{OfMeta, OfStore, OfNone}
+use Rattle.qfs_world.proofs.Simulation.{world-after, fits-after}
+use Rattle.qfs_world.proofs.Stands.{stands-at, stands-past, stands-set, store-follows}
+
+-- ---- which outcomes may come
+
+meta-may : (request : MetaRequest) (outcome : Outcome) → (outcome ≡ Ended.Failed → ⊥) → may_end outcome (To.Meta request) ≡ true
+unfolding may_end may_want_memory
+meta-may request Ended.Done sure = refl
+meta-may request Ended.Failed sure = absurd (sure refl)
+meta-may request Ended.NoMemory sure = refl
+
+put-may : (server : ℕ) (request : ChunkRequest) (outcome : Outcome) → chunk_may_fail request ≡ true → chunk_may_want request ≡ true
+    → may_end outcome (To.Chunk server request) ≡ true
+unfolding may_end may_fail may_want_memory
+put-may server request Ended.Done f w = refl
+put-may server request Ended.Failed f w = f
+put-may server request Ended.NoMemory f w = w
+
+fetch-may : (server : ℕ) (request : ChunkRequest) (outcome : Outcome) → chunk_may_fail request ≡ true → (outcome ≡ Ended.NoMemory → ⊥)
+    → may_end outcome (To.Chunk server request) ≡ true
+unfolding may_end may_fail
+fetch-may server request Ended.Done f w = refl
+fetch-may server request Ended.Failed f w = f
+fetch-may server request Ended.NoMemory f w = absurd (w refl)
+
+no-want : (answer : ChunkAnswer) → TakesNoMemory answer → chunk_outcome answer ≡ Ended.NoMemory → ⊥
+unfolding chunk_outcome
+no-want Did.NoMemory takes e = takes
+no-want Did.Fault takes e = cc
+no-want answer takes e = cc
+
+chunk-may : (server : ℕ) (request : ChunkRequest) (answer : ChunkAnswer) → IsAskedOfServer request → MemoryFor request answer
+    → may_end (chunk_outcome answer) (To.Chunk server request) ≡ true
+unfolding chunk_may_fail chunk_may_want
+chunk-may server (Serve.Put key life bytes) answer asked memory = put-may server _ _ refl refl
+chunk-may server (Serve.Fetch key life from room) answer asked memory = fetch-may server _ _ refl (no-want answer memory)
+chunk-may server (Serve.Erase key life) answer asked memory = absurd asked
+chunk-may server Serve.Stop answer asked memory = absurd asked
+chunk-may server Serve.Start answer asked memory = absurd asked
+chunk-may server Serve.Wipe answer asked memory = absurd asked
+chunk-may server Serve.Inventory answer asked memory = absurd asked
+
+-- a step that failed has its fault
+pub fault-of : (answer : ChunkAnswer) (fact : Type 0) → OnFault answer fact → chunk_outcome answer ≡ Ended.Failed → fact
+unfolding chunk_outcome
+fault-of Did.Fault fact h e = h
+fault-of Did.NoMemory fact h e = absurd (cc)
+fault-of answer fact h e = absurd (cc)
+
+-- ---- devices that tell
+
+tells-set : (stores : List Stored) (place : ℕ) (stored next : Stored) → slice_get stores place ≡ Some stored
+    → is_some next.told ≡ is_some stored.told
+    → AllByRecursion (λ (s : Stored). IsSome s.told) (slice_set stores place next)
+    → AllByRecursion (λ (s : Stored). IsSome s.told) stores
+tells-set [] place stored next e same all = tt
+tells-set (first ∷ rest) zero stored next e same all =
+    let is : first ≡ stored = cc in
+    (ap (λ (s : Stored). is_some s.told) is ∙ sym same ∙ all.0, all.1)
+tells-set (first ∷ rest) (suc place) stored next e same all = (all.0, tells-set rest place stored next e same all.1)
+
+pub all-tell-set : (stores : List Stored) (place : ℕ) (stored next : Stored) → slice_get stores place ≡ Some stored
+    → is_some next.told ≡ is_some stored.told → AllTell (slice_set stores place next) → AllTell stores
+all-tell-set stores place stored next e same all =
+    All-from_recursion (λ (s : Stored). IsSome s.told) stores
+    (tells-set stores place stored next e same
+    (recursion_from_All (λ (s : Stored). IsSome s.told) (slice_set stores place next) all))
+
+-- ---- words that open
+
+pub meta-ends : (outcome : Outcome) (answer : MetaReply) → outcome ≡ outcome_of (From.Meta answer) → outcome ≡ meta_outcome answer
+unfolding outcome_of
+meta-ends outcome answer e = e
+
+pub chunk-ends : (outcome : Outcome) (answer : ChunkReply) → outcome ≡ outcome_of (From.Chunk answer) → outcome ≡ chunk_outcome answer.answer
+unfolding outcome_of
+chunk-ends outcome answer e = e
+
+none-there : (stores : List Stored) (servers : List Server) (server : ℕ) → StandForAll stores servers
+    → numbered stores server ≡ None → numbered servers server ≡ None
+unfolding numbered
+none-there stores servers zero stand e = refl
+none-there stores servers (suc k) stand e = stands-past stores servers k stand e
+
+down-is_done : outcome_of no_server ≡ Ended.Done
+unfolding outcome_of chunk_outcome
+down-is_done = refl
+
+done-may : (server : ℕ) (request : ChunkRequest) → may_end Ended.Done (To.Chunk server request) ≡ true
+unfolding may_end
+done-may server request = refl
+
+pub numbered-is : {X : Type 0} (xs : List X) (place : ℕ) (x : X) → slice_get xs place ≡ Some x → numbered xs (suc place) ≡ Some x
+unfolding numbered
+numbered-is xs place x e = e
+
+-- ---- a step
+
+module _ (script : Script) (order : List Step) (meta : Metaserver) (stores : List Stored) (actors : List Actor) (place : ℕ) (actor : Actor)
+    (layout_is : meta.layout ≡ script.layout)
+    (number_is : actor.number ≡ suc place)
+    (there : slice_get actors place ≡ Some actor)
+    (turns : IsTrue (list_any (λ n. n == suc place) (turn_of script actors)))
+    (outcome : Outcome) where
+
+  module _ {D : Type 0} (behind : List (NodeState D)) (moved : Actor) (follows : Follows script order meta.image stores actors) where
+    abbrev world : World
+    world = record { layout = script.layout; meta = meta.image; servers = follows.servers; actors = actors }
+
+    abbrev entry : Step
+    entry = record { actor = suc place; outcome = outcome }
+
+    found : numbered world.actors (suc place) ≡ Some actor
+    unfolding numbered
+    found = there
+
+    pub follows-meta : (t : OfMeta meta stores actor outcome behind moved)
+        → Follows script (order ++ entry ∷ []) t.next.image stores (slice_set actors place moved)
+    unfolding node_turn meta_turned renumbered
+    follows-meta t =
+        let same : outcome ≡ meta_outcome t.answer = meta-ends outcome t.answer t.outcome_is in
+        let step : meta_step script.layout (suc place) t.request outcome meta.image ≡ record { meta = t.next.image; reply = t.answer } =
+        ap (λ o. meta_step script.layout (suc place) t.request o meta.image) same
+        ∙ ap (λ l. meta_step l (suc place) t.request (meta_outcome t.answer) meta.image) (sym layout_is)
+        ∙ ap (λ n. meta_step meta.layout n t.request (meta_outcome t.answer) meta.image) (sym number_is)
+        ∙ t.serves.step in
+        let turned : node_turn world (suc place) outcome (To.Meta t.request)
+        ≡ record { world = record world { meta = t.next.image }; reply = From.Meta t.answer } =
+        ap (meta_turned world) step in
+        let may = meta-may t.request outcome (λ failed. t.serves.sure (sym same ∙ failed)) in
+        record {
+          servers = follows.servers;
+          world =
+              world-after script order world (suc place) actor (To.Meta t.request) follows.world found t.asked
+              outcome (record world { meta = t.next.image }) (From.Meta t.answer) turned
+              ∙ ap (λ m. record { layout = script.layout; meta = t.next.image; servers = follows.servers; actors = slice_set actors place m }) (sym t.took);
+          stand = follows.stand;
+          fits =
+              fits-after script order world (suc place) actor (To.Meta t.request) follows.world found t.asked
+              outcome (record world { meta = t.next.image }) (From.Meta t.answer) turned t.outcome_is may turns follows.fits;
+        }
+
+    pub follows-none : (t : OfNone meta stores actor outcome behind moved)
+        → Follows script (order ++ entry ∷ []) meta.image stores (slice_set actors place moved)
+    unfolding node_turn chunk_turn renumbered
+    follows-none t =
+        let absent : numbered follows.servers t.server ≡ None = none-there stores follows.servers t.server follows.stand t.absent in
+        let turned : node_turn world (suc place) outcome (To.Chunk t.server t.request) ≡ record { world = world; reply = no_server } =
+        ap (chunk_turn world t.server t.request outcome) absent in
+        let may : may_end outcome (To.Chunk t.server t.request) ≡ true =
+        ap (λ o. may_end o (To.Chunk t.server t.request)) (t.outcome_is ∙ down-is_done) ∙ done-may t.server t.request in
+        record {
+          servers = follows.servers;
+          world =
+              world-after script order world (suc place) actor (To.Chunk t.server t.request) follows.world found t.asked
+              outcome world no_server turned
+              ∙ ap (λ m. record { layout = script.layout; meta = meta.image; servers = follows.servers; actors = slice_set actors place m }) (sym t.took);
+          stand = follows.stand;
+          fits =
+              fits-after script order world (suc place) actor (To.Chunk t.server t.request) follows.world found t.asked
+              outcome world no_server turned t.outcome_is may turns follows.fits;
+        }
+
+    pub follows-store : (t : OfStore meta stores actor outcome behind moved)
+        → Follows script (order ++ entry ∷ []) meta.image (slice_set stores t.place t.next) (slice_set actors place moved)
+    unfolding node_turn chunk_turn chunk_turned renumbered
+    follows-store t =
+        let at = stands-at stores follows.servers t.place t.stored follows.stand t.there in
+        let same : outcome ≡ chunk_outcome t.answer.answer = chunk-ends outcome t.answer t.outcome_is in
+        let to = store-follows t.stored t.request t.answer t.next at.server t.askable at.is t.serves in
+        let server = (server_step t.request (chunk_outcome t.answer.answer) at.server).server in
+        let step : server_step t.request outcome at.server ≡ record { server = server; reply = t.answer } =
+        ap (λ o. server_step t.request o at.server) same ∙ to.step in
+        let there' : numbered follows.servers (suc t.place) ≡ Some at.server = numbered-is follows.servers t.place at.server at.there in
+        let served : World = record world { servers = slice_set follows.servers t.place server } in
+        let turned : node_turn world (suc place) outcome (To.Chunk (suc t.place) t.request)
+        ≡ record { world = served; reply = From.Chunk t.answer } =
+        ap (chunk_turn world (suc t.place) t.request outcome) there'
+        ∙ ap (chunk_turned world (suc t.place)) step in
+        let may : may_end outcome (To.Chunk (suc t.place) t.request) ≡ true =
+        ap (λ o. may_end o (To.Chunk (suc t.place) t.request)) same
+        ∙ chunk-may (suc t.place) t.request t.answer.answer t.askable t.serves.memory in
+        record {
+          servers = slice_set follows.servers t.place server;
+          world =
+              world-after script order world (suc place) actor (To.Chunk (suc t.place) t.request) follows.world found t.asked
+              outcome served (From.Chunk t.answer) turned
+              ∙ ap (λ m. record { layout = script.layout; meta = meta.image; servers = slice_set follows.servers t.place server; actors = slice_set actors place m }) (sym t.took);
+          stand = stands-set stores follows.servers t.place t.next server follows.stand to.is;
+          fits =
+              fits-after script order world (suc place) actor (To.Chunk (suc t.place) t.request) follows.world found t.asked
+              outcome served (From.Chunk t.answer) turned t.outcome_is may turns follows.fits;
+        }

@@ -1,0 +1,9 @@
+pub mod Asked
+pub mod Kept
+pub mod Lists
+pub mod Nodes
+pub mod Numbered
+pub mod Simulation
+pub mod Stands
+pub mod Step
+pub mod TurnLists

@@ -1,0 +1,13 @@
+//! The world of a script at work: its metaserver, its chunk servers over their devices and its
+//! actors, one step after another on one thread.
+#![tactic(auto)]
+
+mod node;
+mod parts;
+mod start;
+mod turns;
+mod world;
+
+pub use node::{MetaNode, NodeState, turn_on};
+pub use parts::{Parts, PartsError, WorldLoadError};
+pub use world::World;

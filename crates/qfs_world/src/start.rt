@@ -1,0 +1,112 @@
+//! What a world is made of at its start.
+ghost use Rattle.std.specs.Prelude.{◌≡◌, ◌+◌, ◌≤◌, ◌<◌, ◌^◌, ◌++◌, ◌∷◌, [], length, map, take, drop, All, IfOk, OnOk, vec_len, vec_capacity};
+ghost use Rattle.qfs_model_meta.specs.Step.{opening};
+ghost use Rattle.qfs_world.specs.AtWork.{sizes_of, starts_from};
+ghost use Rattle.qfs_world.specs.Calls.{IsNew, stored_over};
+ghost use Rattle.qfs_world.specs.Running.{AreBuilt, IsRunnable, commands_by_actor};
+ghost use Rattle.qfs_world.specs.declared.node.NodeState.TheVariants as Node;
+
+use crate::node::{MetaNode, NodeState};
+use qfs_actor::Actor;
+use qfs_base::command::Command;
+use qfs_base::layout::Layout;
+use qfs_base::listing::Listing;
+use qfs_base::script::{Commands, Phase, Script};
+use qfs_device::ChunkDevice;
+use qfs_store::Store;
+use std::alloc::{AllocError, Global};
+
+/// The metaserver as the only node, with room for one behind it for each chunk server.
+pub fn first_node<D: ChunkDevice>(
+    alloc: Global,
+    script: &Script,
+) -> Result<Vec<NodeState<D>>, AllocError>
+    requires { script.now.servers ≤ 64 }
+    ensures node { IfOk result (λ nodes. nodes.items ≡ Node.Meta (record { layout = script.now.layout; image = opening script.now.servers }) ∷ []) }
+    ensures room { IfOk result (λ nodes. vec_len nodes + script.now.servers ≤ vec_capacity nodes) }
+{
+    let mut nodes = Vec::with_capacity(alloc, script.servers as usize + 1)?;
+    let meta = MetaNode::new(alloc, script.layout, script.servers)?;
+    nodes.push_reserved(NodeState::Meta(meta));
+    Ok(nodes)
+}
+
+/// Makes the first `servers` devices those of chunk servers, and puts these at the end of the
+/// nodes. The other devices move down.
+pub fn take_devices<D: ChunkDevice>(
+    alloc: Global,
+    devices: &mut Vec<D>,
+    nodes: &mut Vec<NodeState<D>>,
+    servers: u16,
+)
+    requires enough { servers ≤ length devices.old.items }
+    requires fresh { All (IsNew D.told) devices.old.items }
+    requires room { vec_len nodes.old + servers ≤ vec_capacity nodes.old }
+    ensures nodes { nodes.new.items ≡ nodes.old.items ++ map Node.Store (map (stored_over D.told D.faults) (take servers devices.old.items)) }
+    ensures devices { devices.new.items ≡ drop servers devices.old.items }
+    ensures capacity { vec_capacity devices.new ≡ vec_capacity devices.old }
+{
+    for _ in 0..servers {
+        let device = devices.remove(0);
+        nodes.push_reserved(new_server(alloc, device));
+    }
+}
+
+/// A chunk server over a device.
+fn new_server<D: ChunkDevice>(alloc: Global, device: D) -> NodeState<D>
+    requires { IsNew D.told device }
+    ensures { result ≡ Node.Store (stored_over D.told D.faults device) }
+{
+    NodeState::Store(Store::new(alloc, device))
+}
+
+/// The actors of a script, at their first commands.
+pub fn first_actors(alloc: Global, script: &Script) -> Result<Vec<Actor>, AllocError>
+    requires { IsRunnable script.now }
+    ensures { IfOk result (λ actors. actors.items ≡ starts_from script.now.layout 1 (commands_by_actor script.now)) }
+{
+    let mut actors = Vec::new(alloc);
+    for phase in &script.phases {
+        add_phase(alloc, script.layout, &mut actors, phase)?;
+    }
+    Ok(actors)
+}
+
+/// Puts the actors of a phase behind those that are there.
+fn add_phase(
+    alloc: Global,
+    layout: Layout,
+    actors: &mut Vec<Actor>,
+    phase: &Phase,
+) -> Result<(), AllocError>
+    requires few { length actors.old.items + length phase.now < 2 ^ 16 }
+    requires built { All AreBuilt phase.now }
+    ensures { OnOk result (actors.new.items ≡ actors.old.items ++ starts_from layout (length actors.old.items + 1) phase.now) }
+{
+    for commands in phase {
+        let number = actors.len() as u16 + 1;
+        let commands = copy_commands(commands)?;
+        actors.push(Actor::new(alloc, layout, number, commands))?;
+    }
+    Ok(())
+}
+
+/// The same commands once more.
+fn copy_commands(commands: &Commands) -> Result<Commands, AllocError>
+    ensures { IfOk result (λ copy. copy ≡ commands.now) }
+{
+    commands.clone()
+}
+
+/// How many actors each phase has, but for phases without actors.
+pub fn phase_sizes(alloc: Global, script: &Script) -> Result<Vec<usize>, AllocError>
+    ensures { IfOk result (λ sizes. sizes.items ≡ sizes_of script.now.phases) }
+{
+    let mut sizes = Vec::new(alloc);
+    for phase in &script.phases {
+        if !phase.is_empty() {
+            sizes.push(phase.len())?;
+        }
+    }
+    Ok(sizes)
+}

@@ -1,0 +1,42 @@
+//! Whose turn it may be.
+ghost use Rattle.std.specs.Prelude.{◌≡◌, ◌≤◌, ◌<◌, length, map, sum, IfOk};
+ghost use Rattle.qfs_model_world.specs.Fits.{unfinished, first_filled};
+ghost use Rattle.qfs_world.specs.AtWork.{actors_of, by_sizes};
+
+use qfs_actor::Actor;
+use qfs_base::lists::TurnList;
+use std::alloc::{AllocError, Global};
+
+/// The unfinished actors of the first phase that has one, where the phases have these sizes.
+pub fn current_turn(
+    alloc: Global,
+    actors: &[Actor],
+    sizes: &[usize],
+) -> Result<TurnList, AllocError>
+    requires { sum sizes.now ≤ length actors.now }
+    ensures { IfOk result (λ turn. turn ≡ first_filled (map unfinished (by_sizes sizes.now (actors_of actors.now)))) }
+{
+    let mut rest = actors;
+    for size in sizes {
+        let (phase, others) = rest.split_at(*size);
+        let turn = unfinished(alloc, phase)?;
+        if !turn.is_empty() {
+            return Ok(turn);
+        }
+        rest = others;
+    }
+    Ok(TurnList::new(alloc))
+}
+
+/// The numbers of the actors that haven't finished.
+fn unfinished(alloc: Global, actors: &[Actor]) -> Result<TurnList, AllocError>
+    ensures { IfOk result (λ turn. turn ≡ unfinished (actors_of actors.now)) }
+{
+    let mut turn = TurnList::new(alloc);
+    for actor in actors {
+        if actor.goes_to().is_some() {
+            turn.push(actor.number())?;
+        }
+    }
+    Ok(turn)
+}

@@ -1,0 +1,230 @@
+//! The world at work.
+ghost use Rattle.std.specs.Prelude.{◌≡◌, ◌+◌, ◌≤◌, ◌<◌, ◌++◌, ◌∷◌, [], length, map, All, IfOk, IfErr, OnErr, false, vec_len, vec_capacity};
+ghost use Rattle.qfs_machine.specs.Asking.{IsOut};
+ghost use Rattle.qfs_model_actor.specs.Actor.{has_finished};
+ghost use Rattle.qfs_world.specs.AtWork.{TakesTurn, place_in, sizes_of, starts_from};
+ghost use Rattle.qfs_world.specs.Calls.{IsNew, Starts, HasTurn, Steps, AreDevicesOf, lines_of_actors};
+ghost use Rattle.qfs_world.specs.Follows.{IsAfter};
+ghost use Rattle.qfs_world.specs.Running.{IsRunnable, commands_by_actor, turn_of};
+ghost use Rattle.qfs_model_meta.specs.Step.{opening};
+ghost use Rattle.qfs_world.specs.declared.node.NodeState.TheVariants as Node;
+
+use crate::node::{NodeState, turn_on};
+use crate::parts::{Parts, PartsError, WorldLoadError, all_replies, hand_back};
+use crate::start::{first_actors, first_node, phase_sizes, take_devices};
+use crate::turns::current_turn;
+use qfs_actor::Actor;
+use qfs_base::history::{Order, Outcome, Step};
+use qfs_base::lists::TurnList;
+use qfs_base::numbers::{ActorId, NodeId};
+use qfs_base::script::Script;
+use qfs_device::{ChunkDevice, LogDisk, MetaDisks};
+use std::alloc::{AllocError, Global};
+use std::marker::Model;
+use std::snapshot::Snapshot;
+
+/// The metaserver, the chunk servers and the actors of a script, and the order of the steps that
+/// they took. As far as the devices tell what they hold, it is always the world of the
+/// definitions after that order.
+#[derive(Drop)]
+pub struct World<D: ChunkDevice, L: LogDisk> {
+    alloc: Global,
+    script: Snapshot<Script>,
+    /// The metaserver, and behind it server s at s.
+    nodes: Vec<NodeState<D>>,
+    /// Actor a stands at a - 1.
+    actors: Vec<Actor>,
+    /// How many actors each phase has, but for phases without actors.
+    phases: Vec<usize>,
+    order: Order,
+    /// The devices above the script's servers, with room for the others.
+    spare: Vec<D>,
+    disks: MetaDisks<L>,
+}
+
+impl<D: ChunkDevice, L: LogDisk> Model for World<D, L> {
+    ghost use Rattle.std.specs.Prelude.{◌+◌, ◌≤◌, length, vec_capacity};
+    ghost use Rattle.qfs_world.specs.Running.{Running};
+
+    ghost Value = { Running D L };
+
+    ghost use Rattle.qfs_world.specs.AtWork.{IsAtWork, image_of, stores_of, actors_of};
+
+    ghost view = { λ it. record { script = it.script.value; meta = image_of it.nodes.items; stores = stores_of it.nodes.items; actors = actors_of it.actors.items; order = it.order; spare = it.spare.items; disks = it.disks } };
+
+    ghost invariant = { λ it. IsAtWork it.script.value it.nodes.items it.actors.items it.phases.items it.order × (length (stores_of it.nodes.items) + length it.spare.items ≤ vec_capacity it.spare) };
+}
+
+impl<D: ChunkDevice, L: LogDisk> World<D, L> {
+    /// The world in which a script starts. Device s - 1 becomes that of server s. An Err says that
+    /// memory is wanting, and hands devices and disks back as they came.
+    pub fn new(
+        alloc: Global,
+        script: &Script,
+        devices: Vec<D>,
+        disks: MetaDisks<L>,
+    ) -> Result<World<D, L>, WorldLoadError<D, L>>
+        requires runnable { IsRunnable script.now }
+        requires enough { script.now.servers ≤ length devices.items }
+        requires fresh { All (IsNew D.told) devices.items }
+        ensures ok { IfOk result (Starts D.told D.faults script.now devices.items disks) }
+        ensures err_devices { IfErr result (λ error. error.devices.items ≡ devices.items) }
+        ensures err_disks { IfErr result (λ error. error.disks ≡ disks) }
+    {
+        match prepare(alloc, script) {
+            Err(_) => Err(WorldLoadError { devices, disks }),
+            Ok(Prepared {
+                mut nodes,
+                actors,
+                phases,
+            }) => {
+                let mut spare = devices;
+                take_devices(alloc, &mut spare, &mut nodes, script.servers);
+                Ok(World {
+                    alloc,
+                    script: Snapshot::of(script),
+                    nodes,
+                    actors,
+                    phases,
+                    order: Order::new(alloc),
+                    spare,
+                    disks,
+                })
+            }
+        }
+    }
+
+    /// The actor takes its next step. On want of memory the world is as it was.
+    pub fn step(&mut self, actor: ActorId) -> Result<Outcome, AllocError>
+        requires turn { HasTurn self.old actor }
+        ensures ok { IfOk result (λ outcome. Steps self.old actor outcome self.new) }
+        ensures err { OnErr result (self.new ≡ self.old) }
+    {
+        step_on(
+            &mut self.nodes,
+            &mut self.actors[actor as usize - 1],
+            &mut self.order,
+        )
+    }
+
+    /// Whose turn it may be: the unfinished actors of the current phase, by number. None is left
+    /// where all have finished.
+    pub fn turn(&self) -> Result<TurnList, AllocError>
+        ensures turn { IfOk result (λ turn. turn ≡ turn_of self.now.script self.now.actors) }
+        ensures after { IsAfter self.now }
+    {
+        current_turn(self.alloc, &self.actors, &self.phases)
+    }
+
+    /// The entries of the steps taken so far.
+    pub fn order(&self) -> &Order
+        ensures order { result.now ≡ self.now.order }
+        ensures after { IsAfter self.now }
+    {
+        &self.order
+    }
+
+    /// Takes the world apart. An Err says that memory is wanting, and hands devices and disks back.
+    pub fn into_parts(self) -> Result<Parts<D, L>, PartsError<D, L>>
+        ensures devices { IfOk result (λ parts. AreDevicesOf D.told D.faults self parts.devices.items) }
+        ensures disks { IfOk result (λ parts. parts.disks ≡ self.disks) }
+        ensures image { IfOk result (λ parts. parts.image ≡ self.meta) }
+        ensures order { IfOk result (λ parts. parts.order ≡ self.order) }
+        ensures replies { IfOk result (λ parts. parts.replies ≡ lines_of_actors self.actors) }
+        ensures err_devices { IfErr result (λ error. AreDevicesOf D.told D.faults self error.devices.items) }
+        ensures err_disks { IfErr result (λ error. error.disks ≡ self.disks) }
+        ensures after { IsAfter self }
+    {
+        let World {
+            alloc,
+            nodes,
+            actors,
+            order,
+            spare,
+            disks,
+            ..
+        } = self;
+        let mut devices = spare;
+        let image = hand_back(nodes, &mut devices);
+        match all_replies(alloc, actors) {
+            Err(_) => Err(PartsError { devices, disks }),
+            Ok(replies) => Ok(Parts {
+                devices,
+                disks,
+                image,
+                order,
+                replies,
+            }),
+        }
+    }
+}
+
+/// The nodes and actors of a world at its start, but for the chunk servers.
+#[derive(Drop)]
+struct Prepared<D: ChunkDevice> {
+    nodes: Vec<NodeState<D>>,
+    actors: Vec<Actor>,
+    phases: Vec<usize>,
+}
+
+/// Takes all memory that a world takes at its start.
+fn prepare<D: ChunkDevice>(alloc: Global, script: &Script) -> Result<Prepared<D>, AllocError>
+    requires { IsRunnable script.now }
+    ensures nodes { IfOk result (λ it. it.nodes.items ≡ Node.Meta (record { layout = script.now.layout; image = opening script.now.servers }) ∷ []) }
+    ensures room { IfOk result (λ it. vec_len it.nodes + script.now.servers ≤ vec_capacity it.nodes) }
+    ensures actors { IfOk result (λ it. it.actors.items ≡ starts_from script.now.layout 1 (commands_by_actor script.now)) }
+    ensures phases { IfOk result (λ it. it.phases.items ≡ sizes_of script.now.phases) }
+{
+    let nodes = first_node(alloc, script)?;
+    let actors = first_actors(alloc, script)?;
+    let phases = phase_sizes(alloc, script)?;
+    Ok(Prepared {
+        nodes,
+        actors,
+        phases,
+    })
+}
+
+/// One step of an actor that hasn't finished, with its entry in the order. On want of memory all is
+/// as it was, but for the memory that the actor took.
+fn step_on<D: ChunkDevice>(
+    nodes: &mut [NodeState<D>],
+    actor: &mut Actor,
+    order: &mut Order,
+) -> Result<Outcome, AllocError>
+    requires some { 0 < length nodes.old }
+    requires resting { IsOut actor.old.readiness → ⊥ }
+    requires unfinished { has_finished actor.old.actor ≡ false }
+    ensures turn { IfOk result (λ outcome. TakesTurn nodes.old actor.old.actor outcome nodes.new actor.new.actor) }
+    ensures order { IfOk result (λ outcome. order.new ≡ order.old ++ record { actor = actor.old.actor.number; outcome = outcome } ∷ []) }
+    ensures err_nodes { OnErr result (nodes.new ≡ nodes.old) }
+    ensures err_actor { OnErr result (actor.new.actor ≡ actor.old.actor) }
+    ensures err_order { OnErr result (order.new ≡ order.old) }
+    ensures rests { IsOut actor.new.readiness → ⊥ }
+{
+    actor.ready()?;
+    let number = actor.number();
+    order.push(Step {
+        actor: number,
+        outcome: Outcome::Done,
+    })?;
+    let at = place_in(nodes.len(), actor.goes_to());
+    let outcome = turn_on(&mut nodes[at], actor);
+    order.set_last(Step {
+        actor: number,
+        outcome,
+    });
+    Ok(outcome)
+}
+
+/// The place of the node of this number among so many. The metaserver takes the place of one that
+/// isn't there.
+fn place_in(count: usize, node: Option<NodeId>) -> usize
+    ensures place { result ≡ place_in count node }
+    ensures within { 0 < count → result < count }
+{
+    match node {
+        Some(number) if (number as usize) < count => number as usize,
+        _ => 0,
+    }
+}
