@@ -2,10 +2,18 @@
 //! handed in, and what comes of it is written.
 #![tactic(auto)]
 
+mod calls;
+mod draws;
+mod one_thread;
+mod output;
+mod play;
 mod reading;
+mod run;
 mod status;
 mod words;
 
+pub use calls::top;
+pub use one_thread::{Plan, serial};
 pub use reading::read_script;
 pub use status::Status;
 pub use words::seed_from;

@@ -1,0 +1,4 @@
+pub mod DrawnOrders
+pub mod PlayLaws
+pub mod ReadScripts
+pub mod RunLaws

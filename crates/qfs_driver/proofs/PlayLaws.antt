@@ -1,0 +1,205 @@
+-- How a world at work goes on by drawn steps.
+use Rattle.std.proofs.Common.{◌≡◌, ℕ, zero, suc, inl, inr, ◌+◌, ◌<◌, ◌≤◌, Bool, true, false, IsTrue, List, [], ◌∷◌, ◌++◌, length, refl, sym, ◌∙◌, ap, ap₂, subst, arith, Option, Some, None, is_some, IsSome, eq-eqb}
+use Rattle.std.specs.Prelude.{All, ◌==◌, ◌&&◌, ◌||◌, ◌%◌, ⊤, slice_get}
+use Rattle.std.specs.List.{AllZip, list_any, list_all}
+use Rattle.qfs_model_text.specs.Order.{same_outcome}
+use Rattle.qfs_model_world.specs.GivenOrder.{is_done}
+use Rattle.qfs_device.specs.Fault.{Rose}
+use Rattle.qfs_driver.specs.declared.status.Status.{Status}
+use Rattle.qfs_driver.specs.declared.status.Status.TheVariants as Ended
+use Rattle.std.proofs.lemmas.List.Elements.{length_all_zip, AllZip-get_or}
+use Rattle.std.proofs.lemmas.List.Folds.{list_all-append}
+use Rattle.rand_pcg.specs.Lcg.{Lcg}
+use Rattle.rand_pcg.specs.Pcg.{pcg32}
+use Rattle.qfs_base.specs.declared.history.Outcome.TheVariants as Came
+use Rattle.qfs_base.specs.declared.history.Step.{Step}
+use Rattle.qfs_base.specs.declared.script.Script.{Script}
+use Rattle.qfs_driver.proofs.DrawnOrders.{is_drawn-snoc, generator_behind-snoc}
+use Rattle.qfs_driver.specs.Draws.{generator_behind}
+use Rattle.qfs_driver.specs.Playing.{Continues, IsDrawnSo, StopsAt, TakesDrawnStep}
+use Rattle.qfs_model_actor.specs.Actor.{Actor}
+use Rattle.qfs_model_world.specs.Drawn.{generator_of, drawn_of, is_by, drawn_from, is_drawn}
+use Rattle.qfs_model_world.specs.Fits.{turn}
+use Rattle.qfs_model_world.specs.World.{World, numbered, after as after_order}
+use Rattle.qfs_store.specs.Stored.{Stored}
+use Rattle.qfs_world.specs.Calls.{HasRisen, Steps}
+use Rattle.qfs_world.specs.Turns.{GoesOn}
+use Rattle.qfs_world.specs.Follows.{Follows, IsAfter}
+use Rattle.qfs_world.specs.Running.{Running, AllTell, turn_of}
+
+-- ---- stores that go on
+
+all_go_on : (stores : List Stored) → AllZip GoesOn stores stores
+all_go_on [] = tt
+all_go_on (stored ∷ stores) = (record { tells = refl; never_falls = omega arith }, all_go_on stores)
+
+goes_on_further : (a b c : Stored) → GoesOn a b → GoesOn b c → GoesOn a c
+goes_on_further a b c first second = record {
+  tells = second.tells ∙ first.tells;
+  never_falls = let h : a.faults ≤ b.faults = first.never_falls in let k : b.faults ≤ c.faults = second.never_falls in omega arith;
+}
+
+all_go_on_further : (a b c : List Stored) → AllZip GoesOn a b → AllZip GoesOn b c → AllZip GoesOn a c
+all_go_on_further [] [] [] first second = tt
+all_go_on_further (x ∷ xs) (y ∷ ys) (z ∷ zs) first second =
+    (goes_on_further x y z first.0 second.0, all_go_on_further xs ys zs first.1 second.1)
+all_go_on_further [] [] (z ∷ zs) first second = absurd second
+all_go_on_further [] (y ∷ ys) c first second = absurd first
+all_go_on_further (x ∷ xs) [] c first second = absurd first
+all_go_on_further (x ∷ xs) (y ∷ ys) [] first second = absurd second
+
+-- stores that tell what they hold told it before
+pub all_told_before : (before behind : List Stored) → AllZip GoesOn before behind → AllTell behind → AllTell before
+all_told_before before behind go_on tell = λ k d below.
+    let same : length before ≡ length behind = length_all_zip GoesOn before behind go_on in
+    let below_too : k < length behind = omega arith in
+    subst IsTrue (AllZip-get_or GoesOn before behind k d d go_on below).tells (tell k d below_too)
+
+rose_further : (old between new : ℕ) → old ≤ between → Rose between new → Rose old new
+rose_further old between new below (inl less) = inl (omega arith)
+rose_further old between new below (inr last) = inr last
+
+or_true : (a : Bool) {b : Bool} → b ≡ true → (a || b) ≡ true
+or_true true is = refl
+or_true false is = is
+
+-- ---- steps that are drawn
+
+and_true : (a b : Bool) → a ≡ true → b ≡ true → (a && b) ≡ true
+and_true a b first second = rw (first, second) refl
+
+done-snoc : (order : List Step) (actor : ℕ) → list_all is_done order ≡ true
+    → list_all is_done (order ++ record { actor = actor; outcome = Came.Done } ∷ []) ≡ true
+unfolding is_done same_outcome
+done-snoc order actor all =
+    list_all-append is_done order (record { actor = actor; outcome = Came.Done } ∷ []) ∙ and_true _ _ all refl
+
+drawn_by : (actor word : ℕ) (turns : List ℕ) → drawn_of turns word ≡ Some actor → is_by actor (drawn_of turns word) ≡ true
+unfolding is_by
+drawn_by actor word turns is = rw is (eq-eqb actor actor refl)
+
+-- the store of a server before such steps
+record WentOnAt (before : List Stored) (server : ℕ) (new : Stored) : Type 0 where
+  pub old : Stored
+  pub there : numbered before server ≡ Some old
+  pub goes_on : GoesOn old new
+
+some_is : {X : Type 0} {a b : X} → Some a ≡ Some b → a ≡ b
+some_is is = cc
+
+went_on_in : (before behind : List Stored) (k : ℕ) (new : Stored) → AllZip GoesOn before behind → slice_get behind k ≡ Some new → WentOnAt before (suc k) new
+unfolding numbered
+went_on_in before [] k new go_on is = cc
+went_on_in [] (y ∷ ys) k new go_on is = absurd go_on
+went_on_in (x ∷ xs) (y ∷ ys) zero new go_on is =
+    record { old = x; there = refl; goes_on = subst (λ n. GoesOn x n) (some_is is) go_on.0 }
+went_on_in (x ∷ xs) (y ∷ ys) (suc k) new go_on is =
+    let further = went_on_in xs ys k new go_on.1 is in
+    record { old = further.old; there = further.there; goes_on = further.goes_on }
+
+went_on_at : (before behind : List Stored) (server : ℕ) (new : Stored) → AllZip GoesOn before behind → numbered behind server ≡ Some new → WentOnAt before server new
+unfolding numbered
+went_on_at before behind zero new go_on is = cc
+went_on_at before behind (suc k) new go_on is = went_on_in before behind k new go_on is
+
+-- ---- whose turn it is
+
+has_place : (turns : List ℕ) (k actor : ℕ) → slice_get turns k ≡ Some actor → list_any (λ number. number == actor) turns ≡ true
+has_place [] k actor is = cc
+has_place (x ∷ xs) zero actor is = rw (eq-eqb x actor (some_is is)) refl
+has_place (x ∷ xs) (suc k) actor is = or_true (x == actor) (has_place xs k actor is)
+
+-- a drawn actor is one of those whose turn it may be
+pub drawn_has_turn : (turns : List ℕ) (word actor : ℕ) → drawn_of turns word ≡ Some actor → list_any (λ number. number == actor) turns ≡ true
+unfolding drawn_of
+drawn_has_turn turns word actor is = has_place turns (word % length turns) actor is
+
+-- stores that tell what they hold tell it behind too
+pub all_tell_behind : (before behind : List Stored) → AllZip GoesOn before behind → AllTell before → AllTell behind
+all_tell_behind before behind go_on tell = λ k d below.
+    let same : length before ≡ length behind = length_all_zip GoesOn before behind go_on in
+    let below_too : k < length before = omega arith in
+    (AllZip-get_or GoesOn before behind k d d go_on below_too).tells ∙ tell k d below_too
+
+module _ {D L : Type 0} where
+  risen_further : (a b c : Running D L) (at_node : Option ℕ) → Continues a b → HasRisen b c at_node → HasRisen a c at_node
+  risen_further a b c at_node continues (server, old, new, is, before, behind, rose) =
+      let at = went_on_at a.stores b.stores server old continues.stores_go_on before in
+      (server, at.old, new, is, at.there, behind, rose_further at.old.faults old.faults new.faults at.goes_on.never_falls rose)
+
+  -- why a run stops holds from further back too
+  pub stops_further : (a b c : Running D L) (status : Status) → Continues a b → StopsAt b c status → StopsAt a c status
+  stops_further a b c Ended.NoMemory continues stops = tt
+  stops_further a b c (Ended.DeviceFault server) continues stops = risen_further a b c (Some server) continues stops
+  stops_further a b c Ended.Ok continues stops = absurd stops
+  stops_further a b c Ended.Usage continues stops = absurd stops
+  stops_further a b c (Ended.BadScript line cause) continues stops = absurd stops
+  stops_further a b c (Ended.TooFewDevices servers devices) continues stops = absurd stops
+  stops_further a b c Ended.ReadFault continues stops = absurd stops
+  stops_further a b c Ended.WriteFault continues stops = absurd stops
+
+  -- no step was taken yet
+  pub drawn_at_start : (number : ℕ) (world : Running D L) → world.order ≡ [] → IsDrawnSo number world
+  unfolding is_drawn drawn_from
+  drawn_at_start number world none = record { drawn = λ tell. rw none refl; done = rw none refl }
+
+  pub words_at_start : (generator : Lcg) (world : Running D L) → world.order ≡ [] → generator ≡ generator_behind generator world.order
+  unfolding generator_behind
+  words_at_start generator world none = rw none refl
+
+  pub continues_itself : (world : Running D L) → Continues world world
+  continues_itself world =
+      record { script_is = refl; spare_is = refl; disks_are = refl; stores_go_on = all_go_on world.stores }
+
+  pub continues_same : (before behind : Running D L) → behind ≡ before → Continues before behind
+  continues_same before behind same = subst (λ w. Continues before w) (sym same) (continues_itself before)
+
+  pub continues_further : (a b c : Running D L) → Continues a b → Continues b c → Continues a c
+  continues_further a b c first second = record {
+    script_is = second.script_is ∙ first.script_is;
+    spare_is = second.spare_is ∙ first.spare_is;
+    disks_are = second.disks_are ∙ first.disks_are;
+    stores_go_on = all_go_on_further a.stores b.stores c.stores first.stores_go_on second.stores_go_on;
+  }
+
+  turn_after : (world : Running D L) → Follows world.script world.order world.meta world.stores world.actors
+      → turn world.script (after_order world.script world.order) ≡ turn_of world.script world.actors
+  unfolding turn
+  turn_after world follows = ap (λ (w : World). turn world.script w) follows.world
+
+  -- the loop of a run: a drawn step more
+  pub drawn_further : (number actor : ℕ) (before behind : Running D L) (turns : List ℕ)
+      → IsAfter before → turns ≡ turn_of before.script before.actors
+      → drawn_of turns (pcg32 (generator_behind (generator_of number) before.order)).0 ≡ Some actor
+      → Steps before actor Came.Done behind → IsDrawnSo number before → IsDrawnSo number behind
+  drawn_further number actor before behind turns after turns_are drawn steps is = record {
+    drawn = λ tell.
+        let told : AllTell before.stores = all_told_before before.stores behind.stores steps.goes_on tell in
+        let step : Step = record { actor = actor; outcome = Came.Done } in
+        let word : ℕ = (pcg32 (generator_behind (generator_of number) before.order)).0 in
+        let turns_after : turn before.script (after_order before.script before.order) ≡ turns =
+            turn_after before (after told) ∙ sym turns_are in
+        let by : is_by actor (drawn_of (turn before.script (after_order before.script before.order)) word) ≡ true =
+            ap (λ t. is_by actor (drawn_of t word)) turns_after ∙ drawn_by actor word turns drawn in
+        let grown : is_drawn number before.script (before.order ++ step ∷ []) ≡ true =
+            is_drawn-snoc number before.script before.order step ∙ and_true _ _ (is.drawn told) by in
+        rw (steps.script_is, steps.order) grown;
+    done = rw steps.order (done-snoc before.order actor is.done);
+  }
+
+  pub drawn_step_further : (number : ℕ) (generator : Lcg) (before behind : Running D L) (turns : List ℕ)
+      → IsAfter before → turns ≡ turn_of before.script before.actors
+      → generator ≡ generator_behind (generator_of number) before.order
+      → TakesDrawnStep turns (pcg32 generator).0 before behind → IsDrawnSo number before → IsDrawnSo number behind
+  drawn_step_further number generator before behind turns after turns_are words taken is =
+      drawn_further number taken.actor before behind turns after turns_are
+      (ap (λ g. drawn_of turns (pcg32 g).0) (sym words) ∙ taken.drawn) taken.steps is
+
+  pub words_further : (number : ℕ) (generator : Lcg) (before behind : Running D L) (turns : List ℕ)
+      → generator ≡ generator_behind (generator_of number) before.order
+      → TakesDrawnStep turns (pcg32 generator).0 before behind
+      → (pcg32 generator).1 ≡ generator_behind (generator_of number) behind.order
+  words_further number generator before behind turns words taken =
+      ap (λ g. (pcg32 g).1) words
+      ∙ sym (generator_behind-snoc (generator_of number) before.order (record { actor = taken.actor; outcome = Came.Done }))
+      ∙ ap (λ order. generator_behind (generator_of number) order) (sym taken.steps.order)

@@ -1,0 +1,35 @@
+-- A script that was read can be run, and its text is written whole or in part.
+use Rattle.qfs_script.specs.Lines.{text_lines}
+use Rattle.qfs_driver.proofs.ReadScripts.{read_script_is_first}
+use Rattle.qfs_driver.proofs.one_thread.drawn.Goals as goal
+
+pub run-requires-clause-read : goal.run-requires-clause-read
+run-requires-clause-read g c κs within =
+    read_script_is_first (text_lines c.in-Ok.ensures.ok.bytes) c.in-Ok.script c.in-Ok.ensures.ok.says
+
+pub returns-in-Ok-write_all-clause-ends : goal.returns-in-Ok-write_all-clause-ends
+returns-in-Ok-write_all-clause-ends g c = record {
+  text = c.in-Ok-run.text.items;
+  runs = record {
+    script = c.in-Ok.script;
+    read = c.in-Ok.ensures.ok;
+    prints = c.in-Ok-run.ensures.text;
+    places = c.run.ensures.places;
+  };
+  written = rw (← c.as_slice.ensures.value) c.in-Ok-write_all.ensures.ok;
+}
+
+pub returns-in-Ok-run-clause-ends : goal.returns-in-Ok-run-clause-ends
+returns-in-Ok-run-clause-ends g c = record {
+  text = c.in-Ok-run.text.items;
+  runs = record {
+    script = c.in-Ok.script;
+    read = c.in-Ok.ensures.ok;
+    prints = c.in-Ok-run.ensures.text;
+    places = c.run.ensures.places;
+  };
+  count = c.in-Err-write_all.ensures.err.0;
+  part = rw (← c.as_slice.ensures.value) c.in-Err-write_all.ensures.err.1;
+  written = rw (← c.as_slice.ensures.value) c.in-Err-write_all.ensures.err.2;
+  rose = c.in-Err-write_all.ensures.cause;
+}

@@ -1,0 +1,86 @@
+-- How a run ends, by its status.
+use Rattle.std.specs.Prelude.{ℕ, ◌≡◌, ◌<◌, ◌≤◌, ⊤, List, length, take, Option}
+use Rattle.qfs_base.specs.declared.script.Script.{Script}
+use Rattle.qfs_device.specs.Fault.{Rose}
+use Rattle.qfs_device.specs.Held.{Held}
+use Rattle.qfs_device.specs.Stream.{Appends}
+use Rattle.qfs_driver.specs.Reading.{ReadsWhole, IsRefused}
+use Rattle.qfs_driver.specs.Run.{Prints, StayInPlace, HasFault}
+use Rattle.qfs_driver.specs.declared.one_thread.Plan.{Plan}
+use Rattle.qfs_driver.specs.declared.one_thread.Plan.TheVariants as By
+use Rattle.qfs_driver.specs.declared.status.Status.{Status}
+use Rattle.qfs_driver.specs.declared.status.Status.TheVariants as Ended
+
+-- the number of a plan
+abbrev pub number_of : Plan → ℕ
+number_of (By.Drawn number) = number
+
+-- what is left in the source, what was written to the sink, and how often the two have failed
+pub record Streams : Type 0 where
+  pub left : Option (List ℕ)
+  pub source_faults : ℕ
+  pub written : Option (List ℕ)
+  pub sink_faults : ℕ
+
+module _ {D : Type 0} where
+  -- a script was read whole, and this is the text of its run
+  pub record Runs (told : D → Option Held) (number : ℕ) (came behind : List D) (before after : Streams) (text : List ℕ) : Type 0 where
+    pub script : Script
+    pub read : ReadsWhole before.left after.left script
+    pub prints : Prints told number script came text
+    pub places : StayInPlace script.servers came behind
+
+  -- the text of the run was written whole
+  pub record WritesWhole (told : D → Option Held) (number : ℕ) (came behind : List D) (before after : Streams) : Type 0 where
+    pub text : List ℕ
+    pub runs : Runs told number came behind before after text
+    pub written : Appends text before.written after.written
+
+  -- a first part of the text of the run was written, and the sink failed
+  pub record WritesPart (told : D → Option Held) (number : ℕ) (came behind : List D) (before after : Streams) : Type 0 where
+    pub text : List ℕ
+    pub runs : Runs told number came behind before after text
+    pub count : ℕ
+    pub part : count < length text
+    pub written : Appends (take count text) before.written after.written
+    pub rose : Rose before.sink_faults after.sink_faults
+
+  -- a script was read whole that has more servers than there are devices
+  pub record LacksDevices (servers devices : ℕ) (came : List D) (before after : Streams) : Type 0 where
+    pub script : Script
+    pub read : ReadsWhole before.left after.left script
+    pub servers_are : servers ≡ script.servers
+    pub devices_are : devices ≡ length came
+    pub fewer : devices < servers
+
+  -- a script was read whole, and the device of one of its servers failed in its run
+  pub record StopsAtFault (faults : D → ℕ) (server : ℕ) (came behind : List D) (before after : Streams) : Type 0 where
+    pub script : Script
+    pub read : ReadsWhole before.left after.left script
+    pub fault : HasFault faults script.servers server came behind
+    pub places : StayInPlace script.servers came behind
+
+  -- each status has its cause; want of memory is free
+  abbrev pub EndsSo : (D → Option Held) → (D → ℕ) → ℕ → List D → List D → Streams → Streams → Status → Type 0
+  EndsSo told faults number came behind before after Ended.Ok = WritesWhole told number came behind before after
+  EndsSo told faults number came behind before after Ended.Usage = ⊥
+  EndsSo told faults number came behind before after (Ended.BadScript line cause) = IsRefused before.left after.left line cause
+  EndsSo told faults number came behind before after (Ended.TooFewDevices servers devices) = LacksDevices servers devices came before after
+  EndsSo told faults number came behind before after Ended.ReadFault = Rose before.source_faults after.source_faults
+  EndsSo told faults number came behind before after Ended.WriteFault = WritesPart told number came behind before after
+  EndsSo told faults number came behind before after Ended.NoMemory = ⊤
+  EndsSo told faults number came behind before after (Ended.DeviceFault server) = StopsAtFault faults server came behind before after
+
+-- nothing is written but with the statuses Ok and WriteFault
+abbrev pub OnUnwritten : Status → Type 0 → Type 0
+OnUnwritten Ended.Ok fact = ⊤
+OnUnwritten Ended.WriteFault fact = ⊤
+OnUnwritten status fact = fact
+
+-- the statuses that come before the devices are used
+abbrev pub OnUntouched : Status → Type 0 → Type 0
+OnUntouched Ended.Usage fact = fact
+OnUntouched Ended.ReadFault fact = fact
+OnUntouched (Ended.BadScript line cause) fact = fact
+OnUntouched (Ended.TooFewDevices servers devices) fact = fact
+OnUntouched status fact = ⊤
