@@ -13,7 +13,10 @@ use Rattle.qfs_model_actor.specs.Ask.{ask, key_of, on_chunk, fetch}
 use Rattle.qfs_model_actor.specs.Get.{was_opened}
 use Rattle.qfs_model_actor.specs.Hold.{nothing, opened, unnamed, ask_or, on_answer, on_meta, was_released, end_with, give_back}
 use Rattle.qfs_model_actor.specs.Work.{Report, ends, goes_on, node_of_request, request_in}
-use Rattle.qfs_reader.specs.Rest.{opening, rest_of_spot, window_bytes, IsReadable}
+use Rattle.qfs_reader.specs.Rest.{opening, rest_at, rest_of_spot, window_bytes, IsAt, IsReadable}
+use Rattle.qfs_reader.specs.Standing.{HasEnded}
+use Rattle.qfs_reader.specs.declared.stage.Stage.{Stage}
+use Rattle.qfs_reader.specs.declared.stage.Stage.TheVariants as At
 use Rattle.qfs_reader.specs.declared.stage.OpenFile.{OpenFile}
 use Rattle.qfs_reader.specs.declared.stage.Spot.{Spot}
 use Rattle.qfs_reader.proofs.Fetches.{spot-fetch}
@@ -61,3 +64,12 @@ opening-node path layout range = refl
 pub releasing-node : (lease : ℕ) (report : Report) → Some 0 ≡ option_map node_of_request (request_in (end_with (opened lease) report))
 unfolding end_with give_back ask_or request_in node_of_request
 releasing-node lease report = refl
+
+-- a get that asks nothing has ended
+pub ended-if_none : (path : List (List ℕ)) (layout : Shape) (range : Range) (stage : Stage) → IsAt layout stage → request_in (rest_at path layout range stage) ≡ None → HasEnded stage
+unfolding rest_at ask ask_or end_with give_back request_in
+ended-if_none path layout range At.Opening at none = cc
+ended-if_none path layout range (At.Fetching file spot) at none = let asks = rw (spot-asks layout file spot at.readable) at none in cc
+ended-if_none path layout range (At.Releasing lease ending) at none = cc
+ended-if_none path layout range (At.Ended ending kept) at none = tt
+ended-if_none path layout range (At.Stopped end) at none = tt

@@ -17,6 +17,6 @@ overflow_mul-fetch c =
     let er : c.layout.inside.r ≡ layout.r = ap (λ (shape : Shape). shape.r) c.layout.view_is in
     let inside = window_at-inside layout c.args.file.now spot c.requires.range c.requires.block c.requires.group c.requires.window c.requires.reached in
     let rows : spot.window.first_row ≤ 1024 = omega (arith, inside.inside, er, c.layout.invariant.1.1) in
-    let stripe : c.layout.inside.s ≤ 65536 = c.layout.invariant.0.1.0 in
+    let stripe : c.layout.inside.s ≤ 65536 = c.layout.invariant.0.1 in
     let product : spot.window.first_row * c.layout.inside.s ≤ 1024 * 65536 = mul-le spot.window.first_row c.layout.inside.s 1024 65536 rows stripe in
     omega (arith, product)
