@@ -1,9 +1,11 @@
 pub mod Asked
+pub mod Home
 pub mod Kept
 pub mod Lists
 pub mod Nodes
 pub mod Numbered
 pub mod Simulation
 pub mod Stands
+pub mod Starts
 pub mod Step
 pub mod TurnLists
