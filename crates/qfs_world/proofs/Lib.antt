@@ -1,4 +1,5 @@
 pub mod Asked
+pub mod Begin
 pub mod Home
 pub mod Kept
 pub mod Lists

@@ -170,18 +170,19 @@ unfolding starting
 starts-numbered layout number [] = tt
 starts-numbered layout number (x ∷ xs) = (refl, λ out. out, starts-numbered layout (number + 1) xs)
 
+pub started-long : (layout : Shape) (old all : List Standing) (xs : List (List Command)) (i : ℕ)
+    → all ≡ old ++ starts_from layout (length old + 1) (take i xs) → i < length xs → length all ≡ length old + i
+started-long layout old all xs i so_far within =
+    let taken : length (take i xs) ≡ i = grind (arith, common_steps) in
+    omega (arith, ap length so_far, length-append old (starts_from layout (length old + 1) (take i xs)),
+    length_starts layout (length old + 1) (take i xs), taken)
+
 module _ (layout : Shape) (old all new : List Standing) (xs : List (List Command)) (i len : ℕ) (it : Standing) (x copy : List Command)
     (so_far : all ≡ old ++ starts_from layout (length old + 1) (take i xs)) (within : i < length xs) where
-  pub started-long : length all ≡ length old + i
-  started-long =
-      let taken : length (take i xs) ≡ i = grind (arith, common_steps) in
-      omega (arith, ap length so_far, length-append old (starts_from layout (length old + 1) (take i xs)),
-      length_starts layout (length old + 1) (take i xs), taken)
-
   pub starts_step : x ≡ slice_index_or xs i x → len ≡ length all → copy ≡ x → it ≡ at_start layout (len + 1) copy → new ≡ all ++ it ∷ []
       → new ≡ old ++ starts_from layout (length old + 1) (take (i + 1) xs)
   starts_step at l c t n =
-      let number : len + 1 ≡ length old + 1 + i = omega (arith, started-long, l) in
+      let number : len + 1 ≡ length old + 1 + i = omega (arith, started-long layout old all xs i so_far within, l) in
       let item : it ≡ at_start layout (length old + 1 + i) (slice_index_or xs i x) =
       t ∙ ap (λ k. at_start layout k copy) number ∙ ap (at_start layout (length old + 1 + i)) (c ∙ at) in
       n ∙ ap (λ l. l ++ it ∷ []) so_far
