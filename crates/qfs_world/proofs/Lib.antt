@@ -1,9 +1,12 @@
 pub mod Asked
+pub mod Begin
+pub mod Home
 pub mod Kept
 pub mod Lists
 pub mod Nodes
 pub mod Numbered
 pub mod Simulation
 pub mod Stands
+pub mod Starts
 pub mod Step
 pub mod TurnLists

@@ -93,7 +93,7 @@ turn-place script nodes actors phases order work number turn =
 
 module _ {D : Type 0} where
   -- nodes with this metaserver and these chunk servers have them
-  again : (script : Script) (nodes : List (NodeState D)) (meta : Metaserver) (stores : List Stored) → nodes ≡ nodes_with meta stores
+  pub again : (script : Script) (nodes : List (NodeState D)) (meta : Metaserver) (stores : List Stored) → nodes ≡ nodes_with meta stores
       → meta.layout ≡ script.layout
       → nodes ≡ Node.Meta (record { layout = script.layout; image = image_of nodes }) ∷ map Node.Store (stores_of nodes)
   again script nodes meta stores e layout =

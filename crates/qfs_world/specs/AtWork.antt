@@ -1,5 +1,5 @@
 -- What holds of the parts of a world at work.
-use Rattle.std.specs.Prelude.{ℕ, ◌≡◌, ◌+◌, ◌<◌, ◌≤◌, ◌^◌, List, [], ◌∷◌, length, map, sum, take, drop, Option, Some, None, nat_lt, if◌then◌else◌, slice_get, slice_set}
+use Rattle.std.specs.Prelude.{ℕ, ◌≡◌, Bool, true, false, ◌+◌, ◌<◌, ◌≤◌, ◌^◌, List, [], ◌∷◌, length, map, sum_by, take, drop, Option, Some, None, nat_lt, if◌then◌else◌, slice_get, slice_set}
 use Rattle.qfs_actor.specs.Standing.{Standing, at_start}
 use Rattle.qfs_base.specs.Shape.{Shape}
 use Rattle.qfs_base.specs.declared.command.Command.{Command}
@@ -77,6 +77,15 @@ abbrev pub sizes_of : List (List (List Command)) → List ℕ
 sizes_of [] = []
 sizes_of (phase ∷ phases) = size_before (sizes_of phases) phase
 
+-- how many these are together
+abbrev pub total : List ℕ → ℕ
+total sizes = sum_by (λ size. size) sizes
+
+-- the number of an actor, unless the flag says that it has finished
+abbrev pub number_if : ℕ → Bool → List ℕ
+number_if number true = []
+number_if number false = number ∷ []
+
 -- the actors of phases of these sizes
 abbrev pub by_sizes : List ℕ → List Actor → List (List Actor)
 by_sizes [] actors = []
@@ -96,5 +105,5 @@ pub record IsAtWork {D : Type 0} (script : Script) (nodes : List (NodeState D)) 
   pub numbered : AreNumbered 1 actors
   pub few : length actors < 2 ^ 16
   pub phases_are : phases ≡ sizes_of script.phases
-  pub whole : sum phases ≡ length actors
+  pub whole : total phases ≡ length actors
   pub follows : AllTell (stores_of nodes) → Follows script order (image_of nodes) (stores_of nodes) (actors_of actors)

@@ -1,7 +1,7 @@
 //! What a world is made of at its start.
 ghost use Rattle.std.specs.Prelude.{◌≡◌, ◌+◌, ◌≤◌, ◌<◌, ◌^◌, ◌++◌, ◌∷◌, [], length, map, take, drop, All, IfOk, OnOk, vec_len, vec_capacity};
 ghost use Rattle.qfs_model_meta.specs.Step.{opening};
-ghost use Rattle.qfs_world.specs.AtWork.{sizes_of, starts_from};
+ghost use Rattle.qfs_world.specs.AtWork.{size_before, sizes_of, starts_from};
 ghost use Rattle.qfs_world.specs.Calls.{IsNew, stored_over};
 ghost use Rattle.qfs_world.specs.Running.{AreBuilt, IsRunnable, commands_by_actor};
 ghost use Rattle.qfs_world.specs.declared.node.NodeState.TheVariants as Node;
@@ -66,8 +66,9 @@ pub fn first_actors(alloc: Global, script: &Script) -> Result<Vec<Actor>, AllocE
     ensures { IfOk result (λ actors. actors.items ≡ starts_from script.now.layout 1 (commands_by_actor script.now)) }
 {
     let mut actors = Vec::new(alloc);
-    for phase in &script.phases {
-        add_phase(alloc, script.layout, &mut actors, phase)?;
+    let phases = script.phases.as_slice();
+    for phase in phases {
+        add_phase(alloc, script.layout, &mut actors, phase.as_slice())?;
     }
     Ok(actors)
 }
@@ -77,7 +78,7 @@ fn add_phase(
     alloc: Global,
     layout: Layout,
     actors: &mut Vec<Actor>,
-    phase: &Phase,
+    phase: &[Commands],
 ) -> Result<(), AllocError>
     requires few { length actors.old.items + length phase.now < 2 ^ 16 }
     requires built { All AreBuilt phase.now }
@@ -85,17 +86,28 @@ fn add_phase(
 {
     for commands in phase {
         let number = actors.len() as u16 + 1;
-        let commands = copy_commands(commands)?;
+        let commands = copy_commands(alloc, commands.as_slice())?;
         actors.push(Actor::new(alloc, layout, number, commands))?;
     }
     Ok(())
 }
 
 /// The same commands once more.
-fn copy_commands(commands: &Commands) -> Result<Commands, AllocError>
+fn copy_commands(alloc: Global, commands: &[Command]) -> Result<Commands, AllocError>
     ensures { IfOk result (λ copy. copy ≡ commands.now) }
 {
-    commands.clone()
+    let mut copy = Commands::with_capacity(alloc, commands.len())?;
+    for command in commands {
+        copy.push(copy_command(command)?)?;
+    }
+    Ok(copy)
+}
+
+/// The same command once more.
+fn copy_command(command: &Command) -> Result<Command, AllocError>
+    ensures { IfOk result (λ copy. copy ≡ command.now) }
+{
+    command.clone()
 }
 
 /// How many actors each phase has, but for phases without actors.
@@ -103,10 +115,20 @@ pub fn phase_sizes(alloc: Global, script: &Script) -> Result<Vec<usize>, AllocEr
     ensures { IfOk result (λ sizes. sizes.items ≡ sizes_of script.now.phases) }
 {
     let mut sizes = Vec::new(alloc);
-    for phase in &script.phases {
-        if !phase.is_empty() {
-            sizes.push(phase.len())?;
-        }
+    let phases = script.phases.as_slice();
+    for phase in phases {
+        push_size(&mut sizes, phase)?;
     }
     Ok(sizes)
+}
+
+/// Puts the number of a phase's actors behind the others, unless it has none.
+fn push_size(sizes: &mut Vec<usize>, phase: &Phase) -> Result<(), AllocError>
+    ensures { OnOk result (sizes.new.items ≡ sizes.old.items ++ size_before [] phase.now) }
+{
+    if phase.is_empty() {
+        return Ok(());
+    }
+    sizes.push(phase.len())?;
+    Ok(())
 }

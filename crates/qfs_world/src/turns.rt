@@ -1,7 +1,8 @@
 //! Whose turn it may be.
-ghost use Rattle.std.specs.Prelude.{◌≡◌, ◌≤◌, ◌<◌, length, map, sum, IfOk};
+ghost use Rattle.std.specs.Prelude.{◌≡◌, ◌≤◌, ◌<◌, ◌++◌, length, map, IfOk, OnOk};
+ghost use Rattle.qfs_model_actor.specs.Actor.{has_finished};
 ghost use Rattle.qfs_model_world.specs.Fits.{unfinished, first_filled};
-ghost use Rattle.qfs_world.specs.AtWork.{actors_of, by_sizes};
+ghost use Rattle.qfs_world.specs.AtWork.{actors_of, by_sizes, number_if, total};
 
 use qfs_actor::Actor;
 use qfs_base::lists::TurnList;
@@ -13,7 +14,7 @@ pub fn current_turn(
     actors: &[Actor],
     sizes: &[usize],
 ) -> Result<TurnList, AllocError>
-    requires { sum sizes.now ≤ length actors.now }
+    requires { total sizes.now ≤ length actors.now }
     ensures { IfOk result (λ turn. turn ≡ first_filled (map unfinished (by_sizes sizes.now (actors_of actors.now)))) }
 {
     let mut rest = actors;
@@ -34,9 +35,18 @@ fn unfinished(alloc: Global, actors: &[Actor]) -> Result<TurnList, AllocError>
 {
     let mut turn = TurnList::new(alloc);
     for actor in actors {
-        if actor.goes_to().is_some() {
-            turn.push(actor.number())?;
-        }
+        push_unfinished(&mut turn, actor)?;
     }
     Ok(turn)
+}
+
+/// Puts the number of an actor behind the others, unless it has finished.
+fn push_unfinished(turn: &mut TurnList, actor: &Actor) -> Result<(), AllocError>
+    ensures { OnOk result (turn.new ≡ turn.old ++ number_if actor.now.actor.number (has_finished actor.now.actor)) }
+{
+    if actor.goes_to().is_none() {
+        return Ok(());
+    }
+    turn.push(actor.number())?;
+    Ok(())
 }

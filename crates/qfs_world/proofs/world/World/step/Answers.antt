@@ -7,8 +7,8 @@ use Rattle.qfs_model_actor.specs.Actor.{has_finished}
 use Rattle.qfs_world.proofs.Step.{AtTurn, turn-place, slice-back, stores-long, works, tells, stays-same}
 use Rattle.qfs_world.proofs.world.World.step.Goals as goal
 
-pub overflow_sub-index_mut : goal.overflow_sub-index_mut
-overflow_sub-index_mut g c =
+pub overflow_sub-actor : goal.overflow_sub-actor
+overflow_sub-actor g c =
     let turn = rw (← c.self.view_is) at c.requires.turn in
     let at = turn-place _ _ _ _ _ c.self.invariant.0 c.args.actor turn in omega (arith, at.1.number_is)
 

@@ -1,0 +1,116 @@
+-- A world at its start.
+use Rattle.std.proofs.Common.{◌≡◌, ℕ, suc, zero, ◌+◌, ◌<◌, ◌≤◌, List, [], ◌∷◌, ◌++◌, length, take, drop, Option, Some, None, refl, sym, ◌∙◌, ap, ap₂, subst, arith, length-take, length-drop}
+use Rattle.std.specs.Prelude.{map, replicate, All, IsSome, IsTrue}
+use Rattle.std.specs.List.{AllByRecursion}
+use Rattle.std.specs.Option.{ForSome}
+use Rattle.std.proofs.lemmas.List.{length-map}
+use Rattle.std.proofs.lemmas.List.Elements.{recursion_from_All, All-take}
+use Rattle.qfs_actor.specs.Standing.{Standing}
+use Rattle.qfs_base.specs.declared.history.Step.{Step}
+use Rattle.qfs_base.specs.declared.image.MetaImage.{MetaImage}
+use Rattle.qfs_base.specs.declared.script.Script.{Script}
+use Rattle.qfs_device.specs.Held.{Held, new_device}
+use Rattle.qfs_meta.specs.Metaserver.{Metaserver}
+use Rattle.qfs_model_meta.specs.Step.{opening}
+use Rattle.qfs_model_server.specs.Server.{Server, fresh_server}
+use Rattle.qfs_model_world.specs.Fits.{fits, fits_from}
+use Rattle.qfs_model_world.specs.World.{World, start, numbered_actors, after}
+use Rattle.qfs_store.specs.Fresh.{fresh_stands}
+use Rattle.qfs_store.specs.Stands.{StandsOn, no_copies, kept}
+use Rattle.qfs_store.specs.Stored.{Stored}
+use Rattle.qfs_world.specs.AtWork.{IsAtWork, AreNumbered, image_of, stores_of, actors_of, sizes_of, starts_from, total}
+use Rattle.qfs_world.specs.Calls.{IsNew, stored_over}
+use Rattle.qfs_world.specs.Follows.{Follows, IsServer, StandForAll}
+use Rattle.qfs_world.specs.Running.{AllTell, IsRunnable, commands_by_actor}
+use Rattle.qfs_world.specs.declared.node.NodeState.{NodeState}
+use Rattle.qfs_world.proofs.Nodes.{nodes_with, stores-with}
+use Rattle.qfs_world.proofs.Starts.{length_starts, starts-actors, starts-numbered, total_sizes}
+use Rattle.qfs_world.proofs.Step.{again}
+
+-- the metaserver that a script starts with
+abbrev pub first_meta : Script → Metaserver
+first_meta script = record { layout = script.layout; image = opening script.servers }
+
+module _ {D : Type 0} (told : D → Option Held) (faults : D → ℕ) where
+  new-stands : (device : D) → IsNew told device → (found : Option Held) → told device ≡ found → IsSome found
+      → IsServer (stored_over told faults device) fresh_server
+  new-stands device fresh None e some = absurd (cc)
+  new-stands device fresh (Some held) e some =
+      let is : held ≡ new_device = fresh held e in
+      record {
+        held = held;
+        told = e;
+        stands = subst (λ h. StandsOn h no_copies fresh_server) (sym is) fresh_stands;
+        handed_out = ap (λ (h : Held). kept h.handed_out) is;
+      }
+
+  all-stand : (devices : List D) → AllByRecursion (IsNew told) devices
+      → AllByRecursion (λ (s : Stored). IsSome s.told) (map (stored_over told faults) devices)
+      → StandForAll (map (stored_over told faults) devices) (replicate (length devices) fresh_server)
+  all-stand [] fresh tell = tt
+  all-stand (device ∷ devices) fresh tell =
+      (new-stands device fresh.0 (told device) refl tell.0, all-stand devices fresh.1 tell.1)
+
+  -- the chunk servers of a script over the first devices
+  abbrev pub first_stores : Script → List D → List Stored
+  first_stores script devices = map (stored_over told faults) (take script.servers devices)
+
+  starts-after : (script : Script) (actors : List Standing) → actors ≡ starts_from script.layout 1 (commands_by_actor script)
+      → after script []
+      ≡ record { layout = script.layout; meta = opening script.servers; servers = replicate script.servers fresh_server; actors = actors_of actors }
+  unfolding after start
+  starts-after script actors e =
+      ap (λ all. record { layout = script.layout; meta = opening script.servers; servers = replicate script.servers fresh_server; actors = all })
+      (sym (ap actors_of e ∙ starts-actors script.layout 1 (commands_by_actor script)))
+
+  fits-none : (script : Script) → IsTrue (fits script [])
+  unfolding fits fits_from
+  fits-none script = refl
+
+  module _ (script : Script) (devices : List D) (nodes : List (NodeState D)) (actors : List Standing) (phases : List ℕ)
+      (runnable : IsRunnable script) (enough : script.servers ≤ length devices) (fresh : All (IsNew told) devices)
+      (nodes_are : nodes ≡ nodes_with (first_meta script) (first_stores script devices))
+      (actors_are : actors ≡ starts_from script.layout 1 (commands_by_actor script))
+      (phases_are : phases ≡ sizes_of script.phases) where
+    pub image-is : image_of nodes ≡ opening script.servers
+    image-is = ap image_of nodes_are
+
+    pub stores-are : stores_of nodes ≡ first_stores script devices
+    stores-are = ap stores_of nodes_are ∙ stores-with D (first_meta script) (first_stores script devices)
+
+    many : length (take script.servers devices) ≡ script.servers
+    many = omega (arith, length-take script.servers devices, enough)
+
+    pub stores-many : length (stores_of nodes) ≡ script.servers
+    stores-many = ap length stores-are ∙ length-map (take script.servers devices) (stored_over told faults) ∙ many
+
+    long : length actors ≡ length (commands_by_actor script)
+    long = ap length actors_are ∙ length_starts script.layout 1 (commands_by_actor script)
+
+    at-start : AllTell (first_stores script devices)
+        → Follows script [] (opening script.servers) (first_stores script devices) (actors_of actors)
+    at-start tell =
+        let stand =
+        all-stand (take script.servers devices)
+        (recursion_from_All (IsNew told) (take script.servers devices) (All-take (IsNew told) script.servers devices fresh))
+        (recursion_from_All (λ (s : Stored). IsSome s.told) (first_stores script devices) tell) in
+        record {
+          servers = replicate script.servers fresh_server;
+          world = starts-after script actors actors_are;
+          stand = subst (λ n. StandForAll (first_stores script devices) (replicate n fresh_server)) many stand;
+          fits = fits-none script;
+        }
+
+    pub begins : IsAtWork script nodes actors phases []
+    begins = record {
+      nodes_are = again script nodes (first_meta script) (first_stores script devices) nodes_are refl;
+      numbered = subst (AreNumbered 1) (sym actors_are) (starts-numbered script.layout 1 (commands_by_actor script));
+      few = omega (arith, long, runnable.actors);
+      phases_are = phases_are;
+      whole = ap total phases_are ∙ total_sizes script.phases ∙ sym long;
+      follows =
+          λ tell.
+          let P : List Stored → Type 0 = λ s. Follows script [] (opening script.servers) s (actors_of actors) in
+          let Q : MetaImage → Type 0 = λ m. Follows script [] m (stores_of nodes) (actors_of actors) in
+          subst Q (sym image-is) (subst P (sym stores-are) (at-start (subst AllTell stores-are tell)));
+    }
