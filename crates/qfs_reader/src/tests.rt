@@ -1,5 +1,5 @@
 //! Gets among nodes that answer as a script says.
-ghost use Rattle.std.specs.Prelude.{◌≡◌};
+ghost use Rattle.std.specs.Prelude.{◌≡◌, ◌<◌, length};
 ghost use Rattle.qfs_machine.specs.declared.machine.Readiness.{Readiness};
 
 use crate::Reader;
@@ -144,7 +144,9 @@ fn report_of(
 }
 
 /// The report that tells these bytes.
-fn read_report(alloc: Global, bytes: &[u8]) -> Result<Reply<Excerpt>, Fail> {
+fn read_report(alloc: Global, bytes: &[u8]) -> Result<Reply<Excerpt>, Fail>
+    requires { length bytes.now < 100 }
+{
     let whole = Listing::from_slice(alloc, bytes)?;
     let read = Excerpt {
         len: bytes.len() as u32,
