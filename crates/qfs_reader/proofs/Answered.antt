@@ -1,5 +1,5 @@
 -- What is left of a get when the metaserver has answered.
-use Rattle.std.proofs.Common.{◌≡◌, ◌∙◌, refl, ap, sym, arith, ℕ, ◌+◌, ◌<◌, ◌≤◌, ◌/◌, min, false, true, List, [], nat_lt, Option, Some, None, Bool}
+use Rattle.std.proofs.Common.{◌≡◌, refl, arith, ℕ, ◌+◌, ◌<◌, ◌≤◌, ◌/◌, min, false, true, [], nat_lt, Bool}
 use Rattle.std.proofs.lemmas.Bool.Decides.{nat_tests}
 use Rattle.qfs_base.specs.Shape.{Shape}
 use Rattle.qfs_base.specs.Layout.{block_bytes}
@@ -9,13 +9,11 @@ use Rattle.qfs_base.specs.declared.reply.MetaReply.{MetaReply}
 use Rattle.qfs_base.specs.declared.reply.MetaReply.TheVariants as Said
 use Rattle.qfs_base.specs.declared.reply.Opened.{Opened}
 use Rattle.qfs_base.specs.declared.reply.TreeRefusal.{TreeRefusal}
-use Rattle.qfs_model_actor.specs.Get.{was_opened, read_range, read_if_any, read_if_whole, read_blocks}
+use Rattle.qfs_model_actor.specs.Get.{was_opened, read_range, read_if_any, read_blocks}
 use Rattle.qfs_model_actor.specs.Hold.{nothing, opened, unnamed, on_answer, was_released, end_with, give_back}
 use Rattle.qfs_model_actor.specs.Tree.{refused}
 use Rattle.qfs_model_actor.specs.Work.{Report, Work, ends}
-use Rattle.qfs_reader.specs.Rest.{ends_or, early_report}
 use Rattle.qfs_reader.specs.Rows.{blocks_from}
-use Rattle.qfs_reader.specs.declared.stage.Early.{Early}
 
 pub answer-other : (give_up : Report → Work) (next : MetaReply → Work) (answer : MetaReply)
     → ((turn : ℕ) → answer ≡ Said.Dropped turn → ⊥) → (answer ≡ Said.LogFault → ⊥) → (answer ≡ Said.NoMemory → ⊥)

@@ -1,8 +1,7 @@
 -- What a get asks, and which node.
-use Rattle.std.proofs.Common.{◌≡◌, ◌∙◌, refl, ap, sym, ℕ, ◌*◌, List, Some, None, replicate}
+use Rattle.std.proofs.Common.{◌≡◌, refl, ℕ, ◌*◌, List, Some, None, replicate}
 use Rattle.std.specs.Option.{option_map}
 use Rattle.qfs_base.specs.Shape.{Shape}
-use Rattle.qfs_base.specs.declared.chunk.ChunkKey.{ChunkKey}
 use Rattle.qfs_base.specs.declared.command.Range.{Range}
 use Rattle.qfs_base.specs.declared.reply.MetaReply.{MetaReply}
 use Rattle.qfs_base.specs.declared.reply.ChunkReply.{ChunkReply}

@@ -1,7 +1,6 @@
 -- What is left of a get that goes from window to window and from block to block.
-use Rattle.std.proofs.Common.{◌≡◌, ◌∙◌, refl, ap, sym, arith, inl, inr, ℕ, suc, ◌+◌, ◌-◌, ◌*◌, ◌/◌, ◌<◌, ◌≤◌, false, true, nat_lt, List, [], ◌∷◌, ◌++◌, length, take, count_by, is_ok, Ok}
+use Rattle.std.proofs.Common.{◌≡◌, ◌∙◌, refl, ap, sym, arith, ℕ, ◌+◌, ◌-◌, ◌*◌, ◌/◌, ◌<◌, ◌≤◌, false, true, List, [], count_by, is_ok}
 use Rattle.std.proofs.lemmas.Bool.Decides.{nat_tests}
-use Rattle.std.specs.List.{range_with_len, slice_get}
 use Rattle.qfs_base.specs.Shape.{Shape}
 use Rattle.qfs_base.specs.declared.chunk.Copy.{Copy}
 use Rattle.qfs_base.specs.declared.layout.Window.{Window}
@@ -9,14 +8,12 @@ use Rattle.qfs_model_actor.specs.Get.{reading_of, read_blocks, listed_in}
 use Rattle.qfs_model_actor.specs.Pieces.{Piece, data_of, rows_of_file}
 use Rattle.qfs_model_actor.specs.Windows.{window_offset, cut_to_range}
 use Rattle.qfs_base.specs.Layout.{block_bytes, row_bytes}
-use Rattle.qfs_model_actor.specs.Put.{slots_from}
-use Rattle.qfs_model_actor.specs.Read.{Source, are_too_few, causes_of, sources_of, read_slots, read_windows, read_block, with_enough, go_on_or_stop}
+use Rattle.qfs_model_actor.specs.Read.{Source, are_too_few, causes_of, sources_of, read_windows, read_block, with_enough, go_on_or_stop}
 use Rattle.qfs_model_actor.specs.Hold.{opened, end_with}
-use Rattle.qfs_model_actor.specs.Work.{Work}
 use Rattle.qfs_base.specs.declared.command.Reply.TheVariants as Report
 use Rattle.qfs_reader.specs.Parts.{pieces_of}
-use Rattle.qfs_reader.specs.Rest.{rest_of_windows, rest_of_spot, rest_of_slots, behind_window, reading_at, IsRange, IsBlock}
-use Rattle.qfs_reader.specs.Rows.{groups_touched, window_touched, windows_from, blocks_before, blocks_from, first_touched}
+use Rattle.qfs_reader.specs.Rest.{rest_of_windows, rest_of_spot, behind_window, reading_at, IsRange, IsBlock}
+use Rattle.qfs_reader.specs.Rows.{groups_touched, window_touched, blocks_before, blocks_from, first_touched}
 use Rattle.qfs_reader.specs.Sources.{IsNext}
 use Rattle.qfs_reader.specs.declared.stage.OpenFile.{OpenFile}
 use Rattle.qfs_reader.specs.declared.stage.Spot.{Spot}

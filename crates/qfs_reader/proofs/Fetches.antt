@@ -1,10 +1,8 @@
 -- What is left of a get when a chunk server has answered.
-use Rattle.std.proofs.Common.{◌≡◌, ◌≢◌, ◌∙◌, refl, ap, sym, arith, inl, inr, ℕ, suc, ◌+◌, ◌-◌, ◌*◌, ◌<◌, ◌≤◌, ◌==◌, false, true, List, [], ◌∷◌, ◌++◌, length, take, count_by, is_ok, map, Some, Ok, Err, length-append}
+use Rattle.std.proofs.Common.{◌≡◌, ◌≢◌, ◌∙◌, refl, ap, sym, arith, ℕ, suc, ◌+◌, ◌-◌, ◌*◌, ◌<◌, ◌≤◌, ◌==◌, false, true, List, [], ◌∷◌, ◌++◌, length, take, count_by, is_ok, map, Some, Err, length-append}
 use Rattle.std.proofs.lemmas.Bool.Decides.{nat_tests}
-use Rattle.std.proofs.lemmas.Bool.{cases_Bool}
 use Rattle.std.proofs.lemmas.List.{take-set, get_or-set_same, length-set}
-use Rattle.std.proofs.lemmas.List.Sums.{count_by_more_no}
-use Rattle.std.proofs.lemmas.Option.{slice_get_within, slice_get_read}
+use Rattle.std.proofs.lemmas.Option.{slice_get_read}
 use Rattle.std.specs.List.{slice_get, slice_set}
 use Rattle.qfs_base.specs.Shape.{Shape}
 use Rattle.qfs_base.specs.declared.chunk.Copy.{Copy}
@@ -19,7 +17,7 @@ use Rattle.qfs_model_actor.specs.Ask.{on_served, on_chunk, after_fetch, filled, 
 use Rattle.qfs_model_actor.specs.Get.{reading_of}
 use Rattle.qfs_model_actor.specs.Hold.{opened, unnamed, end_with}
 use Rattle.qfs_model_actor.specs.Read.{Source, are_too_few, causes_of, at_source, read_slots, with_enough, go_on_or_stop}
-use Rattle.qfs_model_actor.specs.Work.{Work, goes_on}
+use Rattle.qfs_model_actor.specs.Work.{goes_on}
 use Rattle.qfs_reader.specs.Rest.{rest_of_slots, rest_of_spot, rest_with_piece, rest_if_filled, rest_without, reading_at, pieces_at, window_bytes, behind_window, IsReadable}
 use Rattle.qfs_reader.specs.Sources.{IsNext}
 use Rattle.qfs_reader.specs.declared.stage.OpenFile.{OpenFile}

@@ -1,5 +1,5 @@
 -- Passing over slots, and the causes of those that can't be read.
-use Rattle.std.proofs.Common.{◌≡◌, ◌∙◌, refl, ap, sym, arith, ℕ, suc, ◌+◌, ◌-◌, ◌<◌, ◌≤◌, false, true, List, [], ◌∷◌, ◌++◌, length, take, get_or, count_by, is_ok, Option, Some, None, Ok, Err}
+use Rattle.std.proofs.Common.{◌≡◌, ◌∙◌, refl, ap, arith, ℕ, suc, ◌+◌, ◌-◌, ◌<◌, ◌≤◌, List, [], ◌∷◌, ◌++◌, length, take, get_or, count_by, is_ok, Some, None, Ok, Err}
 use Rattle.std.proofs.lemmas.Grind.{common_steps}
 use Rattle.std.proofs.lemmas.List.{take_more, append-nil}
 use Rattle.std.proofs.lemmas.List.Elements.{filter_map-append}
@@ -39,7 +39,7 @@ causes_below-push sources slot source at =
     let more : take (slot + 1) sources ≡ take slot sources ++ source ∷ [] = take_more sources slot source within ∙ rw found refl in
     let cause = λ (p : ℕ × Source). cause_at p.0 p.1 in
     let pushed : enumerate_from 0 (take slot sources ++ source ∷ []) ≡ enumerate_from 0 (take slot sources) ++ (slot, source) ∷ [] =
-        enumerate-push 0 (take slot sources) source ∙ rw long refl in
+    enumerate-push 0 (take slot sources) source ∙ rw long refl in
     rw (more, pushed) (filter_map-append cause (enumerate_from 0 (take slot sources)) ((slot, source) ∷ []))
 
 pub causes_below-some : (sources : List Source) (slot : ℕ) (source : Source) (cause : SlotCause) → slice_get sources slot ≡ Some source

@@ -1,7 +1,7 @@
 -- The bytes of a window's rows, stripe by stripe.
-use Rattle.std.proofs.Common.{◌≡◌, ◌∙◌, refl, ap, sym, arith, ℕ, zero, suc, ◌+◌, ◌-◌, ◌*◌, ◌^◌, ◌<◌, ◌≤◌, max, List, [], ◌∷◌, ◌++◌, length, take, drop, map, append_assoc, length-append, length-drop}
+use Rattle.std.proofs.Common.{◌≡◌, ◌∙◌, refl, ap, sym, arith, ℕ, zero, suc, ◌+◌, ◌-◌, ◌*◌, ◌^◌, ◌<◌, ◌≤◌, List, [], ◌∷◌, ◌++◌, length, take, drop, map, append_assoc, length-append, length-drop}
 use Rattle.std.proofs.Math.Nat.{mul-le-mul_right}
-use Rattle.std.proofs.lemmas.Grind.{common_steps, flat_map-append}
+use Rattle.std.proofs.lemmas.Grind.{flat_map-append}
 use Rattle.std.proofs.lemmas.List.{drop-take, take-take, length-take-le, append-nil, drop-drop, map-id}
 use Rattle.std.proofs.lemmas.List.FromFn.{map-range_with_len_more}
 use Rattle.std.specs.List.{range_with_len, flat_map}
@@ -25,7 +25,7 @@ stripe_of_part stripe row size n nine inside =
     let rest : row * stripe + (size - row * stripe) ≡ size = omega (arith, inside) in
     let short : stripe ≤ size - row * stripe = omega (arith, inside) in
     let cut : drop (row * stripe) (take size (drop (n * size) nine)) ≡ take (size - row * stripe) (drop (row * stripe) (drop (n * size) nine)) =
-        ap (λ m. drop (row * stripe) (take m (drop (n * size) nine))) (sym rest) ∙ drop-take (row * stripe) (size - row * stripe) (drop (n * size) nine) in
+    ap (λ m. drop (row * stripe) (take m (drop (n * size) nine))) (sym rest) ∙ drop-take (row * stripe) (size - row * stripe) (drop (n * size) nine) in
     ap (take stripe) cut
     ∙ take-take stripe (size - row * stripe) (drop (row * stripe) (drop (n * size) nine)) short
     ∙ ap (take stripe) (drop-drop (row * stripe) (n * size) nine)
@@ -65,7 +65,7 @@ row-step from to start stripe row size n nine got before after inside within lon
     let stripes = stripes_of stripe row size nine n in
     let many : length stripes ≡ n * stripe = length-stripes stripe row size n nine inside (omega (arith, within)) long in
     let cut : cut_to_range from to start (stripes ++ part) ≡ cut_to_range from to start stripes ++ cut_to_range from to (start + n * stripe) part =
-        cut_to_range-append from to start stripes part ∙ rw many refl in
+    cut_to_range-append from to start stripes part ∙ rw many refl in
     more
     ∙ ap (λ l. l ++ cut_to_range from to (start + n * stripe) part) was
     ∙ append_assoc got (cut_to_range from to start stripes) (cut_to_range from to (start + n * stripe) part)
@@ -135,7 +135,7 @@ rows-step from to start stripe rows size nine got before after inside long was m
     let row = row_of stripe chunks rows in
     let many : length done ≡ rows * (6 * stripe) = length-rows stripe rows size nine (omega (arith, inside)) long in
     let cut : cut_to_range from to start (done ++ row) ≡ cut_to_range from to start done ++ cut_to_range from to (start + rows * (6 * stripe)) row =
-        cut_to_range-append from to start done row ∙ rw many refl in
+    cut_to_range-append from to start done row ∙ rw many refl in
     more
     ∙ ap (λ l. l ++ cut_to_range from to (start + rows * (6 * stripe)) row) was
     ∙ append_assoc got (cut_to_range from to start done) (cut_to_range from to (start + rows * (6 * stripe)) row)

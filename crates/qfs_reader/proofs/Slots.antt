@@ -1,19 +1,17 @@
 -- The parts of the slots of a window, and what is restored from them.
-use Rattle.std.proofs.Common.{◌≡◌, ◌≢◌, ◌∙◌, refl, ap, sym, arith, inl, inr, ℕ, zero, suc, ◌+◌, ◌-◌, ◌*◌, ◌<◌, ◌≤◌, ◌==◌, ◌||◌, Bool, true, false, cond, ltb, List, [], ◌∷◌, ◌++◌, length, take, drop, map, Option, Some, None, length-append, length-drop}
+use Rattle.std.proofs.Common.{◌≡◌, ◌≢◌, ◌∙◌, refl, ap, sym, arith, inl, inr, ℕ, ◌+◌, ◌*◌, ◌<◌, ◌≤◌, ◌==◌, Bool, true, false, ltb, List, [], ◌∷◌, ◌++◌, length, take, drop, Option, Some, None, length-drop}
 use Rattle.std.proofs.Math.Nat.{mul-le-mul_right}
 use Rattle.std.proofs.lemmas.Bool.{cases_lt, cases_Bool, eqb-true}
 use Rattle.std.proofs.lemmas.Bool.Decides.{nat_tests}
-use Rattle.std.proofs.lemmas.Grind.{common_steps}
-use Rattle.std.proofs.lemmas.List.{drop-take, take-take, length-take-le, append-nil}
-use Rattle.std.proofs.lemmas.List.FromFn.{map-range_with_len_more, get_or-map-range_with_len, length-map-range_with_len}
+use Rattle.std.proofs.lemmas.List.{drop-take, length-take-le}
+use Rattle.std.proofs.lemmas.List.FromFn.{get_or-map-range_with_len}
 use Rattle.std.proofs.lemmas.Slice.{take-put_mid_below, drop-put_mid}
-use Rattle.std.specs.List.{range_with_len, list_any}
 use borrow.Rule.Slice.PartMut.{put_mid}
-use Rattle.qfs_base.specs.Mask.{all_slots, has_slot, insert_slot}
+use Rattle.qfs_base.specs.Mask.{has_slot, insert_slot}
 use Rattle.qfs_code.specs.Code.{slots_of}
 use Rattle.qfs_model_slot.specs.CodeWord.{slot_at}
 use Rattle.qfs_model_slot.specs.Restored.{restored}
-use Rattle.qfs_model_actor.specs.Pieces.{Piece, piece_of, bytes_in, slots_in, len_of, nine_of, restored_slot, given_or_restored, data_of}
+use Rattle.qfs_model_actor.specs.Pieces.{Piece, piece_of, bytes_in, slots_in, len_of, nine_of, restored_slot, given_or_restored}
 use Rattle.qfs_reader.specs.Parts.{part_at, piece_at, pieces_of, AreBelow}
 
 -- where another part begins

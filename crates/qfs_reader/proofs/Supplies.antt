@@ -1,8 +1,8 @@
 -- A get with other room for what its slots give.
-use Rattle.std.proofs.Common.{◌≡◌, ◌∙◌, refl, ap, sym, arith, inl, inr, ℕ, ◌+◌, ◌-◌, ◌*◌, ◌<◌, ◌≤◌, ◌⊎◌, List, [], length}
+use Rattle.std.proofs.Common.{◌≡◌, ◌∙◌, refl, ap, sym, arith, inl, inr, ℕ, ◌≤◌, ◌⊎◌, []}
 use Rattle.qfs_base.specs.Shape.{Shape}
 use Rattle.qfs_reader.specs.Parts.{pieces_of}
-use Rattle.qfs_reader.specs.Rest.{rest_of_spot, window_bytes, pieces_at, IsOtherRoom, IsSpot, IsRange, IsBlock, HasRoom}
+use Rattle.qfs_reader.specs.Rest.{rest_of_spot, window_bytes, pieces_at, IsOtherRoom, IsSpot, HasRoom}
 use Rattle.qfs_reader.specs.Rows.{window_touched}
 use Rattle.qfs_reader.specs.declared.stage.OpenFile.{OpenFile}
 use Rattle.qfs_reader.specs.declared.stage.Spot.{Spot}

@@ -1,6 +1,6 @@
 -- Which rows a window has, where it stands in its file, and that it lies in its block.
-use Rattle.std.proofs.Common.{◌≡◌, ◌∙◌, refl, ap, sym, arith, inl, inr, ℕ, zero, suc, ◌+◌, ◌-◌, ◌*◌, ◌/◌, ◌%◌, ◌<◌, ◌≤◌, max, min, List, ◌∷◌, map}
-use Rattle.std.proofs.Math.Nat.{mul-le-mul_right, div-lt_iff_lt-mul, mul-le-mul_left}
+use Rattle.std.proofs.Common.{◌≡◌, ap, arith, inl, inr, ℕ, zero, suc, ◌+◌, ◌-◌, ◌*◌, ◌/◌, ◌<◌, ◌≤◌, min, ◌∷◌, map}
+use Rattle.std.proofs.Math.Nat.{mul-le-mul_right, div-lt_iff_lt-mul}
 use Rattle.std.proofs.lemmas.Bool.{cases_lt}
 use Rattle.std.specs.Int.{div_ceil}
 use Rattle.std.specs.List.{range_with_len}
@@ -9,7 +9,7 @@ use Rattle.qfs_base.specs.Layout.{row_bytes, block_bytes, window_rows}
 use Rattle.qfs_base.specs.Shape.{Shape}
 use Rattle.qfs_base.specs.declared.layout.Window.{Window}
 use Rattle.qfs_model_actor.specs.Windows.{window_offset}
-use Rattle.qfs_reader.specs.Rows.{first_touched, past_touched, window_touched, groups_before, groups_touched, windows_from, blocks_before, blocks_from}
+use Rattle.qfs_reader.specs.Rows.{first_touched, past_touched, window_touched, groups_touched, windows_from, blocks_before, blocks_from}
 
 -- a group that begins before row `past`, and a block that begins before byte `to`
 pub part_begins : (a d q : ℕ) → 0 < d → q < div_ceil a d → q * d < a

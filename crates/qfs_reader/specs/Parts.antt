@@ -1,5 +1,5 @@
 -- The bytes that the slots of a block gave in a window, one slot after another in one list.
-use Rattle.std.specs.Prelude.{ℕ, ◌+◌, ◌*◌, ◌<◌, List, [], ◌∷◌, take, drop, map, ⊤}
+use Rattle.std.specs.Prelude.{ℕ, ◌*◌, ◌<◌, List, [], ◌∷◌, take, drop, map, ⊤}
 use Rattle.qfs_model_actor.specs.Pieces.{Piece}
 
 -- the part of slot j, where each part has `size` bytes

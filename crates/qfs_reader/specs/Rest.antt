@@ -1,13 +1,11 @@
 -- What is left of a get at each of its stages.
 use Rattle.std.specs.Prelude.{◌≡◌, ℕ, suc, ◌+◌, ◌-◌, ◌*◌, ◌<◌, ◌≤◌, ◌^◌, ◌==◌, List, [], ◌∷◌, ◌++◌, length, take, count_by, is_ok, Option, Some, None, Ok, Err, slice_get, slice_set, ⊤, ◌⊎◌}
-use Rattle.qfs_base.specs.Layout.{row_bytes, block_bytes}
+use Rattle.qfs_base.specs.Layout.{block_bytes}
 use Rattle.qfs_base.specs.Shape.{Shape}
-use Rattle.qfs_base.specs.declared.chunk.Copy.{Copy}
 use Rattle.qfs_base.specs.declared.command.Range.{Range}
 use Rattle.qfs_base.specs.declared.command.Reply.TheVariants as Report
 use Rattle.qfs_base.specs.declared.layout.Window.{Window}
 use Rattle.qfs_base.specs.declared.lists.Cause.{Cause}
-use Rattle.qfs_base.specs.declared.reply.Opened.{Opened}
 use Rattle.qfs_base.specs.declared.request.MetaRequest.TheVariants as Ask
 use Rattle.qfs_model_actor.specs.Ask.{ask, filled}
 use Rattle.qfs_model_actor.specs.Get.{reading_of, read_blocks, was_opened}
@@ -19,7 +17,7 @@ use Rattle.qfs_model_actor.specs.Shown.{kept_report}
 use Rattle.qfs_model_actor.specs.Windows.{window_offset}
 use Rattle.qfs_model_actor.specs.Work.{Report, Work, ends}
 use Rattle.qfs_reader.specs.Parts.{pieces_of, AreBelow}
-use Rattle.qfs_reader.specs.Rows.{first_touched, window_touched, groups_touched, windows_from, blocks_before, blocks_from}
+use Rattle.qfs_reader.specs.Rows.{first_touched, window_touched, groups_touched, windows_from, blocks_from}
 use Rattle.qfs_reader.specs.declared.stage.Ending.{Ending}
 use Rattle.qfs_reader.specs.declared.stage.Ending.TheVariants as With
 use Rattle.qfs_reader.specs.declared.stage.Early.{Early}

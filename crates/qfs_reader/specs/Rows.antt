@@ -1,5 +1,5 @@
 -- Which rows of a block a range touches, and the windows and blocks that are left behind a place in it.
-use Rattle.std.specs.Prelude.{ℕ, ◌+◌, ◌-◌, ◌*◌, ◌/◌, List, map, min}
+use Rattle.std.specs.Prelude.{ℕ, ◌-◌, ◌*◌, ◌/◌, List, map, min}
 use Rattle.std.specs.Int.{div_ceil}
 use Rattle.std.specs.List.{range_with_len}
 use Rattle.qfs_base.specs.Layout.{row_bytes, block_bytes, window_at, window_rows}

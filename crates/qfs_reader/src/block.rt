@@ -13,7 +13,9 @@ ghost use Rattle.qfs_reader.specs.Parts.{AreBelow};
 ghost use Rattle.qfs_reader.specs.Rows.{first_touched, groups_touched, window_touched, blocks_from};
 
 use crate::parts::add_window;
-use crate::rows::{block_bytes, blocks_before, first_row, groups_before, past_row, row_bytes, window_at};
+use crate::rows::{
+    block_bytes, blocks_before, first_row, groups_before, past_row, row_bytes, window_at,
+};
 use crate::sources::{Sources, are_too_few, next_source, sources_of};
 use crate::stage::{Ending, OpenFile, Spot, Stage};
 use qfs_base::layout::Window;
@@ -43,13 +45,7 @@ fn window_touched(layout: &Layout, from: u32, to: u32, block: u32, group: u32) -
 }
 
 /// The stage of a get at a window of a block, of which enough slots can be read.
-fn begin_window(
-    layout: &Layout,
-    file: OpenFile,
-    block: u32,
-    group: u32,
-    sources: Sources,
-) -> Stage
+fn begin_window(layout: &Layout, file: OpenFile, block: u32, group: u32, sources: Sources) -> Stage
     requires range { IsRange file }
     requires block { IsBlock layout.now file block }
     requires group { group < groups_touched layout.now.s layout.now.r file.to block }
@@ -74,13 +70,7 @@ fn begin_window(
 }
 
 /// The stage of a get that has read a block of its file up to a window.
-fn next_window(
-    layout: &Layout,
-    file: OpenFile,
-    block: u32,
-    group: u32,
-    sources: Sources,
-) -> Stage
+fn next_window(layout: &Layout, file: OpenFile, block: u32, group: u32, sources: Sources) -> Stage
     requires range { IsRange file }
     requires block { IsBlock layout.now file block }
     requires group { group * 16 < 2 ^ 31 }

@@ -12,5 +12,7 @@ mod rows;
 mod sources;
 mod stage;
 mod supply;
+#[cfg(test)]
+mod tests;
 
 pub use reader::Reader;

@@ -68,7 +68,16 @@ pub fn restore_data(nine: &mut [u8], size: usize, have: Mask, spare: &mut [u8])
 }
 
 /// Adds what a range takes of the bytes of a row, which begins at byte `start` of the file.
-fn add_row(nine: &[u8], size: usize, stripe: usize, row: usize, from: u32, to: u32, start: u32, got: &mut Got)
+fn add_row(
+    nine: &[u8],
+    size: usize,
+    stripe: usize,
+    row: usize,
+    from: u32,
+    to: u32,
+    start: u32,
+    got: &mut Got,
+)
     requires nine { length nine.now ≡ 9 * size }
     requires row { (row + 1) * stripe ≤ size }
     requires stripe { stripe ≤ 65536 }
@@ -85,7 +94,15 @@ fn add_row(nine: &[u8], size: usize, stripe: usize, row: usize, from: u32, to: u
 }
 
 /// Adds what a range takes of the bytes of `rows` rows, which begin at byte `start` of the file.
-pub fn add_rows(nine: &[u8], stripe: usize, rows: usize, from: u32, to: u32, start: u32, got: &mut Got)
+pub fn add_rows(
+    nine: &[u8],
+    stripe: usize,
+    rows: usize,
+    from: u32,
+    to: u32,
+    start: u32,
+    got: &mut Got,
+)
     requires nine { length nine.now ≡ 9 * (rows * stripe) }
     requires rows { rows ≤ 1024 }
     requires stripe { stripe ≤ 65536 }

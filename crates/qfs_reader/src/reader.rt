@@ -136,7 +136,12 @@ fn after_meta(
 }
 
 /// The stage of a get at an answer of a chunk server.
-fn after_chunk(layout: &Layout, stage: Stage, kept: Option<Reply<Excerpt>>, reply: &ChunkReply) -> Stage
+fn after_chunk(
+    layout: &Layout,
+    stage: Stage,
+    kept: Option<Reply<Excerpt>>,
+    reply: &ChunkReply,
+) -> Stage
     requires at { IsAt layout.now stage }
     requires supplied { IsSupplied layout.now stage kept }
     ensures rest { (path : List (List ℕ)) (range : Range) → rest_at path layout.now range result ≡ goes_on (rest_at path layout.now range stage) (NodeReply.Chunk reply.now) }

@@ -43,7 +43,10 @@ pub struct Spot {
 #[derive(Drop)]
 pub enum Ending {
     /// It has read its range.
-    Read { place: Place, got: Got },
+    Read {
+        place: Place,
+        got: Got,
+    },
     /// Too few slots of a block can be read.
     TooFew {
         place: Place,

@@ -1,12 +1,7 @@
-use Rattle.std.proofs.Common.{◌≡◌, ◌∙◌, refl, ap, sym, arith, inl, inr, ℕ, suc, ◌+◌, ◌-◌, ◌*◌, ◌/◌, ◌%◌, ◌<◌, ◌≤◌, false, true, List, [], ◌∷◌, ◌++◌, length, count_by, is_ok}
-use Rattle.qfs_base.specs.Layout.{block_bytes, row_bytes}
-use Rattle.qfs_base.specs.Shape.{Shape}
-use Rattle.qfs_model_actor.specs.Read.{are_too_few, sources_of}
-use Rattle.qfs_model_actor.specs.Get.{listed_in}
-use Rattle.qfs_reader.specs.Rest.{rest_at, report_of}
-use Rattle.qfs_reader.specs.Rows.{groups_touched, first_touched, blocks_before}
-use Rattle.qfs_reader.proofs.Blocks.{enough_left, spot-begins, no_windows, no_blocks, block-begins, block-stops}
-use Rattle.qfs_reader.proofs.Touched.{IsTouched, part_begins, first_group, window-inside, window_end, window_end-group, window_start, whole_some}
+use Rattle.std.proofs.Common.{refl, arith, inl}
+use Rattle.qfs_reader.specs.Rest.{rest_at}
+use Rattle.qfs_reader.proofs.Blocks.{enough_left, spot-begins}
+use Rattle.qfs_reader.proofs.Touched.{window_start}
 use Rattle.qfs_reader.proofs.block.begin_window.Goals as goal
 
 pub next_source-slot-requires : goal.next_source-slot-requires

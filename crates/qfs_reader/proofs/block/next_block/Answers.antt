@@ -1,12 +1,11 @@
-use Rattle.std.proofs.Common.{◌≡◌, ◌∙◌, refl, ap, sym, arith, inl, inr, ℕ, suc, ◌+◌, ◌-◌, ◌*◌, ◌/◌, ◌%◌, ◌<◌, ◌≤◌, false, true, List, [], ◌∷◌, ◌++◌, length, count_by, is_ok}
-use Rattle.qfs_base.specs.Layout.{block_bytes, row_bytes}
-use Rattle.qfs_base.specs.Shape.{Shape}
+use Rattle.std.proofs.Common.{◌≡◌, ◌∙◌, sym, arith, ◌<◌, ◌≤◌, false, true}
+use Rattle.qfs_base.specs.Layout.{block_bytes}
 use Rattle.qfs_model_actor.specs.Read.{are_too_few, sources_of}
 use Rattle.qfs_model_actor.specs.Get.{listed_in}
 use Rattle.qfs_reader.specs.Rest.{rest_at, report_of}
-use Rattle.qfs_reader.specs.Rows.{groups_touched, first_touched, blocks_before}
-use Rattle.qfs_reader.proofs.Blocks.{enough_left, spot-begins, no_windows, no_blocks, block-begins, block-stops}
-use Rattle.qfs_reader.proofs.Touched.{IsTouched, part_begins, first_group, window-inside, window_end, window_end-group, window_start, whole_some}
+use Rattle.qfs_reader.specs.Rows.{blocks_before}
+use Rattle.qfs_reader.proofs.Blocks.{no_blocks, block-begins, block-stops}
+use Rattle.qfs_reader.proofs.Touched.{part_begins, first_group, whole_some}
 use Rattle.qfs_reader.proofs.block.next_block.Goals as goal
 
 pub returns-then-block-blocks_before-clause-rest : goal.returns-then-block-blocks_before-clause-rest

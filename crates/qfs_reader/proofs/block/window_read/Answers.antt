@@ -1,17 +1,9 @@
-use Rattle.std.proofs.Common.{◌≡◌, ◌∙◌, refl, ap, sym, arith, inl, inr, ℕ, suc, ◌+◌, ◌-◌, ◌*◌, ◌/◌, ◌%◌, ◌<◌, ◌≤◌, ◌^◌, false, true, List, [], ◌∷◌, ◌++◌, length, count_by, is_ok}
+use Rattle.std.proofs.Common.{◌≡◌, ◌∙◌, ap, sym, arith, ℕ, ◌+◌, ◌-◌, ◌*◌, ◌<◌, ◌≤◌, ◌^◌, List, ◌++◌, length}
 use Rattle.qfs_base.specs.Layout.{block_bytes, row_bytes}
-use Rattle.qfs_model_actor.specs.Pieces.{data_of, rows_of_file}
-use Rattle.qfs_reader.specs.Parts.{pieces_of}
 use Rattle.qfs_base.specs.Shape.{Shape}
-use Rattle.qfs_model_actor.specs.Read.{are_too_few, sources_of}
-use Rattle.qfs_model_actor.specs.Get.{reading_of}
-use Rattle.qfs_model_actor.specs.Windows.{window_offset, cut_to_range}
-use Rattle.qfs_reader.specs.declared.stage.OpenFile.{OpenFile}
-use Rattle.qfs_reader.specs.declared.stage.Spot.{Spot}
-use Rattle.qfs_reader.specs.Rest.{rest_at, rest_of_windows, reading_at, pieces_at}
-use Rattle.qfs_reader.specs.Rows.{groups_touched, first_touched, blocks_before}
-use Rattle.qfs_reader.proofs.Blocks.{enough_left, spot-begins, no_windows, no_blocks, block-begins, block-stops, window_at-inside, window_kept, window_offset-spot}
-use Rattle.qfs_reader.proofs.Touched.{IsTouched, IsInside, part_begins, first_group, window-inside, window_end, window_end-group, window_start, whole_some}
+use Rattle.qfs_reader.specs.Rest.{rest_of_windows, reading_at, pieces_at}
+use Rattle.qfs_reader.proofs.Blocks.{window_at-inside, window_kept, window_offset-spot}
+use Rattle.qfs_reader.proofs.Touched.{window_end, window_end-group}
 use Rattle.qfs_reader.proofs.block.window_read.Goals as goal
 
 -- where the window ends
@@ -36,9 +28,9 @@ overflow_mul-start-2 c =
     let inside = window_at-inside layout c.args.file spot c.requires.range c.requires.block c.requires.group c.requires.window c.requires.reached in
     let large : block_bytes layout.s layout.r ≤ 402653184 = rw (← c.block_bytes.ensures.value) c.block_bytes.ensures.largest in
     let fits = ends_inside spot.block spot.window.first_row spot.window.rows (block_bytes layout.s layout.r) (row_bytes layout.s) c.args.file.to
-        (window_end layout.s layout.r spot.block spot.group spot.window inside) c.requires.block.starts c.requires.range.most large in
+    (window_end layout.s layout.r spot.block spot.group spot.window inside) c.requires.block.starts c.requires.range.most large in
     let first : spot.window.first_row * c.row_bytes.result < 2 ^ 32 =
-        rw c.row_bytes.ensures.value (first_inside spot.block spot.window.first_row spot.window.rows (block_bytes layout.s layout.r) (row_bytes layout.s) fits) in
+    rw c.row_bytes.ensures.value (first_inside spot.block spot.window.first_row spot.window.rows (block_bytes layout.s layout.r) (row_bytes layout.s) fits) in
     omega (arith, first)
 
 pub overflow_add-start : goal.overflow_add-start
@@ -47,9 +39,9 @@ overflow_add-start c =
     let inside = window_at-inside layout c.args.file spot c.requires.range c.requires.block c.requires.group c.requires.window c.requires.reached in
     let large : block_bytes layout.s layout.r ≤ 402653184 = rw (← c.block_bytes.ensures.value) c.block_bytes.ensures.largest in
     let fits = ends_inside spot.block spot.window.first_row spot.window.rows (block_bytes layout.s layout.r) (row_bytes layout.s) c.args.file.to
-        (window_end layout.s layout.r spot.block spot.group spot.window inside) c.requires.block.starts c.requires.range.most large in
+    (window_end layout.s layout.r spot.block spot.group spot.window inside) c.requires.block.starts c.requires.range.most large in
     let start : spot.block * c.block_bytes.result + spot.window.first_row * c.row_bytes.result < 2 ^ 32 =
-        rw (c.block_bytes.ensures.value, c.row_bytes.ensures.value) (starts_inside spot.block spot.window.first_row spot.window.rows (block_bytes layout.s layout.r) (row_bytes layout.s) fits) in
+    rw (c.block_bytes.ensures.value, c.row_bytes.ensures.value) (starts_inside spot.block spot.window.first_row spot.window.rows (block_bytes layout.s layout.r) (row_bytes layout.s) fits) in
     omega (arith, start)
 
 pub add_window-requires-clause-fits : goal.add_window-requires-clause-fits
@@ -94,5 +86,5 @@ returns-clause-rest c =
     let es : c.layout.inside.s ≡ layout.s = ap (λ (shape : Shape). shape.s) c.layout.view_is in
     let added = rw (c.block_bytes.ensures.value, c.row_bytes.ensures.value, es, c.as_mut_slice.ensures.value) at c.add_window.ensures.got in
     let got : c.add_window.new.got ≡ c.args.file.got ++ (reading_at layout c.args.file spot.block).kept spot.window (pieces_at layout c.args.file spot) =
-        added ∙ ap (λ (bytes : List ℕ). c.args.file.got ++ bytes) (sym (window_kept layout c.args.file spot (pieces_at layout c.args.file spot) c.requires.window)) in
+    added ∙ ap (λ (bytes : List ℕ). c.args.file.got ++ bytes) (sym (window_kept layout c.args.file spot (pieces_at layout c.args.file spot) c.requires.window)) in
     λ path range. c.next_window.ensures.rest path range ∙ ap (rest_of_windows layout c.args.file spot.block (spot.group + 1) spot.sources) got

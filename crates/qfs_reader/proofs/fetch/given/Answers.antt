@@ -1,16 +1,10 @@
-use Rattle.std.proofs.Common.{◌≡◌, ◌≢◌, ◌∙◌, refl, ap, sym, arith, inl, inr, ℕ, suc, ◌+◌, ◌-◌, ◌*◌, ◌<◌, ◌≤◌, false, true, List, [], ◌∷◌, ◌++◌, length, take, count_by, is_ok, Err}
-use Rattle.std.specs.List.{slice_set}
+use Rattle.std.proofs.Common.{◌≡◌, ◌∙◌, ap, sym, arith, inr, ℕ, ◌+◌, ◌-◌, ◌*◌, ◌<◌, [], ◌∷◌, ◌++◌, length}
 use Rattle.std.specs.Vec.{with_items}
-use Rattle.qfs_base.specs.Shape.{Shape}
-use Rattle.qfs_base.specs.Mask.{insert_slot}
-use Rattle.qfs_model_actor.specs.Pieces.{Piece}
-use Rattle.qfs_model_actor.specs.Read.{are_too_few}
 use Rattle.qfs_reader.specs.Parts.{pieces_of, part_at}
-use Rattle.qfs_reader.specs.Rest.{rest_at, rest_of_slots, rest_of_spot, behind_window, report_of, window_bytes, pieces_at}
-use Rattle.qfs_reader.proofs.Blocks.{enough_left}
+use Rattle.qfs_reader.specs.Rest.{rest_at, rest_of_slots, rest_of_spot, behind_window, window_bytes, pieces_at}
 use Rattle.qfs_reader.proofs.Passing.{count_ok-some}
 use Rattle.qfs_reader.proofs.Slots.{insert_slot-last, AreBelow-push, AreBelow-more}
-use Rattle.qfs_reader.proofs.Fetches.{count-failed, without-stops, without-goes_on, pieces-put, length-insert, six-pieces, next-piece, room_with, enough-few, filled-short, filled-whole, served-no_memory, served-fetched, served-down, served-lost, served-absent, served-fault, served-other}
+use Rattle.qfs_reader.proofs.Fetches.{pieces-put, length-insert, six-pieces, next-piece, room_with, enough-few}
 use Rattle.qfs_reader.proofs.fetch.given.Goals as goal
 
 pub put_part-requires-clause-slot : goal.put_part-requires-clause-slot
@@ -77,12 +71,12 @@ returns-then-count-ge-DATA_SLOTS-clause-rest c =
     let long : length c.put_part.new.nine ≡ 9 * window_bytes layout spot.window = c.put_part.ensures.len ∙ ap (λ n. 9 * n) size in
     let items : (with_items file.nine c.put_part.new.nine).items ≡ c.put_part.new.nine = room_with file.nine c.put_part.new.nine (window_bytes layout spot.window) c.requires.room.nine long in
     let put : part_at (window_bytes layout spot.window) c.put_part.new.nine spot.slot ≡ c.args.bytes.now =
-        ap (λ n. part_at n c.put_part.new.nine spot.slot) (sym size) ∙ c.put_part.ensures.put in
+    ap (λ n. part_at n c.put_part.new.nine spot.slot) (sym size) ∙ c.put_part.ensures.put in
     let others = rw (size, c.as_mut_slice.ensures.value) at c.put_part.ensures.others in
     let pieces : pieces_of (window_bytes layout spot.window) (with_items file.nine c.put_part.new.nine).items c.with-spot.result
-        ≡ pieces_at layout file spot ++ record { slot = spot.slot; bytes = c.args.bytes.now } ∷ [] =
-        rw (items, c.with-spot.ensures)
-        (pieces-put (window_bytes layout spot.window) spot.slot file.nine.items c.put_part.new.nine spot.have c.args.bytes.now readable.below put others) in
+    ≡ pieces_at layout file spot ++ record { slot = spot.slot; bytes = c.args.bytes.now } ∷ [] =
+    rw (items, c.with-spot.ensures)
+    (pieces-put (window_bytes layout spot.window) spot.slot file.nine.items c.put_part.new.nine spot.have c.args.bytes.now readable.below put others) in
     let many : length c.with-spot.result ≡ length spot.have + 1 = ap length c.with-spot.ensures ∙ length-insert spot.slot spot.have readable.below in
     let six : length spot.have + 1 ≡ 6 = omega (arith, many, readable.few, c.if-count-ge-DATA_SLOTS.true, c.count.ensures.count) in
     λ path range.
@@ -102,12 +96,12 @@ returns-clause-rest c =
     let long : length c.put_part.new.nine ≡ 9 * window_bytes layout spot.window = c.put_part.ensures.len ∙ ap (λ n. 9 * n) size in
     let items : (with_items file.nine c.put_part.new.nine).items ≡ c.put_part.new.nine = room_with file.nine c.put_part.new.nine (window_bytes layout spot.window) c.requires.room.nine long in
     let put : part_at (window_bytes layout spot.window) c.put_part.new.nine spot.slot ≡ c.args.bytes.now =
-        ap (λ n. part_at n c.put_part.new.nine spot.slot) (sym size) ∙ c.put_part.ensures.put in
+    ap (λ n. part_at n c.put_part.new.nine spot.slot) (sym size) ∙ c.put_part.ensures.put in
     let others = rw (size, c.as_mut_slice.ensures.value) at c.put_part.ensures.others in
     let pieces : pieces_of (window_bytes layout spot.window) (with_items file.nine c.put_part.new.nine).items c.with-spot.result
-        ≡ pieces_at layout file spot ++ record { slot = spot.slot; bytes = c.args.bytes.now } ∷ [] =
-        rw (items, c.with-spot.ensures)
-        (pieces-put (window_bytes layout spot.window) spot.slot file.nine.items c.put_part.new.nine spot.have c.args.bytes.now readable.below put others) in
+    ≡ pieces_at layout file spot ++ record { slot = spot.slot; bytes = c.args.bytes.now } ∷ [] =
+    rw (items, c.with-spot.ensures)
+    (pieces-put (window_bytes layout spot.window) spot.slot file.nine.items c.put_part.new.nine spot.have c.args.bytes.now readable.below put others) in
     let many : length c.with-spot.result ≡ length spot.have + 1 = ap length c.with-spot.ensures ∙ length-insert spot.slot spot.have readable.below in
     let few : length spot.have + 1 < 6 = omega (arith, many, c.if-count-ge-DATA_SLOTS.false, c.count.ensures.count) in
     λ path range.

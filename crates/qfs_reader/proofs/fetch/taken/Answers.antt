@@ -1,15 +1,7 @@
-use Rattle.std.proofs.Common.{◌≡◌, ◌≢◌, ◌∙◌, refl, ap, sym, arith, inl, inr, ℕ, suc, ◌+◌, ◌-◌, ◌*◌, ◌<◌, ◌≤◌, false, true, List, [], ◌∷◌, ◌++◌, length, take, count_by, is_ok, Err}
-use Rattle.std.specs.List.{slice_set}
+use Rattle.std.proofs.Common.{◌≡◌, ◌≢◌, ◌∙◌, ap, sym, ◌*◌, length}
 use Rattle.qfs_base.specs.Shape.{Shape}
-use Rattle.qfs_base.specs.Mask.{insert_slot}
-use Rattle.qfs_model_actor.specs.Pieces.{Piece}
-use Rattle.qfs_model_actor.specs.Read.{are_too_few}
-use Rattle.qfs_reader.specs.Parts.{pieces_of, part_at}
-use Rattle.qfs_reader.specs.Rest.{rest_at, rest_of_slots, rest_of_spot, behind_window, report_of, window_bytes, pieces_at}
-use Rattle.qfs_reader.proofs.Blocks.{enough_left}
-use Rattle.qfs_reader.proofs.Passing.{count_ok-some}
-use Rattle.qfs_reader.proofs.Slots.{insert_slot-last, AreBelow-push, AreBelow-more}
-use Rattle.qfs_reader.proofs.Fetches.{count-failed, without-stops, without-goes_on, pieces-put, length-insert, six-pieces, next-piece, room_with, enough-few, filled-short, filled-whole, served-no_memory, served-fetched, served-down, served-lost, served-absent, served-fault, served-other}
+use Rattle.qfs_reader.specs.Rest.{window_bytes}
+use Rattle.qfs_reader.proofs.Fetches.{filled-short, filled-whole}
 use Rattle.qfs_reader.proofs.fetch.taken.Goals as goal
 
 pub returns-then-room-spot-clause-rest : goal.returns-then-room-spot-clause-rest

@@ -1,12 +1,8 @@
-use Rattle.std.proofs.Common.{◌≡◌, ◌∙◌, refl, ap, sym, arith, min, ◌+◌, ◌<◌, ◌≤◌, true, false, ◌*◌, ◌/◌, ℕ}
-use Rattle.qfs_base.specs.Layout.{block_bytes}
-use Rattle.qfs_base.specs.declared.command.Reply.TheVariants as Report
-use Rattle.qfs_model_actor.specs.Get.{is_whole, read_if_whole, was_opened}
-use Rattle.qfs_model_actor.specs.Hold.{on_answer, was_released, end_with, nothing}
-use Rattle.qfs_model_actor.specs.Tree.{refused}
+use Rattle.std.proofs.Common.{◌∙◌, refl}
+use Rattle.qfs_model_actor.specs.Hold.{was_released}
 use Rattle.qfs_model_actor.specs.Work.{ends}
-use Rattle.qfs_reader.specs.Rest.{rest_at, report_of, early_report, ends_or}
-use Rattle.qfs_reader.proofs.Answered.{answer-other, ends_at_once, released-other, opened-other, range-empty, range-some}
+use Rattle.qfs_reader.specs.Rest.{rest_at, report_of}
+use Rattle.qfs_reader.proofs.Answered.{released-other}
 use Rattle.qfs_reader.proofs.meta.given_back.Goals as goal
 
 pub returns-in_default-clause-rest : goal.returns-in_default-clause-rest

@@ -1,13 +1,8 @@
-use Rattle.std.proofs.Common.{◌≡◌, ◌∙◌, refl, ap, sym, arith, min, ◌+◌, ◌<◌, ◌≤◌, true, false, ◌*◌, ◌/◌, ℕ}
+use Rattle.std.proofs.Common.{◌≡◌, ◌∙◌, arith, min, ◌+◌, ◌<◌}
 use Rattle.qfs_base.specs.Layout.{block_bytes}
-use Rattle.qfs_base.specs.declared.command.Reply.TheVariants as Report
-use Rattle.qfs_model_actor.specs.Get.{is_whole, read_if_whole, was_opened}
-use Rattle.qfs_model_actor.specs.Hold.{on_answer, was_released, end_with, nothing}
-use Rattle.qfs_model_actor.specs.Tree.{refused}
-use Rattle.qfs_model_actor.specs.Work.{ends}
-use Rattle.qfs_reader.specs.Rest.{rest_at, report_of, early_report, ends_or}
+use Rattle.qfs_reader.specs.Rest.{rest_at, report_of}
 use Rattle.std.proofs.Math.Nat.{lt-div-mul-add}
-use Rattle.qfs_reader.proofs.Answered.{answer-other, ends_at_once, released-other, opened-other, range-empty, range-some}
+use Rattle.qfs_reader.proofs.Answered.{range-empty, range-some}
 use Rattle.qfs_reader.proofs.meta.read.Goals as goal
 
 pub returns-then-from-to-clause-rest : goal.returns-then-from-to-clause-rest

@@ -1,4 +1,4 @@
-use Rattle.std.proofs.Common.{◌≡◌, ◌∙◌, sym, ap, arith, ◌+◌, ◌-◌, ◌*◌, ◌<◌, ◌≤◌, ◌++◌, List, ℕ, length, take, drop, refl}
+use Rattle.std.proofs.Common.{◌≡◌, ◌∙◌, ap, arith, ◌+◌, ◌-◌, ◌*◌, ◌<◌, ◌≤◌, ◌++◌, List, ℕ, length, take, drop}
 use Rattle.std.proofs.Math.Nat.{mul-le-mul_right}
 use Rattle.std.proofs.lemmas.List.{length-take}
 use Rattle.qfs_model_actor.specs.Windows.{cut_to_range}
@@ -34,7 +34,7 @@ loop-slot-preserved c =
     let cut = cut-by_length c.args.from c.args.to offset place c.args.stripe c.args.nine.now c.cut_to_range.result.now c.cut_to_range.ensures in
     let added : c.add.new.self ≡ c.loop-slot.got ++ cut_to_range c.args.from c.args.to offset stripe = c.add.ensures ∙ ap (λ (bytes : List ℕ). c.loop-slot.got ++ bytes) cut in
     let bound : length c.add.new.self ≤ offset + c.args.stripe - c.args.from =
-        added-bound c.args.from c.args.to offset c.args.stripe c.loop-slot.got stripe c.add.new.self c.loop-slot.invariant.bound (short c.args.stripe place c.args.nine.now) added in
+    added-bound c.args.from c.args.to offset c.args.stripe c.loop-slot.got stripe c.add.new.self c.loop-slot.invariant.bound (short c.args.stripe place c.args.nine.now) added in
     record {
       got = row-step c.args.from c.args.to c.args.start c.args.stripe c.args.row c.args.size c.loop-slot.slot c.args.nine.now c.args.got.now c.loop-slot.got c.add.new.self
           c.requires.row (omega (arith, c.loop-slot-test.true)) c.requires.nine c.loop-slot.invariant.got added;

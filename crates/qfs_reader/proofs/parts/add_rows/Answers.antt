@@ -1,4 +1,4 @@
-use Rattle.std.proofs.Common.{◌≡◌, ◌∙◌, arith, ◌+◌, ◌-◌, ◌*◌, ◌≤◌, ◌<◌, length}
+use Rattle.std.proofs.Common.{arith, ◌+◌, ◌*◌, ◌≤◌}
 use Rattle.std.proofs.Math.Nat.{mul-le-mul_right}
 use Rattle.qfs_reader.proofs.Rowwise.{rows-step, no-rows}
 use Rattle.qfs_reader.proofs.parts.add_rows.Goals as goal

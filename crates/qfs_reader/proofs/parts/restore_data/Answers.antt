@@ -1,9 +1,6 @@
-use Rattle.std.proofs.Common.{◌≡◌, ◌≢◌, ◌∙◌, sym, arith, inl, inr, ℕ, ◌<◌, ◌≤◌, ◌+◌, refl}
+use Rattle.std.proofs.Common.{◌≢◌, ◌∙◌, sym, arith, inl, inr, ℕ, ◌<◌, ◌≤◌, ◌+◌, refl}
 use Rattle.std.proofs.Math.Nat.{eq-or-lt_of_le}
-use Rattle.qfs_code.specs.Code.{slots_of}
-use Rattle.qfs_model_slot.specs.Restored.{restored}
 use Rattle.qfs_model_actor.specs.Pieces.{data_of}
-use Rattle.qfs_reader.specs.Parts.{part_at}
 use Rattle.qfs_reader.proofs.Slots.{restored-same, data_slot}
 use Rattle.qfs_reader.proofs.parts.restore_data.Goals as goal
 
@@ -35,6 +32,6 @@ returns-clause-data c =
     let law = c.slots_not_at_hand_have_no_influence.ensures in
     let all : 6 ≤ c.loop-want.want = c.loop-want-test.false in
     let part = λ (j : ℕ) (within : j < 6).
-        c.loop-want.invariant.done j (omega (arith, within, all))
-        ∙ sym (data_slot law c.args.size c.args.nine.now c.args.have j c.requires.nine c.requires.mask (omega (arith, c.requires.enough)) (omega (arith, within))) in
+    c.loop-want.invariant.done j (omega (arith, within, all))
+    ∙ sym (data_slot law c.args.size c.args.nine.now c.args.have j c.requires.nine c.requires.mask (omega (arith, c.requires.enough)) (omega (arith, within))) in
     rw (part 0 (omega arith), part 1 (omega arith), part 2 (omega arith), part 3 (omega arith), part 4 (omega arith), part 5 (omega arith)) refl

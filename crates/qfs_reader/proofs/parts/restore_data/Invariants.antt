@@ -1,4 +1,4 @@
-use Rattle.std.proofs.Common.{◌≡◌, ℕ, ◌*◌, ◌<◌, length, true}
+use Rattle.std.proofs.Common.{◌≡◌, ℕ, ◌<◌, true}
 use Rattle.qfs_base.specs.Mask.{has_slot}
 use Rattle.qfs_code.specs.Code.{slots_of}
 use Rattle.qfs_model_slot.specs.Restored.{restored}

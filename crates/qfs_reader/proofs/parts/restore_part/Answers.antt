@@ -1,4 +1,4 @@
-use Rattle.std.proofs.Common.{◌≡◌, ◌∙◌, sym, ap, arith, true}
+use Rattle.std.proofs.Common.{◌≡◌, sym, arith, true}
 use Rattle.qfs_base.specs.Mask.{has_slot}
 use Rattle.qfs_model_slot.specs.Restored.{restored}
 use Rattle.qfs_reader.proofs.Slots.{slot_at-part}

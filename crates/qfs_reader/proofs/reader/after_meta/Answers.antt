@@ -1,7 +1,7 @@
-use Rattle.std.proofs.Common.{◌≡◌, ◌∙◌, refl, ap, sym}
-use Rattle.qfs_reader.specs.Rest.{rest_at, report_of}
+use Rattle.std.proofs.Common.{◌∙◌, refl}
+use Rattle.qfs_reader.specs.Rest.{rest_at}
 use Rattle.qfs_model_actor.specs.Work.{goes_on}
-use Rattle.qfs_reader.proofs.Asked.{spot-meta, opening-meta, opening-chunk, releasing-meta, releasing-chunk}
+use Rattle.qfs_reader.proofs.Asked.{spot-meta, opening-meta, releasing-meta}
 use Rattle.qfs_reader.proofs.reader.after_meta.Goals as goal
 
 pub returns-in-Opening-clause-rest : goal.returns-in-Opening-clause-rest

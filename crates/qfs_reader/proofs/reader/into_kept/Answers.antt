@@ -1,4 +1,3 @@
-use Rattle.std.proofs.Common.{◌≡◌}
 use Rattle.qfs_reader.specs.Rest.{rest_at}
 use Rattle.qfs_reader.proofs.reader.into_kept.Goals as goal
 

@@ -1,6 +1,6 @@
-use Rattle.std.proofs.Common.{◌≡◌, ◌∙◌, refl, ap, sym, arith, ◌*◌, ℕ}
+use Rattle.std.proofs.Common.{◌≡◌, ap, arith, ◌*◌}
 use Rattle.qfs_base.specs.Shape.{Shape}
-use Rattle.std.proofs.Common.{◌≤◌, ◌+◌, ◌<◌, ◌^◌}
+use Rattle.std.proofs.Common.{◌≤◌}
 use Rattle.std.proofs.lemmas.Nat.{mul-le}
 use Rattle.qfs_reader.proofs.Blocks.{window_at-inside}
 use Rattle.qfs_reader.proofs.Asked.{spot-asks}

@@ -1,5 +1,4 @@
-use Rattle.std.proofs.Common.{◌≡◌, ◌∙◌, refl, ap, sym}
-use Rattle.qfs_reader.specs.Rest.{rest_at, report_of}
+use Rattle.qfs_reader.specs.Rest.{rest_at}
 use Rattle.qfs_reader.proofs.Asked.{spot-node, opening-node, releasing-node}
 use Rattle.qfs_reader.proofs.request.node_of.Goals as goal
 

@@ -1,4 +1,4 @@
-use Rattle.std.proofs.Common.{◌∙◌, ◌≡◌, ◌++◌, ◌∷◌, [], sym, ap, List}
+use Rattle.std.proofs.Common.{◌∙◌, ◌++◌, ◌∷◌, [], sym, ap, List}
 use Rattle.qfs_base.specs.declared.lists.SlotCause.{SlotCause}
 use Rattle.qfs_reader.proofs.Passing.{causes_below-some, causes_below-none, causes_below-all}
 use Rattle.qfs_reader.proofs.sources.causes_of.Goals.{in-Some+in_ok-push, in_default}
@@ -6,7 +6,7 @@ use Rattle.qfs_reader.proofs.sources.causes_of.Goals as goal
 
 pub loop-slot-preserved : goal.loop-slot-preserved
 loop-slot-preserved c =
-    elim c.match-cause_at.branch [ 
+    elim c.match-cause_at.branch [
       | in-Some+in_ok-push w ↦
           w.causes-is
           ∙ w.in_ok-push.ensures.ok

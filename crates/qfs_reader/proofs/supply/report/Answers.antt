@@ -1,4 +1,4 @@
-use Rattle.std.proofs.Common.{◌≡◌, refl}
+use Rattle.std.proofs.Common.{refl}
 use Rattle.qfs_model_actor.specs.Shown.{shown_reply}
 use Rattle.qfs_reader.specs.Rest.{report_of}
 use Rattle.qfs_reader.proofs.supply.report.Goals as goal

@@ -1,4 +1,4 @@
-use Rattle.std.proofs.Common.{◌≡◌, refl}
+use Rattle.std.proofs.Common.{refl}
 use Rattle.qfs_model_actor.specs.Get.{get_work}
 use Rattle.qfs_reader.specs.Rest.{rest_at}
 use Rattle.qfs_reader.proofs.reader.Reader.new.Goals as goal

@@ -1,4 +1,4 @@
-use Rattle.std.proofs.Common.{◌≡◌, ◌∙◌, ap}
+use Rattle.std.proofs.Common.{◌∙◌, ap}
 use Rattle.qfs_model_actor.specs.Work.{request_in}
 use Rattle.qfs_reader.specs.Standing.{Standing, rest_of}
 use Rattle.qfs_reader.proofs.Asked.{ended-if_none}
