@@ -122,15 +122,21 @@ all_tell_behind before behind go_on tell = λ k d below.
     (AllZip-get_or GoesOn before behind k d d go_on below_too).tells ∙ tell k d below_too
 
 module _ {D L : Type 0} where
-  risen_further : (a b c : Running D L) (at_node : Option ℕ) → Continues a b → HasRisen b c at_node → HasRisen a c at_node
-  risen_further a b c at_node continues (server, old, new, is, before, behind, rose) =
-      let at = went_on_at a.stores b.stores server old continues.stores_go_on before in
-      (server, at.old, new, is, at.there, behind, rose_further at.old.faults old.faults new.faults at.goes_on.never_falls rose)
+  risen_further : (a b c : Running D L) (server : ℕ) → Continues a b → HasRisen b c server → HasRisen a c server
+  risen_further a b c server continues risen =
+      let at = went_on_at a.stores b.stores server risen.old continues.stores_go_on risen.before_is in
+      record {
+        old = at.old;
+        new = risen.new;
+        before_is = at.there;
+        behind_is = risen.behind_is;
+        rose = rose_further at.old.faults risen.old.faults risen.new.faults at.goes_on.never_falls risen.rose;
+      }
 
   -- why a run stops holds from further back too
   pub stops_further : (a b c : Running D L) (status : Status) → Continues a b → StopsAt b c status → StopsAt a c status
   stops_further a b c Ended.NoMemory continues stops = tt
-  stops_further a b c (Ended.DeviceFault server) continues stops = risen_further a b c (Some server) continues stops
+  stops_further a b c (Ended.DeviceFault server) continues stops = risen_further a b c server continues stops
   stops_further a b c Ended.Ok continues stops = absurd stops
   stops_further a b c Ended.Usage continues stops = absurd stops
   stops_further a b c (Ended.BadScript line cause) continues stops = absurd stops

@@ -97,7 +97,7 @@ module _ {D L : Type 0} where
           ap length starts.stores_are ∙ length-map (take script.servers before) (stored_over told faults) ∙ length-take-le script.servers before enough in
       let count : length ended.stores ≡ script.servers = sym (length_all_zip GoesOn started.stores ended.stores continues.stores_go_on) ∙ count_first in
       let spare : drop script.servers behind ≡ drop script.servers before =
-          ap (λ k. drop k behind) (sym count) ∙ are.spare_are ∙ continues.spare_is ∙ starts.spare_are in
+          ap (λ k. drop k behind) (sym count) ∙ are.others_are ∙ continues.spare_is ∙ starts.spare_are in
       let full : min (length ended.stores) (length behind) ≡ length ended.stores =
           sym (length-take (length ended.stores) behind) ∙ sym (length-map (take (length ended.stores) behind) told)
           ∙ ap length are.told_are ∙ length-map ended.stores (λ (stored : Stored). stored.told) in
@@ -167,13 +167,11 @@ module _ {D L : Type 0} where
       → StopsAt started ended status → StopsOver faults script.servers before behind status
   unfolding numbered
   run_stops told faults script before behind disks started ended Ended.NoMemory enough starts continues are stops = tt
-  run_stops told faults script before behind disks started ended (Ended.DeviceFault zero) enough starts continues are (server, old, new, is, at_start, at_end, rose) =
-      let at_zero : numbered started.stores zero ≡ Some old = subst (λ s. numbered started.stores s ≡ Some old) (sym (some_is is)) at_start in
-      absurd (some_isnt at_zero)
-  run_stops told faults script before behind disks started ended (Ended.DeviceFault (suc k)) enough starts continues are (server, old, new, is, at_start, at_end, rose) =
-      let same : server ≡ suc k = sym (some_is is) in
-      fault_at told faults script before behind disks started ended k old new enough starts continues are
-      (subst (λ s. numbered started.stores s ≡ Some old) same at_start) (subst (λ s. numbered ended.stores s ≡ Some new) same at_end) rose
+  run_stops told faults script before behind disks started ended (Ended.DeviceFault zero) enough starts continues are stops =
+      absurd (some_isnt stops.before_is)
+  run_stops told faults script before behind disks started ended (Ended.DeviceFault (suc k)) enough starts continues are stops =
+      fault_at told faults script before behind disks started ended k stops.old stops.new enough starts continues are
+      stops.before_is stops.behind_is stops.rose
   run_stops told faults script before behind disks started ended Ended.Ok enough starts continues are stops = absurd stops
   run_stops told faults script before behind disks started ended Ended.Usage enough starts continues are stops = absurd stops
   run_stops told faults script before behind disks started ended (Ended.BadScript line cause) enough starts continues are stops = absurd stops

@@ -38,5 +38,5 @@ module _ {D L : Type 0} where
   -- why the steps of a run stop early: memory is wanting, or the device of a server failed
   abbrev pub StopsAt : Running D L → Running D L → Status → Type 0
   StopsAt before behind Ended.NoMemory = ⊤
-  StopsAt before behind (Ended.DeviceFault server) = HasRisen before behind (Some server)
+  StopsAt before behind (Ended.DeviceFault server) = HasRisen before behind server
   StopsAt before behind status = ⊥

@@ -1,7 +1,9 @@
 //! The world at work.
 ghost use Rattle.std.specs.Prelude.{◌≡◌, ◌+◌, ◌≤◌, ◌<◌, ◌++◌, ◌∷◌, [], length, map, All, IfOk, IfErr, OnErr, false, vec_len, vec_capacity};
 ghost use Rattle.qfs_machine.specs.Asking.{IsOut};
-ghost use Rattle.qfs_model_actor.specs.Actor.{has_finished};
+ghost use Rattle.std.specs.Option.{option_and_then};
+ghost use Rattle.qfs_model_actor.specs.Actor.{has_finished, node_of};
+ghost use Rattle.qfs_model_world.specs.World.{numbered};
 ghost use Rattle.qfs_world.specs.AtWork.{TakesTurn, place_in, sizes_of, starts_from};
 ghost use Rattle.qfs_world.specs.Calls.{IsNew, Starts, HasTurn, Steps, AreDevicesOf, lines_of_actors};
 ghost use Rattle.qfs_world.specs.Follows.{IsAfter};
@@ -114,6 +116,14 @@ impl<D: ChunkDevice, L: LogDisk> World<D, L> {
         ensures after { IsAfter self.now }
     {
         current_turn(self.alloc, &self.actors, &self.phases)
+    }
+
+    /// The node that an actor goes to next, whose turn it is: 0 is the metaserver, s is server s.
+    pub fn goes_to(&self, actor: ActorId) -> Option<NodeId>
+        requires { HasTurn self.now actor }
+        ensures { result ≡ option_and_then node_of (numbered self.now.actors actor) }
+    {
+        self.actors[actor as usize - 1].goes_to()
     }
 
     /// The entries of the steps taken so far.
