@@ -73,11 +73,13 @@ impl<D: ChunkDevice, L: LogDisk> World<D, L> {
     {
         match prepare(alloc, script) {
             Err(_) => Err(WorldLoadError { devices, disks }),
-            Ok(Prepared {
-                mut nodes,
-                actors,
-                phases,
-            }) => {
+            Ok(
+                Prepared {
+                    mut nodes,
+                    actors,
+                    phases,
+                },
+            ) => {
                 let mut spare = devices;
                 take_devices(alloc, &mut spare, &mut nodes, script.servers);
                 Ok(World {
