@@ -206,6 +206,7 @@ fn step_on<D: ChunkDevice>(
 {
     actor.ready()?;
     let number = actor.number();
+    // The entry has its place before the turn, so that nothing behind the turn takes memory.
     order.push(Step {
         actor: number,
         outcome: Outcome::Done,
