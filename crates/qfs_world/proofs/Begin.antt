@@ -1,20 +1,18 @@
 -- A world at its start.
-use Rattle.std.proofs.Common.{◌≡◌, ℕ, suc, zero, ◌+◌, ◌<◌, ◌≤◌, List, [], ◌∷◌, ◌++◌, length, take, drop, Option, Some, None, refl, sym, ◌∙◌, ap, ap₂, subst, arith, length-take, length-drop}
+use Rattle.std.proofs.Common.{◌≡◌, ℕ, ◌≤◌, List, [], ◌∷◌, length, take, Option, Some, None, refl, sym, ◌∙◌, ap, subst, arith, length-take}
 use Rattle.std.specs.Prelude.{map, replicate, All, IsSome, IsTrue}
 use Rattle.std.specs.List.{AllByRecursion}
-use Rattle.std.specs.Option.{ForSome}
 use Rattle.std.proofs.lemmas.List.{length-map}
 use Rattle.std.proofs.lemmas.List.Elements.{recursion_from_All, All-take}
 use Rattle.qfs_actor.specs.Standing.{Standing}
-use Rattle.qfs_base.specs.declared.history.Step.{Step}
 use Rattle.qfs_base.specs.declared.image.MetaImage.{MetaImage}
 use Rattle.qfs_base.specs.declared.script.Script.{Script}
 use Rattle.qfs_device.specs.Held.{Held, new_device}
 use Rattle.qfs_meta.specs.Metaserver.{Metaserver}
 use Rattle.qfs_model_meta.specs.Step.{opening}
-use Rattle.qfs_model_server.specs.Server.{Server, fresh_server}
+use Rattle.qfs_model_server.specs.Server.{fresh_server}
 use Rattle.qfs_model_world.specs.Fits.{fits, fits_from}
-use Rattle.qfs_model_world.specs.World.{World, start, numbered_actors, after}
+use Rattle.qfs_model_world.specs.World.{start, after}
 use Rattle.qfs_store.specs.Fresh.{fresh_stands}
 use Rattle.qfs_store.specs.Stands.{StandsOn, no_copies, kept}
 use Rattle.qfs_store.specs.Stored.{Stored}

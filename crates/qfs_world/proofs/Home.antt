@@ -1,9 +1,8 @@
 -- Devices go home.
-use Rattle.std.proofs.Common.{◌≡◌, ℕ, suc, zero, ◌+◌, ◌<◌, ◌≤◌, List, [], ◌∷◌, ◌++◌, length, take, drop, Option, refl, sym, ◌∙◌, ap, ap₂, subst, arith, append_assoc}
+use Rattle.std.proofs.Common.{◌≡◌, ℕ, List, [], ◌∷◌, ◌++◌, length, take, drop, Option, refl, sym, ◌∙◌, ap, ap₂, subst, arith, append_assoc}
 use Rattle.std.specs.Prelude.{map}
 use Rattle.std.proofs.lemmas.Grind.{common_steps}
-use Rattle.std.proofs.lemmas.List.{length-map, append-nil}
-use Rattle.qfs_base.specs.declared.image.MetaImage.{MetaImage}
+use Rattle.std.proofs.lemmas.List.{length-map}
 use Rattle.qfs_device.specs.Held.{Held}
 use Rattle.qfs_meta.specs.Metaserver.{Metaserver}
 use Rattle.qfs_store.specs.Stored.{Stored}
@@ -128,5 +127,6 @@ module _ {D : Type 0} where
       where
         home-front : (n : ℕ) (home : List D) → length home ≡ n → take n (home ++ others) ≡ home
         home-front n home e = grind (arith, common_steps)
+
         home-behind : (n : ℕ) (home : List D) → length home ≡ n → drop n (home ++ others) ≡ others
         home-behind n home e = grind (arith, common_steps)

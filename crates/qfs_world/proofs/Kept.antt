@@ -1,7 +1,7 @@
 -- A world at work stays that of the definitions through a step.
-use Rattle.std.proofs.Common.{◌≡◌, ℕ, suc, zero, ◌+◌, ◌<◌, ◌≤◌, Bool, true, false, List, [], ◌∷◌, ◌++◌, length, Option, Some, None, refl, sym, ◌∙◌, ap, ap₂, subst, arith, slice_get, slice_set, ◌⊎◌, inl, inr}
-use Rattle.std.specs.Prelude.{map, ◌==◌, IsSome, IsTrue, is_some, All}
-use Rattle.std.specs.List.{list_any, AllZip, AllByRecursion}
+use Rattle.std.proofs.Common.{◌≡◌, ℕ, suc, zero, true, List, [], ◌∷◌, ◌++◌, Some, None, refl, sym, ◌∙◌, ap, slice_get, slice_set}
+use Rattle.std.specs.Prelude.{◌==◌, IsSome, IsTrue, is_some}
+use Rattle.std.specs.List.{list_any, AllByRecursion}
 use Rattle.std.proofs.lemmas.List.Elements.{All-from_recursion, recursion_from_All}
 use Rattle.qfs_base.specs.Outcome.{outcome_of, meta_outcome, chunk_outcome}
 use Rattle.qfs_base.specs.declared.history.Outcome.{Outcome}
@@ -11,29 +11,25 @@ use Rattle.qfs_base.specs.declared.reply.ChunkAnswer.{ChunkAnswer}
 use Rattle.qfs_base.specs.declared.reply.ChunkAnswer.TheVariants as Did
 use Rattle.qfs_base.specs.declared.reply.ChunkReply.{ChunkReply}
 use Rattle.qfs_base.specs.declared.reply.MetaReply.{MetaReply}
-use Rattle.qfs_base.specs.declared.reply.NodeReply.{NodeReply}
 use Rattle.qfs_base.specs.declared.reply.NodeReply.TheVariants as From
 use Rattle.qfs_base.specs.declared.request.ChunkRequest.{ChunkRequest}
 use Rattle.qfs_base.specs.declared.request.ChunkRequest.TheVariants as Serve
 use Rattle.qfs_base.specs.declared.request.MetaRequest.{MetaRequest}
-use Rattle.qfs_base.specs.declared.request.NodeRequest.{NodeRequest}
 use Rattle.qfs_base.specs.declared.request.NodeRequest.TheVariants as To
 use Rattle.qfs_base.specs.declared.script.Script.{Script}
-use Rattle.qfs_device.specs.Fault.{Rose}
 use Rattle.qfs_machine.specs.Askable.{IsAskedOfServer}
 use Rattle.qfs_meta.specs.Metaserver.{Metaserver}
-use Rattle.qfs_model_actor.specs.Actor.{Actor, request_of, after_reply}
-use Rattle.qfs_model_meta.specs.Step.{Served, meta_step}
-use Rattle.qfs_model_server.specs.Server.{Server, Answered, server_step}
-use Rattle.qfs_model_world.specs.Fits.{chunk_may_fail, chunk_may_want, may_fail, may_want_memory, may_end, fits}
-use Rattle.qfs_model_world.specs.World.{World, Turned, numbered, renumbered, node_turn, meta_turned, chunk_turn, chunk_turned, after}
+use Rattle.qfs_model_actor.specs.Actor.{Actor}
+use Rattle.qfs_model_meta.specs.Step.{meta_step}
+use Rattle.qfs_model_server.specs.Server.{Server, server_step}
+use Rattle.qfs_model_world.specs.Fits.{chunk_may_fail, chunk_may_want, may_fail, may_want_memory, may_end}
+use Rattle.qfs_model_world.specs.World.{World, numbered, renumbered, node_turn, meta_turned, chunk_turn, chunk_turned}
 use Rattle.qfs_store.specs.Stands.{OnFault, MemoryFor, TakesNoMemory}
 use Rattle.qfs_store.specs.Stored.{Stored}
 use Rattle.qfs_world.specs.Follows.{Follows, StandForAll}
 use Rattle.qfs_world.specs.Running.{AllTell, turn_of}
-use Rattle.qfs_world.specs.Turns.{GoesOn, MetaServes, StoreServes, no_server}
+use Rattle.qfs_world.specs.Turns.{no_server}
 use Rattle.qfs_world.specs.declared.node.NodeState.{NodeState}
-use Rattle.qfs_world.proofs.Lists.{get-set, get-set-other}
 use Rattle.qfs_world.proofs.Nodes.{OfMeta, OfStore, OfNone}
 use Rattle.qfs_world.proofs.Simulation.{world-after, fits-after}
 use Rattle.qfs_world.proofs.Stands.{stands-at, stands-past, stands-set, store-follows}
@@ -139,7 +135,6 @@ module _ (script : Script) (order : List Step) (meta : Metaserver) (stores : Lis
     (there : slice_get actors place ≡ Some actor)
     (turns : IsTrue (list_any (λ n. n == suc place) (turn_of script actors)))
     (outcome : Outcome) where
-
   module _ {D : Type 0} (behind : List (NodeState D)) (moved : Actor) (follows : Follows script order meta.image stores actors) where
     abbrev world : World
     world = record { layout = script.layout; meta = meta.image; servers = follows.servers; actors = actors }

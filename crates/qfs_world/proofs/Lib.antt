@@ -5,6 +5,7 @@ pub mod Kept
 pub mod Lists
 pub mod Nodes
 pub mod Numbered
+pub mod OneNode
 pub mod Simulation
 pub mod Stands
 pub mod Starts

@@ -1,8 +1,8 @@
 -- Which node takes a turn, and how the nodes stand behind it.
-use Rattle.std.proofs.Common.{◌≡◌, ℕ, suc, zero, ◌+◌, ◌<◌, ◌≤◌, Bool, true, false, List, [], ◌∷◌, length, Option, Some, None, refl, sym, ◌∙◌, ap, subst, arith, slice_get, slice_set, ◌⊎◌, inl, inr, lt-ltb, le-ltb}
+use Rattle.std.proofs.Common.{◌≡◌, ℕ, suc, zero, ◌<◌, ◌≤◌, Bool, true, false, List, [], ◌∷◌, length, Option, Some, None, refl, sym, ◌∙◌, ap, subst, arith, slice_get, slice_set, ◌⊎◌, inl, inr, lt-ltb, le-ltb}
 use Rattle.std.specs.Prelude.{map, nat_lt, if◌then◌else◌, option_map}
 use Rattle.std.proofs.lemmas.List.{length-map}
-use Rattle.std.proofs.lemmas.Option.{slice_get_within, slice_get-map, slice_get_cases}
+use Rattle.std.proofs.lemmas.Option.{slice_get_within, slice_get-map}
 use Rattle.qfs_base.specs.Outcome.{outcome_of}
 use Rattle.qfs_base.specs.declared.history.Outcome.{Outcome}
 use Rattle.qfs_base.specs.declared.reply.ChunkReply.{ChunkReply}
@@ -18,7 +18,7 @@ use Rattle.qfs_model_actor.specs.Actor.{Actor, request_of, node_of, after_reply}
 use Rattle.qfs_model_actor.specs.Work.{node_of_request}
 use Rattle.qfs_model_world.specs.World.{numbered}
 use Rattle.qfs_store.specs.Stored.{Stored}
-use Rattle.qfs_world.specs.AtWork.{image_of, stores_of, place_in, TakesTurn}
+use Rattle.qfs_world.specs.AtWork.{stores_of, place_in, TakesTurn}
 use Rattle.qfs_world.specs.Turns.{MetaServes, StoreServes, MetaTurns, StoreTurns, Passes, Serves, no_server}
 use Rattle.qfs_world.specs.declared.node.NodeState.{NodeState}
 use Rattle.qfs_world.specs.declared.node.NodeState.TheVariants as Node
@@ -107,7 +107,6 @@ module _ {D : Type 0} where
 
   module _ (meta : Metaserver) (stores : List Stored) (actor : Actor) (outcome : Outcome) (behind : List (NodeState D)) (moved : Actor)
       (turn : TakesTurn (nodes_with meta stores) actor outcome behind moved) where
-
     at-place : (place : ℕ) (node : NodeState D) → place_in (length (nodes_with {D = D} meta stores)) (node_of actor) ≡ place
         → slice_get (nodes_with meta stores) place ≡ Some node
         → (Serves actor.number node turn.turns.request turn.turns.reply turn.next) × (behind ≡ slice_set (nodes_with meta stores) place turn.next)

@@ -1,29 +1,20 @@
 -- A node's step is a step of the world of the definitions, and the order that has it at its end fits.
-use Rattle.std.proofs.Common.{◌≡◌, ℕ, suc, zero, ◌+◌, ◌-◌, ◌<◌, ◌≤◌, min, Bool, true, false, cond, List, [], ◌∷◌, ◌++◌, length, Option, Some, None, refl, sym, ◌∙◌, ap, ap₂, subst, arith, slice_get, slice_set}
+use Rattle.std.proofs.Common.{◌≡◌, ℕ, Bool, true, List, [], ◌∷◌, ◌++◌, Some, refl, sym, ◌∙◌, ap}
 use Rattle.std.specs.Prelude.{◌&&◌, ◌==◌, IsTrue}
 use Rattle.std.specs.List.{list_any}
-use Rattle.qfs_base.specs.Outcome.{outcome_of, meta_outcome, chunk_outcome}
+use Rattle.qfs_base.specs.Outcome.{outcome_of}
 use Rattle.qfs_base.specs.declared.history.Outcome.{Outcome}
 use Rattle.qfs_base.specs.declared.history.Outcome.TheVariants as Ended
 use Rattle.qfs_base.specs.declared.history.Step.{Step}
-use Rattle.qfs_base.specs.declared.image.MetaImage.{MetaImage}
-use Rattle.qfs_base.specs.declared.reply.MetaReply.{MetaReply}
 use Rattle.qfs_base.specs.declared.reply.NodeReply.{NodeReply}
-use Rattle.qfs_base.specs.declared.reply.NodeReply.TheVariants as From
-use Rattle.qfs_base.specs.declared.request.MetaRequest.{MetaRequest}
 use Rattle.qfs_base.specs.declared.request.NodeRequest.{NodeRequest}
-use Rattle.qfs_base.specs.declared.request.NodeRequest.TheVariants as To
 use Rattle.qfs_base.specs.declared.script.Script.{Script}
 use Rattle.qfs_model_actor.specs.Actor.{Actor, request_of, after_reply}
-use Rattle.qfs_model_meta.specs.Step.{Served, meta_step}
-use Rattle.qfs_model_server.specs.Server.{Server}
 use Rattle.qfs_model_text.specs.Order.{same_outcome}
-use Rattle.qfs_model_world.specs.World.{World, Turned, numbered, renumbered, node_turn, meta_turned, handed_over, move_asking, move_actor, move, after}
+use Rattle.qfs_model_world.specs.World.{World, Turned, numbered, renumbered, node_turn, handed_over, move_asking, move_actor, move, after}
 use Rattle.qfs_model_world.specs.Fits.{turn, may_end, is_possible, is_possible_for, is_possible_of, may_come, fits}
 use Rattle.qfs_model_world.proofs.Orders.{after-snoc, fits-snoc}
-use Rattle.qfs_store.specs.Stored.{Stored}
 use Rattle.qfs_world.specs.Running.{turn_of}
-use Rattle.qfs_world.specs.Follows.{Follows, StandForAll}
 
 same-self : (outcome : Outcome) → same_outcome outcome outcome ≡ true
 unfolding same_outcome
@@ -38,7 +29,6 @@ module _ (script : Script) (order : List Step) (world : World) (number : ℕ) (a
     (is : after script order ≡ world)
     (found : numbered world.actors number ≡ Some actor)
     (asked : request_of actor ≡ Some request) where
-
   module _ (outcome : Outcome) (served : World) (reply : NodeReply)
       (turned : node_turn world number outcome request ≡ record { world = served; reply = reply }) where
     -- the world after the step

@@ -1,5 +1,5 @@
 -- Stores that stand for servers, one for one, and a store's step.
-use Rattle.std.proofs.Common.{◌≡◌, ℕ, suc, zero, ◌+◌, ◌-◌, ◌<◌, ◌≤◌, min, Bool, true, false, List, [], ◌∷◌, length, Option, Some, None, refl, sym, ◌∙◌, ap, subst, arith, slice_get, slice_set}
+use Rattle.std.proofs.Common.{◌≡◌, ℕ, suc, zero, ◌+◌, ◌-◌, ◌≤◌, List, [], ◌∷◌, Option, Some, None, refl, sym, ap, subst, arith, slice_get, slice_set}
 use Rattle.qfs_base.specs.Outcome.{chunk_outcome}
 use Rattle.qfs_base.specs.declared.history.Outcome.{Outcome}
 use Rattle.qfs_base.specs.declared.history.Outcome.TheVariants as Ended
@@ -7,7 +7,7 @@ use Rattle.qfs_base.specs.declared.reply.ChunkAnswer.{ChunkAnswer}
 use Rattle.qfs_base.specs.declared.reply.ChunkReply.{ChunkReply}
 use Rattle.qfs_base.specs.declared.request.ChunkRequest.{ChunkRequest}
 use Rattle.qfs_base.specs.declared.request.ChunkRequest.TheVariants as Serve
-use Rattle.qfs_model_server.specs.Server.{Server, Answered, chunk_refusal, chunk_served, chunk_attempted, chunk_decided, server_step}
+use Rattle.qfs_model_server.specs.Server.{Server, chunk_refusal, chunk_served, chunk_attempted, chunk_decided, server_step}
 use Rattle.qfs_store.specs.Stands.{kept, HandsOut}
 use Rattle.qfs_store.specs.Stored.{Stored}
 use Rattle.qfs_world.specs.Follows.{IsServer, StandForAll}

@@ -11,9 +11,7 @@ use Rattle.std.proofs.lemmas.List.Elements.{All-from_recursion, recursion_from_A
 use Rattle.qfs_actor.specs.Standing.{Standing, at_start}
 use Rattle.qfs_base.specs.Shape.{Shape}
 use Rattle.qfs_base.specs.declared.command.Command.{Command}
-use Rattle.qfs_base.specs.declared.command.ReplyLine.{ReplyLine}
 use Rattle.qfs_base.specs.declared.request.NodeRequest.{NodeRequest}
-use Rattle.qfs_machine.specs.Asking.{IsOut}
 use Rattle.qfs_model_actor.specs.Actor.{Actor, has_finished, node_of, request_of, starting}
 use Rattle.qfs_model_actor.specs.Work.{node_of_request}
 use Rattle.qfs_model_actor.specs.Shown.{lines_from}
@@ -22,7 +20,6 @@ use Rattle.qfs_model_world.specs.World.{numbered_actors}
 use Rattle.qfs_model_world.specs.Text.{lines_of_actor}
 use Rattle.qfs_world.specs.AtWork.{actors_of, number_if, by_sizes, size_before, sizes_of, starts_from, total, AreNumbered}
 use Rattle.qfs_world.specs.Calls.{lines_of_actors}
-use Rattle.qfs_world.proofs.TurnLists.{unfinished-skip, unfinished-keep}
 
 -- ---- actors at their start
 
@@ -174,8 +171,13 @@ pub started-long : (layout : Shape) (old all : List Standing) (xs : List (List C
     → all ≡ old ++ starts_from layout (length old + 1) (take i xs) → i < length xs → length all ≡ length old + i
 started-long layout old all xs i so_far within =
     let taken : length (take i xs) ≡ i = grind (arith, common_steps) in
-    omega (arith, ap length so_far, length-append old (starts_from layout (length old + 1) (take i xs)),
-    length_starts layout (length old + 1) (take i xs), taken)
+    omega (
+      arith,
+      ap length so_far,
+      length-append old (starts_from layout (length old + 1) (take i xs)),
+      length_starts layout (length old + 1) (take i xs),
+      taken,
+    )
 
 module _ (layout : Shape) (old all new : List Standing) (xs : List (List Command)) (i len : ℕ) (it : Standing) (x copy : List Command)
     (so_far : all ≡ old ++ starts_from layout (length old + 1) (take i xs)) (within : i < length xs) where

@@ -1,21 +1,18 @@
 -- A step of a world at work, by its parts.
-use Rattle.std.proofs.Common.{◌≡◌, ℕ, suc, zero, ◌+◌, ◌-◌, ◌<◌, ◌≤◌, ◌^◌, Bool, true, false, List, [], ◌∷◌, ◌++◌, length, Option, Some, None, refl, sym, ◌∙◌, ap, ap₂, subst, arith, slice_get, slice_set, ◌⊎◌, inl, inr, length-set}
-use Rattle.std.specs.Prelude.{map, take, drop, ◌==◌, IsTrue, sum, is_some, Result, Ok, Err, IfOk, OnErr}
+use Rattle.std.proofs.Common.{◌≡◌, ℕ, suc, zero, ◌+◌, ◌-◌, false, List, [], ◌∷◌, ◌++◌, length, Some, refl, sym, ◌∙◌, ap, subst, arith, slice_get, slice_set, inl, inr, length-set}
+use Rattle.std.specs.Prelude.{map, take, drop, ◌==◌, IsTrue, Result, Ok, Err, IfOk, OnErr}
 use Rattle.std.specs.declared.alloc.AllocError.{AllocError}
 use Rattle.std.proofs.lemmas.Grind.{common_steps}
 use Rattle.std.proofs.lemmas.List.{length-map}
 use Rattle.std.specs.List.{list_any, AllZip}
 use Rattle.qfs_actor.specs.Standing.{Standing}
-use Rattle.qfs_base.specs.Outcome.{outcome_of, meta_outcome, chunk_outcome}
+use Rattle.qfs_base.specs.Outcome.{outcome_of, chunk_outcome}
 use Rattle.qfs_base.specs.declared.history.Outcome.{Outcome}
 use Rattle.qfs_base.specs.declared.history.Outcome.TheVariants as Ended
 use Rattle.qfs_base.specs.declared.history.Step.{Step}
 use Rattle.qfs_base.specs.declared.image.MetaImage.{MetaImage}
-use Rattle.qfs_base.specs.declared.reply.ChunkReply.{ChunkReply}
-use Rattle.qfs_base.specs.declared.reply.MetaReply.{MetaReply}
 use Rattle.qfs_base.specs.declared.reply.NodeReply.{NodeReply}
 use Rattle.qfs_base.specs.declared.reply.NodeReply.TheVariants as From
-use Rattle.qfs_base.specs.declared.request.NodeRequest.TheVariants as To
 use Rattle.qfs_base.specs.declared.script.Script.{Script}
 use Rattle.qfs_device.specs.Fault.{Rose}
 use Rattle.qfs_device.specs.declared.log_disk.MetaDisks.{MetaDisks}
@@ -194,12 +191,12 @@ module _ {D : Type 0} where
     pub works-on : IsAtWork script behind (slice_set actors place next) phases (order ++ entry ∷ [])
     works-on =
         elim took [
-          inl t ↦ at-work t.next stores (From.Meta t.answer) (by-meta t)
-        | inr s ↦
-            elim s [
-              inl t ↦ at-work meta (slice_set stores t.place t.next) (From.Chunk t.answer) (by-store t)
-            | inr t ↦ at-work meta stores no_server (by-none t)
-            ]
+          | inl t ↦ at-work t.next stores (From.Meta t.answer) (by-meta t)
+          | inr s ↦
+              elim s [
+                | inl t ↦ at-work meta (slice_set stores t.place t.next) (From.Chunk t.answer) (by-store t)
+                | inr t ↦ at-work meta stores no_server (by-none t)
+              ]
         ]
 
     -- ---- what a step tells
@@ -325,12 +322,12 @@ module _ {D : Type 0} where
       pub steps-on : Steps before_step (suc place) outcome behind_step
       steps-on =
           elim took [
-            inl t ↦ steps t.next stores (From.Meta t.answer) 0 (tells-meta t)
-          | inr s ↦
-              elim s [
-                inl t ↦ steps meta (slice_set stores t.place t.next) (From.Chunk t.answer) (suc t.place) (tells-store t)
-              | inr t ↦ steps meta stores no_server t.server (tells-none t)
-              ]
+            | inl t ↦ steps t.next stores (From.Meta t.answer) 0 (tells-meta t)
+            | inr s ↦
+                elim s [
+                  | inl t ↦ steps meta (slice_set stores t.place t.next) (From.Chunk t.answer) (suc t.place) (tells-store t)
+                  | inr t ↦ steps meta stores no_server t.server (tells-none t)
+                ]
           ]
 
 -- ---- behind the call

@@ -1,5 +1,5 @@
 -- What holds of the parts of a world at work.
-use Rattle.std.specs.Prelude.{ℕ, ◌≡◌, Bool, true, false, ◌+◌, ◌<◌, ◌≤◌, ◌^◌, List, [], ◌∷◌, length, map, sum_by, take, drop, Option, Some, None, nat_lt, if◌then◌else◌, slice_get, slice_set}
+use Rattle.std.specs.Prelude.{ℕ, ◌≡◌, Bool, true, false, ◌+◌, ◌<◌, ◌^◌, List, [], ◌∷◌, length, map, sum_by, take, drop, Option, Some, None, nat_lt, if◌then◌else◌, slice_get, slice_set}
 use Rattle.qfs_actor.specs.Standing.{Standing, at_start}
 use Rattle.qfs_base.specs.Shape.{Shape}
 use Rattle.qfs_base.specs.declared.command.Command.{Command}
@@ -13,7 +13,7 @@ use Rattle.qfs_model_actor.specs.Actor.{Actor, node_of}
 use Rattle.qfs_model_meta.specs.Step.{opening}
 use Rattle.qfs_store.specs.Stored.{Stored}
 use Rattle.qfs_world.specs.Follows.{Follows}
-use Rattle.qfs_world.specs.Running.{AllTell, commands_by_actor}
+use Rattle.qfs_world.specs.Running.{AllTell}
 use Rattle.qfs_world.specs.Turns.{Turns}
 use Rattle.qfs_world.specs.declared.node.NodeState.{NodeState}
 use Rattle.qfs_world.specs.declared.node.NodeState.TheVariants as Node

@@ -1,5 +1,5 @@
 -- What the calls of a world promise.
-use Rattle.std.specs.Prelude.{ℕ, ◌≡◌, ◌+◌, ◌<◌, ◌≤◌, ◌==◌, List, [], ◌∷◌, ◌++◌, length, take, drop, map, flat_map, Option, Some, IsTrue}
+use Rattle.std.specs.Prelude.{ℕ, ◌≡◌, ◌<◌, ◌==◌, List, [], ◌∷◌, ◌++◌, length, take, drop, map, flat_map, Option, Some, IsTrue}
 use Rattle.std.specs.List.{AllZip, list_any}
 use Rattle.std.specs.Option.{ForSome}
 use Rattle.qfs_base.specs.declared.command.ReplyLine.{ReplyLine}

@@ -1,5 +1,5 @@
 -- When the nodes and actors of a world at work are those of the definitions.
-use Rattle.std.specs.Prelude.{ℕ, ◌≡◌, ◌≤◌, List, [], ◌∷◌, Option, Some, IsTrue}
+use Rattle.std.specs.Prelude.{◌≡◌, List, [], ◌∷◌, Some, IsTrue}
 use Rattle.qfs_base.specs.declared.history.Step.{Step}
 use Rattle.qfs_base.specs.declared.image.MetaImage.{MetaImage}
 use Rattle.qfs_base.specs.declared.script.Script.{Script}
@@ -7,7 +7,7 @@ use Rattle.qfs_device.specs.Held.{Held}
 use Rattle.qfs_model_actor.specs.Actor.{Actor}
 use Rattle.qfs_model_server.specs.Server.{Server}
 use Rattle.qfs_model_world.specs.Fits.{fits}
-use Rattle.qfs_model_world.specs.World.{World, after}
+use Rattle.qfs_model_world.specs.World.{after}
 use Rattle.qfs_store.specs.Stands.{StandsOn, kept}
 use Rattle.qfs_store.specs.Stored.{Stored}
 use Rattle.qfs_world.specs.Running.{Running, AllTell}

@@ -68,11 +68,7 @@ pub fn turn_on<D: ChunkDevice>(node: &mut NodeState<D>, actor: &mut Actor) -> Ou
 }
 
 /// Lets a node serve a request.
-fn serve<D: ChunkDevice>(
-    node: &mut NodeState<D>,
-    actor: ActorId,
-    request: NodeRequest,
-) -> NodeReply
+fn serve<D: ChunkDevice>(node: &mut NodeState<D>, actor: ActorId, request: NodeRequest) -> NodeReply
     requires askable { IsAskable request }
     ensures serves { Serves actor node.old request result node.new }
 {

@@ -75,11 +75,13 @@ impl<D: ChunkDevice, L: LogDisk> World<D, L> {
     {
         match prepare(alloc, script) {
             Err(_) => Err(WorldLoadError { devices, disks }),
-            Ok(Prepared {
-                mut nodes,
-                actors,
-                phases,
-            }) => {
+            Ok(
+                Prepared {
+                    mut nodes,
+                    actors,
+                    phases,
+                },
+            ) => {
                 let mut spare = devices;
                 take_devices(alloc, &mut spare, &mut nodes, script.servers);
                 Ok(World {
@@ -214,6 +216,7 @@ fn step_on<D: ChunkDevice>(
 {
     actor.ready()?;
     let number = actor.number();
+    // The entry has its place before the turn, so that nothing behind the turn takes memory.
     order.push(Step {
         actor: number,
         outcome: Outcome::Done,

@@ -1,5 +1,5 @@
 -- One actor more.
-use Rattle.std.proofs.Common.{◌≡◌, ◌++◌, ◌∙◌, ap₂, sym}
+use Rattle.std.proofs.Common.{◌++◌, ◌∙◌, ap₂, sym}
 use Rattle.qfs_world.proofs.Starts.{replies_push}
 use Rattle.qfs_world.proofs.parts.all_replies.Goals as goal
 

@@ -1,5 +1,5 @@
 -- One node less.
-use Rattle.std.proofs.Common.{◌≡◌, ℕ, ◌+◌, ◌≤◌, ◌++◌, [], ◌∷◌, length, refl, sym, ◌∙◌, ap, arith, length-append}
+use Rattle.std.proofs.Common.{[], ◌∷◌, length, refl, sym, ◌∙◌, ap, arith, length-append}
 use Rattle.std.proofs.lemmas.List.{append-nil}
 use Rattle.qfs_world.specs.AtWork.{stores_of}
 use Rattle.qfs_world.proofs.Home.{popped, last-meta, gives, all-home}

@@ -1,8 +1,7 @@
 -- The chunk servers that are left, and the devices of the others.
-use Rattle.std.proofs.Common.{◌≡◌, ℕ, ◌+◌, ◌≤◌, ◌++◌, length, map}
+use Rattle.std.proofs.Common.{◌≡◌, ◌+◌, ◌≤◌, length}
 use Rattle.std.specs.Prelude.{vec_len, vec_capacity}
 use Rattle.qfs_world.specs.AtWork.{image_of, stores_of, StartsWithMeta}
-use Rattle.qfs_world.specs.Calls.{AreHome}
 use Rattle.qfs_world.proofs.Home.{GivenBack}
 use Rattle.qfs_world.proofs.parts.hand_back.Given as goal
 

@@ -1,5 +1,5 @@
 -- One actor more.
-use Rattle.std.proofs.Common.{◌≡◌, ◌+◌, ◌<◌, length, ◌∙◌, sym, arith}
+use Rattle.std.proofs.Common.{◌∙◌, arith}
 use Rattle.qfs_world.proofs.Starts.{started-long, starts_step}
 use Rattle.qfs_world.proofs.start.add_phase.Goals as goal
 

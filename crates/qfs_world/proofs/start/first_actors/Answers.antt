@@ -1,5 +1,5 @@
 -- One phase more.
-use Rattle.std.proofs.Common.{◌≡◌, ◌+◌, ◌<◌, ◌++◌, List, length, ◌∙◌, ap, sym, subst, arith}
+use Rattle.std.proofs.Common.{◌<◌, List, length}
 use Rattle.std.specs.Prelude.{All, flat_map, ◌^◌}
 use Rattle.qfs_base.specs.declared.command.Command.{Command}
 use Rattle.qfs_world.specs.Running.{AreBuilt}

@@ -1,5 +1,5 @@
 -- So many devices are those of servers by now.
-use Rattle.std.proofs.Common.{◌≡◌, ℕ, ◌+◌, ◌≤◌, ◌++◌, take, drop, length}
+use Rattle.std.proofs.Common.{◌≡◌, ◌+◌, ◌++◌, take, drop}
 use Rattle.std.specs.Prelude.{map, vec_len, vec_capacity}
 use Rattle.qfs_world.specs.Calls.{stored_over}
 use Rattle.qfs_world.specs.declared.node.NodeState.TheVariants as Node

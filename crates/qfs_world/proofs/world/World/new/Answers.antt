@@ -1,5 +1,5 @@
 -- The world in which a script starts.
-use Rattle.std.proofs.Common.{◌≡◌, ◌+◌, ◌≤◌, [], ◌∷◌, ◌++◌, length, refl, sym, ◌∙◌, ap, arith, length-drop}
+use Rattle.std.proofs.Common.{◌≡◌, ◌++◌, length, refl, ◌∙◌, ap, arith, length-drop}
 use Rattle.std.specs.Prelude.{map}
 use Rattle.qfs_world.specs.AtWork.{actors_of}
 use Rattle.qfs_world.specs.Running.{commands_by_actor}
