@@ -184,11 +184,11 @@ module _ {D L : Type 0} where
         let step : Step = record { actor = actor; outcome = Came.Done } in
         let word : ℕ = (pcg32 (generator_behind (generator_of number) before.order)).0 in
         let turns_after : turn before.script (after_order before.script before.order) ≡ turns =
-            turn_after before (after told) ∙ sym turns_are in
+        turn_after before (after told) ∙ sym turns_are in
         let by : is_by actor (drawn_of (turn before.script (after_order before.script before.order)) word) ≡ true =
-            ap (λ t. is_by actor (drawn_of t word)) turns_after ∙ drawn_by actor word turns drawn in
+        ap (λ t. is_by actor (drawn_of t word)) turns_after ∙ drawn_by actor word turns drawn in
         let grown : is_drawn number before.script (before.order ++ step ∷ []) ≡ true =
-            is_drawn-snoc number before.script before.order step ∙ and_true _ _ (is.drawn told) by in
+        is_drawn-snoc number before.script before.order step ∙ and_true _ _ (is.drawn told) by in
         rw (steps.script_is, steps.order) grown;
     done = rw steps.order (done-snoc before.order actor is.done);
   }

@@ -52,22 +52,22 @@ module _ {D L : Type 0} where
   world_text number world written follows drawn done ended read is =
       let all_done : AllDone world.order = fitting-done world.script read.commands read.first_path world.order follows.fits done in
       record {
-    order = world.order;
-    printed = record {
-      printed = record {
-        fitting = follows.fits;
-        whole = ended_whole world.script world.order (turn_of world.script world.actors) (ap (λ (w : World). turn world.script w) follows.world) ended;
-        text_is = is
-            ∙ sym (text-plain world.script world.order read.plain
-            ∙ ap (λ (w : World). plain_output (lines_of_world w) w.meta.history world.order) follows.world);
-      };
-      drawn = drawn;
-    };
-    done = done;
-    one_history = one-file-history world.script read.commands world.order read.first_path all_done;
-    every_get = every-get world.script read.commands world.order read.first_path all_done;
-    no_deletion = no-deletion world.script read.commands world.order read.first_path;
-  }
+        order = world.order;
+        printed = record {
+          printed = record {
+            fitting = follows.fits;
+            whole = ended_whole world.script world.order (turn_of world.script world.actors) (ap (λ (w : World). turn world.script w) follows.world) ended;
+            text_is = is
+                ∙ sym (text-plain world.script world.order read.plain
+                ∙ ap (λ (w : World). plain_output (lines_of_world w) w.meta.history world.order) follows.world);
+          };
+          drawn = drawn;
+        };
+        done = done;
+        one_history = one-file-history world.script read.commands world.order read.first_path all_done;
+        every_get = every-get world.script read.commands world.order read.first_path all_done;
+        no_deletion = no-deletion world.script read.commands world.order read.first_path;
+      }
 
   -- the text of a run: its world was made of the script over these devices, was drawn to its end, and was taken apart
   pub run_prints : (told : D → Option Held) (faults : D → ℕ) (number : ℕ) (script : Script) (devices : List D) (disks : MetaDisks L)
@@ -79,7 +79,7 @@ module _ {D L : Type 0} where
   run_prints told faults number script devices disks started ended written starts continues drawn over after read is = λ tell.
       let script_is : ended.script ≡ script = continues.script_is ∙ starts.script_is in
       let tell_first : AllTell (map (stored_over told faults) (take script.servers devices)) =
-          All-map (λ (stored : Stored). IsSome stored.told) (stored_over told faults) (take script.servers devices) tell in
+      All-map (λ (stored : Stored). IsSome stored.told) (stored_over told faults) (take script.servers devices) tell in
       let tell_start : AllTell started.stores = subst AllTell (sym starts.stores_are) tell_first in
       let tell_end : AllTell ended.stores = all_tell_behind started.stores ended.stores continues.stores_go_on tell_start in
       subst (λ s. IsTextOf number s written) script_is
@@ -92,17 +92,17 @@ module _ {D L : Type 0} where
       → script.servers ≤ length before
       → Starts told faults script before disks started → Continues started ended → AreDevicesOf told faults ended behind
       → StayInPlace script.servers before behind
-  run_stays told faults script before behind disks started ended enough starts continues are = 
+  run_stays told faults script before behind disks started ended enough starts continues are =
       let count_first : length started.stores ≡ script.servers =
-          ap length starts.stores_are ∙ length-map (take script.servers before) (stored_over told faults) ∙ length-take-le script.servers before enough in
+      ap length starts.stores_are ∙ length-map (take script.servers before) (stored_over told faults) ∙ length-take-le script.servers before enough in
       let count : length ended.stores ≡ script.servers = sym (length_all_zip GoesOn started.stores ended.stores continues.stores_go_on) ∙ count_first in
       let spare : drop script.servers behind ≡ drop script.servers before =
-          ap (λ k. drop k behind) (sym count) ∙ are.others_are ∙ continues.spare_is ∙ starts.spare_are in
+      ap (λ k. drop k behind) (sym count) ∙ are.others_are ∙ continues.spare_is ∙ starts.spare_are in
       let full : min (length ended.stores) (length behind) ≡ length ended.stores =
-          sym (length-take (length ended.stores) behind) ∙ sym (length-map (take (length ended.stores) behind) told)
-          ∙ ap length are.told_are ∙ length-map ended.stores (λ (stored : Stored). stored.told) in
+      sym (length-take (length ended.stores) behind) ∙ sym (length-map (take (length ended.stores) behind) told)
+      ∙ ap length are.told_are ∙ length-map ended.stores (λ (stored : Stored). stored.told) in
       let rest : length behind - script.servers ≡ length before - script.servers =
-          sym (length-drop script.servers behind) ∙ ap length spare ∙ length-drop script.servers before in
+      sym (length-drop script.servers behind) ∙ ap length spare ∙ length-drop script.servers before in
       record { as_many = omega (arith, full, rest, count, enough); spare = spare }
 
 -- ---- a device that failed
@@ -141,7 +141,7 @@ module _ {D L : Type 0} where
   fault_at told faults script before behind disks started ended k old new enough starts continues are at_start at_end rose =
       let n = script.servers in
       let count_first : length started.stores ≡ n =
-          ap length starts.stores_are ∙ length-map (take n before) (stored_over told faults) ∙ length-take-le n before enough in
+      ap length starts.stores_are ∙ length-map (take n before) (stored_over told faults) ∙ length-take-le n before enough in
       let below_first : k < length started.stores = below_length started.stores k old at_start in
       let below_last : k < length ended.stores = below_length ended.stores k new at_end in
       let below : k < n = omega (arith, count_first, below_first) in
@@ -150,12 +150,12 @@ module _ {D L : Type 0} where
         within = omega (arith, below);
         rose = λ device device' is is'.
             let old_is : old ≡ stored_over told faults device = some_is
-                (sym at_start ∙ ap (λ (stores : List Stored). slice_get stores k) starts.stores_are
-                ∙ mapped_at (stored_over told faults) (take n before) k device (in_first n k before device below is)) in
+            (sym at_start ∙ ap (λ (stores : List Stored). slice_get stores k) starts.stores_are
+            ∙ mapped_at (stored_over told faults) (take n before) k device (in_first n k before device below is)) in
             let new_is : new.faults ≡ faults device' = some_is
-                (sym (mapped_at (λ (stored : Stored). stored.faults) ended.stores k new at_end)
-                ∙ ap (λ (counts : List ℕ). slice_get counts k) (sym are.faults_are)
-                ∙ mapped_at faults (take (length ended.stores) behind) k device' (in_first (length ended.stores) k behind device' below_last is')) in
+            (sym (mapped_at (λ (stored : Stored). stored.faults) ended.stores k new at_end)
+            ∙ ap (λ (counts : List ℕ). slice_get counts k) (sym are.faults_are)
+            ∙ mapped_at faults (take (length ended.stores) behind) k device' (in_first (length ended.stores) k behind device' below_last is')) in
             subst (λ count. Rose (faults device) count) new_is (subst (λ (o : Stored). Rose o.faults new.faults) old_is rose);
       }
 

@@ -15,10 +15,7 @@ use rand_pcg::Pcg32;
 
 /// Lets drawn actors take steps until none has anything left to do. It stops where a device fails
 /// or memory is wanting.
-pub fn play<D: ChunkDevice, L: LogDisk>(
-    world: &mut World<D, L>,
-    number: u64,
-) -> Result<(), Status>
+pub fn play<D: ChunkDevice, L: LogDisk>(world: &mut World<D, L>, number: u64) -> Result<(), Status>
     requires { world.old.order ≡ [] }
     ensures continues { Continues world.old world.new }
     ensures drawn { OnOk result (IsDrawnSo number world.new) }

@@ -57,7 +57,12 @@ pub fn run<D: ChunkDevice, L: LogDisk>(
             *devices = given_back;
             *disks = disks_back;
             played?;
-            match text_of(alloc, replies.as_slice(), image.history.as_slice(), order.as_slice()) {
+            match text_of(
+                alloc,
+                replies.as_slice(),
+                image.history.as_slice(),
+                order.as_slice(),
+            ) {
                 Ok(text) => Ok(text),
                 Err(_) => Err(Status::NoMemory),
             }

@@ -27,11 +27,11 @@ pub returns-in-Ok-text_of-clause-text : goal.returns-in-Ok-text_of-clause-text
 returns-in-Ok-text_of-clause-text g c =
     let starts = rw c.replace-taken.ensures.value at c.in-Ok.ensures.ok in
     let replies : c.as_slice.result.now ≡ lines_of_actors c.play-played.new.world.actors =
-        c.as_slice.ensures ∙ c.in-Ok-into_parts.ensures.replies in
+    c.as_slice.ensures ∙ c.in-Ok-into_parts.ensures.replies in
     let history : c.as_slice-in-Ok-into_parts.result.now ≡ c.play-played.new.world.meta.history =
-        c.as_slice-in-Ok-into_parts.ensures ∙ ap (λ (m : MetaImage). m.history) c.in-Ok-into_parts.ensures.image in
+    c.as_slice-in-Ok-into_parts.ensures ∙ ap (λ (m : MetaImage). m.history) c.in-Ok-into_parts.ensures.image in
     let order : c.as_slice-in-Ok-into_parts-2.result.now ≡ c.play-played.new.world.order =
-        c.as_slice-in-Ok-into_parts-2.ensures ∙ c.in-Ok-into_parts.ensures.order in
+    c.as_slice-in-Ok-into_parts-2.ensures ∙ c.in-Ok-into_parts.ensures.order in
     run_prints _ _ _ _ _ _ c.in-Ok.world c.play-played.new.world _ starts c.play-played.ensures.continues
     c.in_ok-played-in-Ok-into_parts.ensures.drawn c.in_ok-played-in-Ok-into_parts.ensures.ended
     c.in-Ok-into_parts.ensures.after c.requires.read
