@@ -2,6 +2,9 @@
 //! the history of its files and the order of its steps.
 #![tactic(auto)]
 
+#[cfg(test)]
+mod tests;
+
 ghost use Rattle.std.specs.Prelude.{All, IfOk};
 ghost use Rattle.qfs_world.specs.Calls.{IsNew};
 
