@@ -33,9 +33,11 @@ module _ (one other : World) (number : ℕ) (request : ChunkRequest) (outcome : 
       × SameNode (To.Chunk number request) (chunk_turn one number request outcome found).world (chunk_turn other number request outcome found).world
   unfolding chunk_turn chunk_turned
   alike-at None e f = (refl, e ∙ sym f)
-  alike-at (Some server) e f =
-      (refl, numbered-set one.servers number server (server_step request outcome server).server e
-      ∙ sym (numbered-set other.servers number server (server_step request outcome server).server f))
+  alike-at (Some server) e f = (
+    refl,
+    numbered-set one.servers number server (server_step request outcome server).server e
+        ∙ sym (numbered-set other.servers number server (server_step request outcome server).server f),
+  )
 
 pub turns-alike : TurnsAreAlike
 unfolding node_turn meta_turned
