@@ -8,7 +8,7 @@ use Rattle.qfs_base.specs.declared.command.ReplyLine.{ReplyLine}
 use Rattle.qfs_base.specs.declared.history.Step.{Step}
 use Rattle.qfs_base.specs.declared.image.MetaImage.{MetaImage}
 use Rattle.qfs_base.specs.declared.script.Script.{Script}
-use Rattle.qfs_device.specs.Held.{Held}
+use Rattle.qfs_device.specs.Held.{Held, chunk_at}
 use Rattle.qfs_device.specs.declared.log_disk.MetaDisks.{MetaDisks}
 use Rattle.qfs_driver.proofs.PlayLaws.{all_tell_behind}
 use Rattle.qfs_driver.specs.Playing.{Continues, IsDrawnSo, HasEnded, StopsAt}
@@ -17,7 +17,7 @@ use Rattle.qfs_laws_first.proofs.Fitting.{fitting-done}
 use Rattle.qfs_laws_first.proofs.Laws.{one-file-history, every-get, no-deletion}
 use Rattle.qfs_laws_first.specs.FirstPath.{AllDone}
 use Rattle.qfs_model_world.specs.GivenOrder.{is_done}
-use Rattle.qfs_driver.specs.Run.{IsTextOf, ServersTell, Prints, StayInPlace, HasFault, StopsOver}
+use Rattle.qfs_driver.specs.Run.{AreDevicesIn, IsRunOf, ServersTell, Prints, StayInPlace, HasFault, StopsOver}
 use Rattle.qfs_driver.specs.declared.status.Status.{Status}
 use Rattle.qfs_driver.specs.declared.status.Status.TheVariants as Ended
 use Rattle.qfs_device.specs.Fault.{Rose}
@@ -30,7 +30,13 @@ use Rattle.qfs_model_world.specs.Text.{lines_of_world, text}
 use Rattle.qfs_model_world.specs.World.{World, numbered, after}
 use Rattle.qfs_store.specs.Stored.{Stored}
 use Rattle.qfs_world.specs.Calls.{Starts, AreDevicesOf, stored_over, lines_of_actors}
-use Rattle.qfs_world.specs.Follows.{Follows, IsAfter}
+use Rattle.qfs_world.specs.Follows.{Follows, IsAfter, IsServer, StandForAll}
+use Rattle.qfs_base.specs.Key.{key_cmp}
+use Rattle.qfs_base.specs.KeyMap.{value_at}
+use Rattle.qfs_base.specs.declared.chunk.ChunkKey.{ChunkKey}
+use Rattle.qfs_model_headline.specs.Nodes.{HoldsUnder, StandsFor}
+use Rattle.qfs_model_server.specs.Server.{Server}
+use Rattle.qfs_store.specs.Stands.{Keeps, Known, StandsOn}
 use Rattle.qfs_world.specs.Running.{Running, AllTell, turn_of}
 use Rattle.qfs_world.specs.Turns.{GoesOn}
 
@@ -40,72 +46,7 @@ ended_whole : (script : Script) (order : List Step) (turns : List ℕ) → turn 
 unfolding is_whole is_over
 ended_whole script order turns is none = rw (is, none) refl
 
-module _ {D L : Type 0} where
-  -- the text of a world whose actors have finished, and which was drawn from a number
-  world_text : (number : ℕ) (world : Running D L) (written : List ℕ)
-      → Follows world.script world.order world.meta world.stores world.actors
-      → IsTrue (is_drawn number world.script world.order) → IsTrue (list_all is_done world.order) → HasEnded world
-      → IsReadScript world.script
-      → written ≡ plain_output (lines_of_actors world.actors) world.meta.history world.order
-      → IsTextOf number world.script written
-  unfolding lines_of_world turn
-  world_text number world written follows drawn done ended read is =
-      let all_done : AllDone world.order = fitting-done world.script read.commands read.first_path world.order follows.fits done in
-      record {
-        order = world.order;
-        printed = record {
-          printed = record {
-            fitting = follows.fits;
-            whole = ended_whole world.script world.order (turn_of world.script world.actors) (ap (λ (w : World). turn world.script w) follows.world) ended;
-            text_is = is
-                ∙ sym (text-plain world.script world.order read.plain
-                ∙ ap (λ (w : World). plain_output (lines_of_world w) w.meta.history world.order) follows.world);
-          };
-          drawn = drawn;
-        };
-        done = done;
-        one_history = one-file-history world.script read.commands world.order read.first_path all_done;
-        every_get = every-get world.script read.commands world.order read.first_path all_done;
-        no_deletion = no-deletion world.script read.commands world.order read.first_path;
-      }
-
-  -- the text of a run: its world was made of the script over these devices, was drawn to its end, and was taken apart
-  pub run_prints : (told : D → Option Held) (faults : D → ℕ) (number : ℕ) (script : Script) (devices : List D) (disks : MetaDisks L)
-      → (started ended : Running D L) (written : List ℕ)
-      → Starts told faults script devices disks started → Continues started ended
-      → IsDrawnSo number ended → HasEnded ended → IsAfter ended → IsReadScript script
-      → written ≡ plain_output (lines_of_actors ended.actors) ended.meta.history ended.order
-      → Prints told number script devices written
-  run_prints told faults number script devices disks started ended written starts continues drawn over after read is = λ tell.
-      let script_is : ended.script ≡ script = continues.script_is ∙ starts.script_is in
-      let tell_first : AllTell (map (stored_over told faults) (take script.servers devices)) =
-      All-map (λ (stored : Stored). IsSome stored.told) (stored_over told faults) (take script.servers devices) tell in
-      let tell_start : AllTell started.stores = subst AllTell (sym starts.stores_are) tell_first in
-      let tell_end : AllTell ended.stores = all_tell_behind started.stores ended.stores continues.stores_go_on tell_start in
-      subst (λ s. IsTextOf number s written) script_is
-      (world_text number ended written (after tell_end) (drawn.drawn tell_end) drawn.done over (subst IsReadScript (sym script_is) read) is)
-
-  -- ---- the devices
-
-  pub run_stays : (told : D → Option Held) (faults : D → ℕ) (script : Script) (before behind : List D) (disks : MetaDisks L)
-      → (started ended : Running D L)
-      → script.servers ≤ length before
-      → Starts told faults script before disks started → Continues started ended → AreDevicesOf told faults ended behind
-      → StayInPlace script.servers before behind
-  run_stays told faults script before behind disks started ended enough starts continues are =
-      let count_first : length started.stores ≡ script.servers =
-      ap length starts.stores_are ∙ length-map (take script.servers before) (stored_over told faults) ∙ length-take-le script.servers before enough in
-      let count : length ended.stores ≡ script.servers = sym (length_all_zip GoesOn started.stores ended.stores continues.stores_go_on) ∙ count_first in
-      let spare : drop script.servers behind ≡ drop script.servers before =
-      ap (λ k. drop k behind) (sym count) ∙ are.others_are ∙ continues.spare_is ∙ starts.spare_are in
-      let full : min (length ended.stores) (length behind) ≡ length ended.stores =
-      sym (length-take (length ended.stores) behind) ∙ sym (length-map (take (length ended.stores) behind) told)
-      ∙ ap length are.told_are ∙ length-map ended.stores (λ (stored : Stored). stored.told) in
-      let rest : length behind - script.servers ≡ length before - script.servers =
-      sym (length-drop script.servers behind) ∙ ap length spare ∙ length-drop script.servers before in
-      record { as_many = omega (arith, full, rest, count, enough); spare = spare }
-
--- ---- a device that failed
+-- ---- what stands at a place of a list
 
 some_is : {X : Type 0} {a b : X} → Some a ≡ Some b → a ≡ b
 some_is is = cc
@@ -129,6 +70,119 @@ below_length : {X : Type 0} (xs : List X) (k : ℕ) (x : X) → slice_get xs k �
 below_length [] k x is = cc
 below_length (y ∷ ys) zero x is = omega arith
 below_length (y ∷ ys) (suc k) x is = let more = below_length ys k x is in omega (arith, more)
+
+-- ---- the devices of a world
+
+-- a store that stands for the server at a place
+record StandsAt (stores : List Stored) (k : ℕ) (server : Server) : Type 0 where
+  pub stored : Stored
+  pub there : slice_get stores k ≡ Some stored
+  pub is : IsServer stored server
+
+stands_at : (stores : List Stored) (servers : List Server) (k : ℕ) (server : Server) → StandForAll stores servers → slice_get servers k ≡ Some server → StandsAt stores k server
+stands_at stores [] k server all is = cc
+stands_at [] (y ∷ ys) k server all is = absurd all
+stands_at (x ∷ xs) (y ∷ ys) zero server all is =
+    record { stored = x; there = refl; is = subst (λ v. IsServer x v) (some_is is) all.0 }
+stands_at (x ∷ xs) (y ∷ ys) (suc k) server all is =
+    let further = stands_at xs ys k server all.1 is in
+    record { stored = further.stored; there = further.there; is = further.is }
+
+holds_under : (key : ChunkKey) (under copy : Option (List ℕ)) → Keeps key under copy → HoldsUnder key under copy
+holds_under key under None keeps = keeps
+holds_under key under (Some bytes) keeps = keeps.1
+
+stands_for : (held : Held) (known : Known) (server : Server) → StandsOn held known server → StandsFor held server
+stands_for held known server on = record {
+  life = on.life;
+  keys = λ key. holds_under key (chunk_at held key) (value_at key_cmp server.copies key) (on.keys key);
+}
+
+module _ {D L : Type 0} where
+  -- the text of a world whose actors have finished, and which was drawn from a number
+  world_devices : (told : D → Option Held) (faults : D → ℕ) (world : Running D L) (devices : List D)
+      → Follows world.script world.order world.meta world.stores world.actors → AreDevicesOf told faults world devices
+      → AreDevicesIn told devices (after world.script world.order)
+  unfolding numbered
+  world_devices told faults world devices follows are zero device server at_device at_server = cc
+  world_devices told faults world devices follows are (suc k) device server at_device at_server =
+      let there : slice_get follows.servers k ≡ Some server = sym (ap (λ (w : World). slice_get w.servers k) follows.world) ∙ at_server in
+      let at = stands_at world.stores follows.servers k server follows.stand there in
+      let below : k < length world.stores = below_length world.stores k at.stored at.there in
+      let same : told device ≡ at.stored.told = some_is
+      (sym (mapped_at told (take (length world.stores) devices) k device (in_first (length world.stores) k devices device below at_device))
+      ∙ ap (λ (all : List (Option Held)). slice_get all k) are.told_are
+      ∙ mapped_at (λ (stored : Stored). stored.told) world.stores k at.stored at.there) in
+      record {
+        held = at.is.held;
+        tells = same ∙ at.is.told;
+        stands = stands_for at.is.held at.stored.known server at.is.stands;
+        handed_out = at.is.handed_out;
+      }
+
+  world_text : (told : D → Option Held) (faults : D → ℕ) (number : ℕ) (world : Running D L) (devices : List D) (written : List ℕ)
+      → Follows world.script world.order world.meta world.stores world.actors → AreDevicesOf told faults world devices
+      → IsTrue (is_drawn number world.script world.order) → IsTrue (list_all is_done world.order) → HasEnded world
+      → IsReadScript world.script
+      → written ≡ plain_output (lines_of_actors world.actors) world.meta.history world.order
+      → IsRunOf told number world.script devices written
+  unfolding lines_of_world turn
+  world_text told faults number world devices written follows are drawn done ended read is =
+      let all_done : AllDone world.order = fitting-done world.script read.commands read.first_path world.order follows.fits done in
+      record {
+        order = world.order;
+        printed = record {
+          printed = record {
+            fitting = follows.fits;
+            whole = ended_whole world.script world.order (turn_of world.script world.actors) (ap (λ (w : World). turn world.script w) follows.world) ended;
+            text_is = is
+                ∙ sym (text-plain world.script world.order read.plain
+                ∙ ap (λ (w : World). plain_output (lines_of_world w) w.meta.history world.order) follows.world);
+          };
+          drawn = drawn;
+        };
+        done = done;
+        devices = world_devices told faults world devices follows are;
+        one_history = one-file-history world.script read.commands world.order read.first_path all_done;
+        every_get = every-get world.script read.commands world.order read.first_path all_done;
+        no_deletion = no-deletion world.script read.commands world.order read.first_path;
+      }
+
+  -- the text of a run: its world was made of the script over these devices, was drawn to its end, and was taken apart
+  pub run_prints : (told : D → Option Held) (faults : D → ℕ) (number : ℕ) (script : Script) (came behind : List D) (disks : MetaDisks L)
+      → (started ended : Running D L) (written : List ℕ)
+      → Starts told faults script came disks started → Continues started ended → AreDevicesOf told faults ended behind
+      → IsDrawnSo number ended → HasEnded ended → IsAfter ended → IsReadScript script
+      → written ≡ plain_output (lines_of_actors ended.actors) ended.meta.history ended.order
+      → Prints told number script came behind written
+  run_prints told faults number script came behind disks started ended written starts continues are drawn over after_own read is = λ tell.
+      let script_is : ended.script ≡ script = continues.script_is ∙ starts.script_is in
+      let tell_first : AllTell (map (stored_over told faults) (take script.servers came)) =
+      All-map (λ (stored : Stored). IsSome stored.told) (stored_over told faults) (take script.servers came) tell in
+      let tell_start : AllTell started.stores = subst AllTell (sym starts.stores_are) tell_first in
+      let tell_end : AllTell ended.stores = all_tell_behind started.stores ended.stores continues.stores_go_on tell_start in
+      subst (λ s. IsRunOf told number s behind written) script_is
+      (world_text told faults number ended behind written (after_own tell_end) are (drawn.drawn tell_end) drawn.done over (subst IsReadScript (sym script_is) read) is)
+
+  -- ---- the devices
+
+  pub run_stays : (told : D → Option Held) (faults : D → ℕ) (script : Script) (before behind : List D) (disks : MetaDisks L)
+      → (started ended : Running D L)
+      → script.servers ≤ length before
+      → Starts told faults script before disks started → Continues started ended → AreDevicesOf told faults ended behind
+      → StayInPlace script.servers before behind
+  run_stays told faults script before behind disks started ended enough starts continues are =
+      let count_first : length started.stores ≡ script.servers =
+      ap length starts.stores_are ∙ length-map (take script.servers before) (stored_over told faults) ∙ length-take-le script.servers before enough in
+      let count : length ended.stores ≡ script.servers = sym (length_all_zip GoesOn started.stores ended.stores continues.stores_go_on) ∙ count_first in
+      let spare : drop script.servers behind ≡ drop script.servers before =
+      ap (λ k. drop k behind) (sym count) ∙ are.others_are ∙ continues.spare_is ∙ starts.spare_are in
+      let full : min (length ended.stores) (length behind) ≡ length ended.stores =
+      sym (length-take (length ended.stores) behind) ∙ sym (length-map (take (length ended.stores) behind) told)
+      ∙ ap length are.told_are ∙ length-map ended.stores (λ (stored : Stored). stored.told) in
+      let rest : length behind - script.servers ≡ length before - script.servers =
+      sym (length-drop script.servers behind) ∙ ap length spare ∙ length-drop script.servers before in
+      record { as_many = omega (arith, full, rest, count, enough); spare = spare }
 
 module _ {D L : Type 0} where
   fault_at : (told : D → Option Held) (faults : D → ℕ) (script : Script) (before behind : List D) (disks : MetaDisks L)

@@ -27,7 +27,7 @@ module _ {D : Type 0} where
   pub record Runs (told : D → Option Held) (number : ℕ) (came behind : List D) (before after : Streams) (text : List ℕ) : Type 0 where
     pub script : Script
     pub read : ReadsWhole before.left after.left script
-    pub prints : Prints told number script came text
+    pub prints : Prints told number script came behind text
     pub places : StayInPlace script.servers came behind
 
   -- the text of the run was written whole

@@ -32,7 +32,8 @@ returns-in-Ok-text_of-clause-text g c =
     c.as_slice-in-Ok-into_parts.ensures ∙ ap (λ (m : MetaImage). m.history) c.in-Ok-into_parts.ensures.image in
     let order : c.as_slice-in-Ok-into_parts-2.result.now ≡ c.play-played.new.world.order =
     c.as_slice-in-Ok-into_parts-2.ensures ∙ c.in-Ok-into_parts.ensures.order in
-    run_prints _ _ _ _ _ _ c.in-Ok.world c.play-played.new.world _ starts c.play-played.ensures.continues
+    run_prints _ _ _ _ _ _ _ c.in-Ok.world c.play-played.new.world _ starts c.play-played.ensures.continues
+    c.in-Ok-into_parts.ensures.devices
     c.in_ok-played-in-Ok-into_parts.ensures.drawn c.in_ok-played-in-Ok-into_parts.ensures.ended
     c.in-Ok-into_parts.ensures.after c.requires.read
     (c.in-Ok-text_of.ensures ∙ rw (replies, history, order) refl)
