@@ -184,34 +184,50 @@ module _ {D L : Type 0} where
       sym (length-drop script.servers behind) ∙ ap length spare ∙ length-drop script.servers before in
       record { as_many = omega (arith, full, rest, count, enough); spare = spare }
 
+from_first : {X : Type 0} (n k : ℕ) (xs : List X) (x : X) → slice_get (take n xs) k ≡ Some x → slice_get xs k ≡ Some x
+from_first zero k xs x is = cc
+from_first (suc n) k [] x is = cc
+from_first (suc n) zero (y ∷ ys) x is = is
+from_first (suc n) (suc k) (y ∷ ys) x is = from_first n k ys x is
+
+-- what a mapped list has at a place comes of what stands there
+record Unmapped {X Y : Type 0} (f : X → Y) (xs : List X) (k : ℕ) (y : Y) : Type 0 where
+  pub of : X
+  pub there : slice_get xs k ≡ Some of
+  pub is : f of ≡ y
+
+unmapped_at : {X Y : Type 0} (f : X → Y) (xs : List X) (k : ℕ) (y : Y) → slice_get (map f xs) k ≡ Some y → Unmapped f xs k y
+unmapped_at f [] k y is = cc
+unmapped_at f (x ∷ xs) zero y is = record { of = x; there = refl; is = some_is is }
+unmapped_at f (x ∷ xs) (suc k) y is =
+    let further = unmapped_at f xs k y is in record { of = further.of; there = further.there; is = further.is }
+
 module _ {D L : Type 0} where
   fault_at : (told : D → Option Held) (faults : D → ℕ) (script : Script) (before behind : List D) (disks : MetaDisks L)
       → (started ended : Running D L) (k : ℕ) (old new : Stored)
       → script.servers ≤ length before
       → Starts told faults script before disks started → Continues started ended → AreDevicesOf told faults ended behind
       → slice_get started.stores k ≡ Some old → slice_get ended.stores k ≡ Some new → Rose old.faults new.faults
-      → HasFault faults script.servers (suc k) before behind
+      → (suc k ≤ script.servers) × HasFault faults (suc k) before behind
   unfolding numbered
   fault_at told faults script before behind disks started ended k old new enough starts continues are at_start at_end rose =
       let n = script.servers in
       let count_first : length started.stores ≡ n =
       ap length starts.stores_are ∙ length-map (take n before) (stored_over told faults) ∙ length-take-le n before enough in
-      let below_first : k < length started.stores = below_length started.stores k old at_start in
-      let below_last : k < length ended.stores = below_length ended.stores k new at_end in
-      let below : k < n = omega (arith, count_first, below_first) in
-      record {
-        first = omega arith;
-        within = omega (arith, below);
-        rose = λ device device' is is'.
-            let old_is : old ≡ stored_over told faults device = some_is
-            (sym at_start ∙ ap (λ (stores : List Stored). slice_get stores k) starts.stores_are
-            ∙ mapped_at (stored_over told faults) (take n before) k device (in_first n k before device below is)) in
-            let new_is : new.faults ≡ faults device' = some_is
-            (sym (mapped_at (λ (stored : Stored). stored.faults) ended.stores k new at_end)
-            ∙ ap (λ (counts : List ℕ). slice_get counts k) (sym are.faults_are)
-            ∙ mapped_at faults (take (length ended.stores) behind) k device' (in_first (length ended.stores) k behind device' below_last is')) in
-            subst (λ count. Rose (faults device) count) new_is (subst (λ (o : Stored). Rose o.faults new.faults) old_is rose);
-      }
+      let below : k < length started.stores = below_length started.stores k old at_start in
+      let first = unmapped_at (stored_over told faults) (take n before) k old
+      (ap (λ (stores : List Stored). slice_get stores k) (sym starts.stores_are) ∙ at_start) in
+      let last = unmapped_at faults (take (length ended.stores) behind) k new.faults
+      (ap (λ (counts : List ℕ). slice_get counts k) are.faults_are ∙ mapped_at (λ (stored : Stored). stored.faults) ended.stores k new at_end) in (
+        omega (arith, count_first, below),
+        record {
+          old = first.of;
+          new = last.of;
+          before_is = from_first n k before first.of first.there;
+          behind_is = from_first (length ended.stores) k behind last.of last.there;
+          rose = subst (λ count. Rose (faults first.of) count) (sym last.is) (subst (λ count. Rose count new.faults) (sym (ap (λ (s : Stored). s.faults) first.is)) rose);
+        },
+      )
 
   -- why the steps of a run stopped, as its devices show it
   pub run_stops : (told : D → Option Held) (faults : D → ℕ) (script : Script) (before behind : List D) (disks : MetaDisks L)

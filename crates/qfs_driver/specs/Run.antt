@@ -36,8 +36,8 @@ module _ {D : Type 0} where
       → numbered world.servers number ≡ Some server → IsDeviceOf (told device) server
 
   -- the text of a script and of an order that fits it, is whole and is drawn from a number, in which every step came out
-  -- done, and what the run leaves on the devices. In this order there is one file history, every get reads the bytes of
-  -- its path at its place, and no deletion names a current copy
+  -- done, and what the run leaves on the devices. In this order there is one file history, every get that is served well reads
+  -- the bytes of its path at its place, and no deletion names a current copy
   pub record IsRunOf (told : D → Option Held) (number : ℕ) (script : Script) (behind : List D) (text : List ℕ) : Type 0 where
     pub order : List Step
     pub printed : IsPrintedDrawn number script order text
@@ -57,13 +57,15 @@ module _ {D : Type 0} where
     pub spare : drop servers behind ≡ drop servers before
 
   -- the count of faults of a server's device rose
-  pub record HasFault (faults : D → ℕ) (servers server : ℕ) (before behind : List D) : Type 0 where
-    pub first : 1 ≤ server
-    pub within : server ≤ servers
-    pub rose : (old new : D) → numbered before server ≡ Some old → numbered behind server ≡ Some new → Rose (faults old) (faults new)
+  pub record HasFault (faults : D → ℕ) (server : ℕ) (before behind : List D) : Type 0 where
+    pub old : D
+    pub new : D
+    pub before_is : numbered before server ≡ Some old
+    pub behind_is : numbered behind server ≡ Some new
+    pub rose : Rose (faults old) (faults new)
 
-  -- why a run of a script on so many servers stops early: memory is wanting, or the device of a server failed
+  -- why a run of a script on so many servers stops early: memory is wanting, or the device of one of them failed
   abbrev pub StopsOver : (D → ℕ) → ℕ → List D → List D → Status → Type 0
   StopsOver faults servers before behind Ended.NoMemory = ⊤
-  StopsOver faults servers before behind (Ended.DeviceFault server) = HasFault faults servers server before behind
+  StopsOver faults servers before behind (Ended.DeviceFault server) = (server ≤ servers) × HasFault faults server before behind
   StopsOver faults servers before behind status = ⊥

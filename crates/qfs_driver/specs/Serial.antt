@@ -27,6 +27,7 @@ module _ {D : Type 0} where
   pub record Runs (told : D → Option Held) (number : ℕ) (came behind : List D) (before after : Streams) (text : List ℕ) : Type 0 where
     pub script : Script
     pub read : ReadsWhole before.left after.left script
+    pub enough : script.servers ≤ length came
     pub prints : Prints told number script came behind text
     pub places : StayInPlace script.servers came behind
 
@@ -57,7 +58,9 @@ module _ {D : Type 0} where
   pub record StopsAtFault (faults : D → ℕ) (server : ℕ) (came behind : List D) (before after : Streams) : Type 0 where
     pub script : Script
     pub read : ReadsWhole before.left after.left script
-    pub fault : HasFault faults script.servers server came behind
+    pub enough : script.servers ≤ length came
+    pub one_of_them : server ≤ script.servers
+    pub fault : HasFault faults server came behind
     pub places : StayInPlace script.servers came behind
 
   -- each status has its cause; want of memory is free

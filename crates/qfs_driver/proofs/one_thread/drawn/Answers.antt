@@ -1,4 +1,5 @@
 -- A script that was read can be run, and its text is written whole or in part.
+use Rattle.std.proofs.Common.{rules}
 use Rattle.qfs_script.specs.Lines.{text_lines}
 use Rattle.qfs_driver.proofs.ReadScripts.{read_script_is_first}
 use Rattle.qfs_driver.proofs.one_thread.drawn.Goals as goal
@@ -13,6 +14,7 @@ returns-in-Ok-write_all-clause-ends g c = record {
   runs = record {
     script = c.in-Ok.script;
     read = c.in-Ok.ensures.ok;
+    enough = search rules;
     prints = c.in-Ok-run.ensures.text;
     places = c.run.ensures.places;
   };
@@ -25,6 +27,7 @@ returns-in-Ok-run-clause-ends g c = record {
   runs = record {
     script = c.in-Ok.script;
     read = c.in-Ok.ensures.ok;
+    enough = search rules;
     prints = c.in-Ok-run.ensures.text;
     places = c.run.ensures.places;
   };
