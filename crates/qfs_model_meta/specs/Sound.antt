@@ -83,11 +83,16 @@ same_lease a b = (a.lease == b.lease) && (a.actor == b.actor) && (a.file == b.fi
 unfoldable pub same_lease_number : Lease → Lease → Bool
 same_lease_number a b = a.lease == b.lease
 
--- each lease is given once, to one actor and file, and keeps what it lists
+-- whether a lease is the one that lists a copy, on the copy's file
+unfoldable pub is_lease_of : ListedCopy → Lease → Bool
+is_lease_of listed lease = (lease.lease == listed.lease) && (lease.file == listed.of_slot.block.file)
+
+-- each lease is given once, to one actor and file, and keeps what it lists, which are copies of its file
 pub record LeasesHold (past : Past) (m : MetaImage) : Type 0 where
   pub once : IsDistinct same_lease_number past.leases
   pub numbers : Each (λ (lease : Lease). lease.lease < m.next_lease) past.leases
   pub given : Each (λ lease. IsTrue (list_any (same_lease lease) past.leases)) m.leases
+  pub listed : Each (λ listed. IsTrue (list_any (is_lease_of listed) past.leases)) past.listed
   pub kept : Each (KeepsListed m) past.listed
 
 -- a copy that was ordered deleted

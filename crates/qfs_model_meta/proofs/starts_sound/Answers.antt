@@ -25,7 +25,7 @@ returns c = record {
   };
   granted_once = record { once = tt; of_files = tt; behind = tt; different = λ block slot. tt; known = λ block slot. tt; ordered = tt; listed = tt };
   lives = tt;
-  leases = record { once = tt; numbers = tt; given = tt; kept = tt };
+  leases = record { once = tt; numbers = tt; given = tt; listed = tt; kept = tt };
   ordered = tt;
   one_server = λ block. tt;
   tree = record { files = λ puts. refl; legal = λ puts. tt; numbers = refl };
