@@ -10,14 +10,14 @@ use crate::reply::TreeRefusal;
 
 /// Which bytes of a file are wanted: `count` bytes from `from` on, cut at the file's end. Both
 /// are up to 268,435,456.
-#[derive(Clone, Copy, PartialEq, Eq)]
+#[derive(Clone, Copy)]
 pub struct Range {
     pub from: u32,
     pub count: u32,
 }
 
 /// A command on the name tree or on a file's bytes.
-#[derive(Clone, PartialEq, Eq, Drop)]
+#[derive(Clone, Drop)]
 pub enum FileCommand {
     Mkdir(Path),
     Rmdir(Path),
@@ -30,7 +30,7 @@ pub enum FileCommand {
 }
 
 /// A command of an actor.
-#[derive(Clone, PartialEq, Eq, Drop)]
+#[derive(Clone, Drop)]
 pub enum Command {
     File(FileCommand),
     /// Makes a missing chunk anew from six others: the file, the block's index and the slot.
@@ -57,21 +57,21 @@ pub enum Command {
 }
 
 /// What is shown of bytes that were read: all of them up to 32, the SHA-256 of more.
-#[derive(PartialEq, Eq, Drop)]
+#[derive(Drop)]
 pub enum Shown {
     Whole(Bytes),
     Digest(Bytes),
 }
 
 /// What is kept of bytes that were read: how many they are, and what is shown of them.
-#[derive(PartialEq, Eq, Drop)]
+#[derive(Drop)]
 pub struct Excerpt {
     pub len: u32,
     pub shown: Shown,
 }
 
 /// What a command reports when it has ended. `R` is what a get keeps of the bytes that it read.
-#[derive(PartialEq, Eq, Drop)]
+#[derive(Drop)]
 pub enum Reply<R> {
     Done {
         place: Place,
@@ -220,7 +220,7 @@ pub enum Reply<R> {
 }
 
 /// A report with the actor that it is of and the number of its command, from 1.
-#[derive(PartialEq, Eq, Drop)]
+#[derive(Drop)]
 pub struct ReplyLine {
     pub actor: ActorId,
     pub command: u16,

@@ -7,7 +7,7 @@ use crate::path::Path;
 use crate::reply::TreeRefusal;
 
 /// One change of the name tree.
-#[derive(Clone, PartialEq, Eq, Drop)]
+#[derive(Drop)]
 pub enum Entry {
     Mkdir(Path),
     Rmdir(Path),
@@ -23,7 +23,7 @@ pub enum Entry {
 pub type History = Listing<Entry>;
 
 /// What a file command answers at a place of the history.
-#[derive(PartialEq, Eq, Drop)]
+#[derive(Drop)]
 pub enum FileReply {
     Refused(TreeRefusal),
     Done,

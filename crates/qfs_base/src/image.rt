@@ -9,7 +9,7 @@ use crate::reply::Condemned;
 use crate::server_set::ServerSet;
 
 /// A server as the metaserver sees it.
-#[derive(Clone, Copy, PartialEq, Eq)]
+#[derive(Clone, Copy)]
 pub struct ServerView {
     pub up: bool,
     /// Whether it takes no new chunks.
@@ -24,7 +24,7 @@ pub struct ServerView {
 pub type Servers = Listing<ServerView>;
 
 /// A server as placement sees it.
-#[derive(Clone, Copy, PartialEq, Eq)]
+#[derive(Clone, Copy)]
 pub struct Load {
     pub up: bool,
     pub leaving: bool,
@@ -60,7 +60,7 @@ pub struct TreeRow {
 }
 
 /// A pending grant: the copy that it allows, to whom, and under which lease (0 for a put).
-#[derive(Clone, Copy, PartialEq, Eq)]
+#[derive(Clone, Copy)]
 pub struct Grant {
     pub copy: Copy,
     pub actor: ActorId,
@@ -90,7 +90,7 @@ pub struct SlotRow {
 pub type RecordList = Listing<SlotRow>;
 
 /// A live lease: its holder, and the file that it keeps from deletion.
-#[derive(Clone, Copy, PartialEq, Eq)]
+#[derive(Clone, Copy)]
 pub struct Lease {
     pub lease: LeaseId,
     pub actor: ActorId,
@@ -111,7 +111,7 @@ pub struct CondemnedRow {
 
 /// A condemned copy as the tables keep it: the live leases on its file with a number below
 /// `below` block it.
-#[derive(Clone, Copy, PartialEq, Eq)]
+#[derive(Clone, Copy)]
 pub struct CondemnedEntry {
     pub condemned: Condemned,
     pub ordered: bool,
@@ -122,7 +122,7 @@ pub struct CondemnedEntry {
 pub type CondemnedList = Listing<CondemnedEntry>;
 
 /// An actor that was dropped, and the turn just before.
-#[derive(Clone, Copy, PartialEq, Eq)]
+#[derive(Clone, Copy)]
 pub struct DroppedActor {
     pub actor: ActorId,
     pub turn: Turn,

@@ -19,5 +19,3 @@ pub mod reply;
 pub mod request;
 pub mod script;
 pub mod server_set;
-#[cfg(test)]
-mod tests;

@@ -23,14 +23,14 @@ pub type TurnList = Listing<ActorId>;
 pub type Nine = Listing<Option<Copy>>;
 
 /// A file or directory right below another.
-#[derive(PartialEq, Eq, Drop)]
+#[derive(Drop)]
 pub struct Name {
     pub part: Bytes,
     pub kind: NameKind,
 }
 
 /// What a name in a directory stands for.
-#[derive(Clone, Copy, PartialEq, Eq)]
+#[derive(Clone, Copy)]
 pub enum NameKind {
     Directory,
     Unclosed,
@@ -41,7 +41,7 @@ pub enum NameKind {
 pub type Names = Listing<Name>;
 
 /// Why a chunk couldn't be read or stored.
-#[derive(Clone, Copy, PartialEq, Eq)]
+#[derive(Clone, Copy)]
 pub enum Cause {
     /// The metaserver didn't list the slot.
     Unlisted,
@@ -56,7 +56,7 @@ pub enum Cause {
 }
 
 /// A slot that couldn't be read, and why.
-#[derive(Clone, Copy, PartialEq, Eq)]
+#[derive(Clone, Copy)]
 pub struct SlotCause {
     pub slot: Slot,
     pub cause: Cause,

@@ -4,7 +4,7 @@ use crate::listing::Listing;
 use std::marker::Model;
 
 /// How the bytes of a recipe are told.
-#[derive(Clone, PartialEq, Eq, Drop)]
+#[derive(Clone, Drop)]
 pub enum Form {
     /// The bytes themselves: 1 to 32.
     Hex(Listing<u8>),
@@ -16,7 +16,7 @@ pub enum Form {
 }
 
 /// The bytes of a put. Contracts see the form.
-#[derive(Clone, PartialEq, Eq, Drop)]
+#[derive(Clone, Drop)]
 pub struct Recipe {
     pub form: Form,
 }

@@ -23,7 +23,7 @@ pub enum TreeRefusal {
 ///
 /// A grant for a put has lease 0 and no sources; one for a move its source slot alone; one for a
 /// recovery all listed slots but its own.
-#[derive(PartialEq, Eq, Drop)]
+#[derive(Drop)]
 pub struct Granted {
     pub block: BlockId,
     pub slot: Slot,
@@ -37,7 +37,7 @@ pub struct Granted {
 }
 
 /// A closed file under a lease: its length in bytes and, block by block, its listed copies.
-#[derive(PartialEq, Eq, Drop)]
+#[derive(Drop)]
 pub struct Opened {
     pub lease: LeaseId,
     pub place: Place,
@@ -47,7 +47,7 @@ pub struct Opened {
 }
 
 /// A copy that may be deleted once no lease blocks it, by its number in the list of such copies.
-#[derive(Clone, Copy, PartialEq, Eq)]
+#[derive(Clone, Copy)]
 pub struct Condemned {
     pub number: u64,
     pub block: BlockId,
@@ -56,7 +56,7 @@ pub struct Condemned {
 }
 
 /// An answer of the metaserver.
-#[derive(PartialEq, Eq, Drop)]
+#[derive(Drop)]
 pub enum MetaReply {
     Done {
         place: Place,
@@ -143,7 +143,7 @@ pub enum MetaReply {
 }
 
 /// An answer of a chunk server, without the room of a fetch.
-#[derive(PartialEq, Eq, Drop)]
+#[derive(Drop)]
 pub enum ChunkAnswer {
     Stored,
     Fetched,
@@ -162,14 +162,14 @@ pub enum ChunkAnswer {
 
 /// An answer of a chunk server. A fetch hands its room back, whatever the answer; every other
 /// request has an empty room.
-#[derive(PartialEq, Eq, Drop)]
+#[derive(Drop)]
 pub struct ChunkReply {
     pub answer: ChunkAnswer,
     pub room: Bytes,
 }
 
 /// An answer of a node.
-#[derive(PartialEq, Eq, Drop)]
+#[derive(Drop)]
 pub enum NodeReply {
     Meta(MetaReply),
     Chunk(ChunkReply),
