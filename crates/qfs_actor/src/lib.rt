@@ -5,8 +5,6 @@ mod actor;
 mod course;
 mod doing;
 mod plain;
-#[cfg(test)]
-mod tests;
 
 pub use actor::Actor;
 pub use doing::Doing;

@@ -76,19 +76,3 @@ impl Mask {
         None
     }
 }
-
-#[cfg(test)]
-mod tests {
-    use super::*;
-
-    #[test]
-    fn holds_what_is_put_in(rt: HostRuntime) {
-        let mask = Mask::none().with(8).with(0).with(3).with(0);
-        assert_eq!(rt; mask.count(), 3);
-        assert!(rt; mask.contains(0) && mask.contains(3) && mask.contains(8));
-        assert!(rt; !mask.contains(1) && !mask.contains(9) && !mask.contains(255));
-        assert_eq!(rt; mask.next_from(1), Some(3));
-        assert_eq!(rt; mask.next_from(9), None);
-        assert!(rt; mask == Mask::none().with(3).with(8).with(0));
-    }
-}

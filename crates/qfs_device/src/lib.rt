@@ -13,8 +13,6 @@ mod memory_disk;
 mod memory_stream;
 mod standard;
 mod stream;
-#[cfg(test)]
-mod tests;
 mod whole;
 
 pub use chunk_device::{ChunkDevice, KeySize, KeySizes};

@@ -12,7 +12,5 @@ mod rows;
 mod sources;
 mod stage;
 mod supply;
-#[cfg(test)]
-mod tests;
 
 pub use reader::Reader;

@@ -4,8 +4,6 @@
 mod chunk;
 mod request;
 mod stage;
-#[cfg(test)]
-mod tests;
 mod turn;
 mod writer;
 

@@ -1,6 +1,0 @@
-use Rattle.std.proofs.Common.{◌≡◌}
-use Rattle.qfs_machine.specs.declared.machine.Readiness.TheVariants.{Unready}
-use Rattle.qfs_writer.proofs.tests.run.Given as goal
-
-abbrev pub invariant-loop-turn : goal.invariant-loop-turn
-invariant-loop-turn g l = g.M.Machine.readiness l.machine ≡ Unready
