@@ -2,6 +2,7 @@
 ghost use Rattle.std.specs.Prelude.{All, IfOk};
 ghost use Rattle.qfs_world.specs.Calls.{IsNew};
 
+use qfs_base::script::ScriptCause;
 use qfs_device::{
     ChunkDevice, MemoryDevice, MemorySink, MemorySource, MetaDisks, NoGate, SureDisk,
 };
@@ -23,6 +24,9 @@ const REFUSALS: &[u8] =
 
 const REFUSALS_TEXT: &[u8] =
     b"1 1 at 1 stored 1\n1 2 at 2 exists\n1 3 at 2 missing\n1 4 at 2 read 1 hex 01\nhistory 0 created 1 /a\nhistory 1 closed 1 by 1 1\norder 1x30\n";
+
+/// A script whose second line has a stripe that isn't a power of two.
+const BAD_STRIPE: &[u8] = b"qfs 1\nlayout 24 2\nservers 9\nphase\nactor 1\nput /a hex 01\n";
 
 /// Which calls fail: those of the source, of the sink, and the first one of a device; and how many
 /// bytes the sink has room for.
@@ -132,20 +136,61 @@ fn scripts_print_their_rows(rt: HostRuntime) -> Result<(), Fail> {
     Ok(())
 }
 
+/// Whether these words are answered with the usage, and nothing is written.
+fn are_refused(alloc: Global, words: &[&str]) -> Result<bool, Fail> {
+    let ran = run_in_memory(alloc, words, FIRST, 9, NONE)?;
+    let usage = b"usage: qfs step N | replay | run | make N".as_slice();
+    Ok(
+        ran.status == Status::Usage
+            && ran.status.code() == 2
+            && said(alloc, ran.status)?.as_slice() == usage
+            && ran.text.is_empty(),
+    )
+}
+
 #[test]
 fn other_words_are_refused(rt: HostRuntime) -> Result<(), Fail> {
-    let none = run_in_memory(rt.alloc(), &[], FIRST, 9, NONE)?;
-    assert!(rt; none.status == Status::Usage);
-    assert!(rt; none.status.code() == 2);
-    assert!(rt;
-        said(rt.alloc(), none.status)?.as_slice()
-            == b"usage: qfs step N | replay | run | make N".as_slice()
-    );
-    let bare = run_in_memory(rt.alloc(), &["step"], FIRST, 9, NONE)?;
-    assert!(rt; bare.status == Status::Usage);
-    let zero = run_in_memory(rt.alloc(), &["step", "01"], FIRST, 9, NONE)?;
-    assert!(rt; zero.status == Status::Usage);
-    assert!(rt; zero.text.is_empty());
+    assert!(rt; are_refused(rt.alloc(), &[])?);
+    assert!(rt; are_refused(rt.alloc(), &["step"])?);
+    assert!(rt; are_refused(rt.alloc(), &["step", "01"])?);
+    Ok(())
+}
+
+#[test]
+fn the_first_bad_line_is_told(rt: HostRuntime) -> Result<(), Fail> {
+    let bad = run_in_memory(rt.alloc(), &["step", "1"], BAD_STRIPE, 9, NONE)?;
+    let second = Status::BadScript {
+        line: 2,
+        cause: ScriptCause::NotYet,
+    };
+    assert!(rt; bad.status == second);
+    assert!(rt; bad.text.is_empty());
+    Ok(())
+}
+
+#[test]
+fn statuses_have_their_codes_and_texts(rt: HostRuntime) -> Result<(), Fail> {
+    let number = Status::BadScript {
+        line: 4,
+        cause: ScriptCause::Number,
+    };
+    let few = Status::TooFewDevices {
+        servers: 10,
+        devices: 9,
+    };
+    let known = [
+        (Status::Ok, 0, b"".as_slice()),
+        (number, 3, b"line 4: number"),
+        (few, 5, b"devices 9"),
+        (Status::ReadFault, 6, b"read"),
+        (Status::WriteFault, 7, b"write"),
+        (Status::NoMemory, 10, b"memory"),
+        (Status::DeviceFault { server: 3 }, 11, b"device 3"),
+    ];
+    for (status, code, text) in known {
+        assert_eq!(rt; status.code(), code);
+        assert_eq!(rt; said(rt.alloc(), status)?.as_slice(), text);
+    }
     Ok(())
 }
 
