@@ -1,6 +1,6 @@
 use Rattle.std.proofs.Common.{◌≡◌, ◌+◌, ◌*◌, ◌≤◌, drop}
 use Rattle.qfs_model_meta.specs.Slots.{count_on}
-use Rattle.qfs_meta.proofs.census.count_on.Given as goal
+use Rattle.qfs_meta.proofs.loads.count_on.Given as goal
 
 -- the copies so far and those of the rows that are left
 abbrev pub invariant-loop-row : goal.invariant-loop-row

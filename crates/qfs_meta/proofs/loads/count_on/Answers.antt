@@ -2,9 +2,9 @@ use Rattle.std.proofs.Common.{◌≡◌, ◌+◌, drop, count_by, ap, ◌∙◌,
 use Rattle.std.specs.Option.{option_to_list}
 use Rattle.std.proofs.Math.ListN.{drop_of_length-le}
 use Rattle.qfs_model_meta.specs.Slots.{is_on, count_on, granted_copy}
-use Rattle.qfs_meta.proofs.CensusLaws.{count_on-none, count_on-next, copies_of_row}
+use Rattle.qfs_meta.proofs.LoadLaws.{count_on-none, count_on-next, copies_of_row}
 use Rattle.qfs_meta.proofs.ListedLaws.{drop-read}
-use Rattle.qfs_meta.proofs.census.count_on.Goals as goal
+use Rattle.qfs_meta.proofs.loads.count_on.Goals as goal
 
 pub loop-row-preserved : goal.loop-row-preserved
 loop-row-preserved c =
