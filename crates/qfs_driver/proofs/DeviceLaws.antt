@@ -10,7 +10,7 @@ use Rattle.qfs_base.specs.declared.script.Script.{Script}
 use Rattle.qfs_device.specs.Fault.{last_count}
 use Rattle.qfs_device.specs.Held.{Held, chunk_at}
 use Rattle.qfs_device.specs.declared.log_disk.MetaDisks.{MetaDisks}
-use Rattle.qfs_driver.proofs.Places.{some_is, in_first, from_first, mapped_at, unmapped_at, below_length, behind_first}
+use Rattle.qfs_driver.proofs.Places.{some_is, in_first, from_first, mapped_at, unmapped_at, below_length, length_past, behind_first}
 use Rattle.qfs_driver.specs.Playing.{Continues}
 use Rattle.qfs_driver.specs.Run.{StayInPlace, counts_of}
 use Rattle.qfs_model_headline.specs.Faults.{FaultsShow}
@@ -89,11 +89,6 @@ module _ {D L : Type 0} where
         handed_out = hands_out at.is.held.handed_out server.handed_out
             (has_failed is_put_or_start (suc k) (events world.script world.order)) at.is.handed_out;
       }
-
-length_past : {X : Type 0} (xs : List X) (k : ℕ) → slice_get xs k ≡ None → length xs ≤ k
-length_past [] k none = omega arith
-length_past (x ∷ xs) zero none = absurd (cc)
-length_past (x ∷ xs) (suc k) none = let rest = length_past xs k none in omega (arith, rest)
 
 module _ {D L : Type 0} (told : D → Option Held) (faults : D → ℕ) (script : Script) (came behind : List D) (disks : MetaDisks L)
     (started ended : Running D L) (enough : script.servers ≤ length came)

@@ -25,6 +25,11 @@ below_length [] k x is = cc
 below_length (y ∷ ys) zero x is = omega arith
 below_length (y ∷ ys) (suc k) x is = let more = below_length ys k x is in omega (arith, more)
 
+pub length_past : {X : Type 0} (xs : List X) (k : ℕ) → slice_get xs k ≡ None → length xs ≤ k
+length_past [] k none = omega arith
+length_past (x ∷ xs) zero none = absurd (cc)
+length_past (x ∷ xs) (suc k) none = let rest = length_past xs k none in omega (arith, rest)
+
 pub from_first : {X : Type 0} (n k : ℕ) (xs : List X) (x : X) → slice_get (take n xs) k ≡ Some x → slice_get xs k ≡ Some x
 from_first zero k xs x is = cc
 from_first (suc n) k [] x is = cc
