@@ -8,64 +8,36 @@ use Rattle.qfs_base.specs.declared.image.SlotRow.{SlotRow}
 use Rattle.qfs_base.specs.declared.chunk.Copy.{Copy}
 use Rattle.qfs_base.specs.NumberSet.{has, with_member}
 use Rattle.qfs_model_meta.specs.Servers.{is_live}
-use Rattle.std.proofs.lemmas.List.{append-nil}
-use Rattle.std.proofs.lemmas.List.Sums.{sum_by-append}
 use Rattle.qfs_model_meta.specs.Placing.{Numbered, load_of, census, is_open, open_servers, lighter, choose, with_live_servers}
-use Rattle.qfs_model_meta.specs.Slots.{is_on, count_on, is_of_block, grants_of_block, granted_copy}
+use Rattle.qfs_model_meta.specs.Slots.{granted_copy}
 use Rattle.qfs_meta.specs.declared.census.Candidate.{Candidate}
 use Rattle.qfs_meta.specs.Candidates.{lighter_of, best_from}
+use Rattle.qfs_meta.specs.Loads.{loads_of}
+use Rattle.qfs_meta.proofs.LoadLaws.{loads_from}
 
 fold-append : {A B : Type 0} (f : B → A → B) (start : B) (xs ys : List A) → fold f start (xs ++ ys) ≡ fold f (fold f start xs) ys
 fold-append f start [] ys = refl
 fold-append f start (x ∷ xs) ys = fold-append f (f start x) xs ys
 
-count_by-append : {A : Type 0} (p : A → Bool) (xs ys : List A) → count_by p (xs ++ ys) ≡ count_by p xs + count_by p ys
-count_by-append p xs ys = sum_by-append _ xs ys
+-- the copies that the grants of these slots allow
+abbrev pub grants_of : List SlotRow → List Copy
+grants_of rows = flat_map (λ (row : SlotRow). option_to_list (granted_copy row.state.grant)) rows
 
--- how many copies of a row stand on a server in a life
-abbrev pub copies_of_row : ℕ → ℕ → SlotRow → ℕ
-copies_of_row server life row =
-    count_by (is_on server life) (option_to_list row.state.current)
-    + count_by (is_on server life) (option_to_list (granted_copy row.state.grant))
-
-pub count_on-none : (server life : ℕ) → count_on server life [] ≡ 0
-unfolding count_on
-count_on-none server life = refl
-
-pub count_on-next : (server life : ℕ) (row : SlotRow) (rows : List SlotRow) →
-    count_on server life (row ∷ rows) ≡ copies_of_row server life row + count_on server life rows
-unfolding count_on
-count_on-next server life row rows =
-    let p = is_on server life in
-    let e₁ = count_by-append p (option_to_list row.state.current) (flat_map (λ (r : SlotRow). option_to_list r.state.current) rows) in
-    let e₂ = count_by-append p (option_to_list (granted_copy row.state.grant)) (flat_map (λ (r : SlotRow). option_to_list (granted_copy r.state.grant)) rows) in
-    omega (arith, e₁, e₂)
-
-pub barred-none : (servers : List ServerView) (set : List ℕ) (block : BlockId) → with_live_servers servers set (grants_of_block block []) ≡ set
-unfolding with_live_servers grants_of_block
-barred-none servers set block = refl
+pub barred-none : (servers : List ServerView) (set : List ℕ) → with_live_servers servers set (grants_of []) ≡ set
+unfolding with_live_servers
+barred-none servers set = refl
 
 -- a row's grant is barred first, and then those of the rows behind it
-pub barred-next : (servers : List ServerView) (set : List ℕ) (block : BlockId) (row : SlotRow) (rows : List SlotRow) →
-    with_live_servers servers set (grants_of_block block (row ∷ rows))
-    ≡ with_live_servers servers (with_live_servers servers set (grants_of_block block (row ∷ []))) (grants_of_block block rows)
-unfolding with_live_servers grants_of_block
-barred-next servers set block row rows =
-    let bar : List ℕ → Copy → List ℕ = λ members copy. cond (is_live servers copy) (with_member members copy.server) members in
-    let copies_of : SlotRow → List Copy = λ r. option_to_list (granted_copy r.state.grant) in
-    let behind : List SlotRow = filter (is_of_block block) rows in
-    elim (is_of_block block row) as (λ b.
-    fold bar set (flat_map copies_of (cond b (row ∷ behind) behind))
-    ≡ fold bar (fold bar set (flat_map copies_of (cond b (row ∷ []) []))) (flat_map copies_of behind)) [
-      | true ↦
-          fold-append bar set (copies_of row) (flat_map copies_of behind)
-          ∙ ap (λ copies. fold bar (fold bar set copies) (flat_map copies_of behind)) (sym (append-nil (copies_of row)))
-      | false ↦ refl
-    ]
+pub barred-next : (servers : List ServerView) (set : List ℕ) (row : SlotRow) (rows : List SlotRow) →
+    with_live_servers servers set (grants_of (row ∷ rows))
+    ≡ with_live_servers servers (with_live_servers servers set (option_to_list (granted_copy row.state.grant))) (grants_of rows)
+unfolding with_live_servers
+barred-next servers set row rows =
+    fold-append (λ members (copy : Copy). cond (is_live servers copy) (with_member members copy.server) members) set (option_to_list (granted_copy row.state.grant)) (grants_of rows)
 
 -- a server as placement sees it, as a candidate
 abbrev pub as_candidate : Numbered → Candidate
-as_candidate s = record { server = s.0; count = s.1.count }
+as_candidate s = record { server = s.0; load = s.1.count }
 
 as_candidate-lighter : (best next : Numbered) → lighter_of (Some (as_candidate best)) (as_candidate next) ≡ as_candidate (lighter best next)
 unfolding lighter
@@ -88,7 +60,7 @@ open_from slots barred number servers =
     filter (is_open barred) (enumerate_from number (map (λ (s : ℕ × ServerView). load_of slots s.0 s.1) (enumerate_from number servers)))
 
 pub best_from-lightest : (slots : List SlotRow) (barred : List ℕ) (best : Option Numbered) (number : ℕ) (servers : List ServerView) →
-    best_from slots barred (option_map as_candidate best) number servers
+    best_from barred (option_map as_candidate best) number servers (loads_from number servers slots)
     ≡ option_map as_candidate (lightest best (open_from slots barred number servers))
 unfolding is_open load_of lighter
 best_from-lightest slots barred None number [] = refl
@@ -97,7 +69,7 @@ best_from-lightest slots barred None number (server ∷ servers) =
     let next : Numbered = (number, load_of slots number server) in
     let rest : List Numbered = open_from slots barred (number + 1) servers in
     elim (server.up && not server.leaving && not (has barred number)) as (λ b.
-    best_from slots barred (cond b (Some (as_candidate next)) None) (number + 1) servers
+    best_from barred (cond b (Some (as_candidate next)) None) (number + 1) servers (loads_from (number + 1) servers slots)
     ≡ option_map as_candidate (lightest None (cond b (next ∷ rest) rest))) [
       | true ↦ best_from-lightest slots barred (Some next) (number + 1) servers
       | false ↦ best_from-lightest slots barred None (number + 1) servers
@@ -106,17 +78,17 @@ best_from-lightest slots barred (Some best) number (server ∷ servers) =
     let next : Numbered = (number, load_of slots number server) in
     let rest : List Numbered = open_from slots barred (number + 1) servers in
     elim (server.up && not server.leaving && not (has barred number)) as (λ b.
-    best_from slots barred (cond b (Some (lighter_of (Some (as_candidate best)) (as_candidate next))) (Some (as_candidate best))) (number + 1) servers
+    best_from barred (cond b (Some (lighter_of (Some (as_candidate best)) (as_candidate next))) (Some (as_candidate best))) (number + 1) servers (loads_from (number + 1) servers slots)
     ≡ option_map as_candidate (lightest (Some best) (cond b (next ∷ rest) rest))) [
       | true ↦
-          ap (λ c. best_from slots barred (Some c) (number + 1) servers) (as_candidate-lighter best next)
+          ap (λ c. best_from barred (Some c) (number + 1) servers (loads_from (number + 1) servers slots)) (as_candidate-lighter best next)
           ∙ best_from-lightest slots barred (Some (lighter best next)) (number + 1) servers
       | false ↦ best_from-lightest slots barred (Some best) (number + 1) servers
     ]
 
 -- the best candidate of all servers is the one that is chosen
 pub best_from-choose : (slots : List SlotRow) (barred : List ℕ) (servers : List ServerView) →
-    option_map (λ (c : Candidate). c.server) (best_from slots barred None 1 servers) ≡ choose (census servers slots) barred
+    option_map (λ (c : Candidate). c.server) (best_from barred None 1 servers (loads_of servers slots)) ≡ choose (census servers slots) barred
 unfolding choose census open_servers
 best_from-choose slots barred servers =
     ap (option_map (λ (c : Candidate). c.server)) (best_from-lightest slots barred None 1 servers)

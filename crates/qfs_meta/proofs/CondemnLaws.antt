@@ -118,7 +118,7 @@ failed-is id grant m pending =
     ap (fail_grant id.block id.slot m) pending
     ∙ (λ i. record (condemn id.block id.slot grant.copy m) { slots = slots i })
 
-condemn-servers : (block : BlockId) (slot : ℕ) (copy : Copy) (m : MetaImage) → (condemn block slot copy m).servers ≡ m.servers
+pub condemn-servers : (block : BlockId) (slot : ℕ) (copy : Copy) (m : MetaImage) → (condemn block slot copy m).servers ≡ m.servers
 unfolding condemn list_if_live
 condemn-servers block slot copy m =
     elim (is_live m.servers copy) as (λ b. (list_if_live (condemned_row m.next_condemned block slot copy m.leases) m b).servers ≡ m.servers) [ true ↦ refl | false ↦ refl ]

@@ -1,5 +1,5 @@
 -- What changes keep of the metaserver's state.
-use Rattle.std.proofs.Common.{◌≡◌, ℕ, ◌+◌, ◌<◌, ◌^◌, true, false, not, List, [], ◌∷◌, ◌++◌, length, refl, sym, subst, arith, length-append}
+use Rattle.std.proofs.Common.{◌≡◌, ℕ, ◌+◌, ◌<◌, ◌^◌, Bool, true, false, not, List, [], ◌∷◌, ◌++◌, length, refl, sym, subst, arith, length-append}
 use Rattle.std.proofs.lemmas.List.Elements.{All-cons, All-head, All-tail, All-map, All-filter, All-weaker}
 use Rattle.std.specs.List.{All}
 use Rattle.std.specs.Option.{IfSome}
@@ -9,7 +9,8 @@ use Rattle.std.specs.declared.cmp.Ordering.{Ordering}
 use Rattle.std.specs.declared.cmp.Ordering.TheVariants.{Less, Equal, Greater}
 use Rattle.qfs_base.specs.declared.image.MetaImage.{MetaImage}
 use Rattle.qfs_base.specs.declared.image.SlotRow.{SlotRow}
-use Rattle.qfs_base.specs.NameTree.{PathNames}
+use Rattle.qfs_base.specs.declared.image.TreeRow.{TreeRow}
+use Rattle.qfs_base.specs.NameTree.{PathNames, added, path_cmp, row_cmp}
 use Rattle.qfs_base.specs.declared.chunk.Copy.{Copy}
 use Rattle.qfs_base.specs.declared.request.SlotId.{SlotId}
 use Rattle.qfs_base.specs.Table.{IsRising, place, place_before, change_row}
@@ -19,10 +20,11 @@ use Rattle.qfs_model_meta.specs.Condemned.{condemn, condemned_row, list_if_live}
 use Rattle.qfs_model_meta.specs.Servers.{is_live}
 use Rattle.qfs_model_meta.specs.Slots.{change_state, sealed_slot, is_slot, is_of_file, seal_file, forget_file, with_slot, granted_slot, failed_slot, ungranted_slot, slot_cmp, slot_at, never_granted}
 use Rattle.qfs_model_meta.specs.Step.{next_turn}
+use Rattle.qfs_model_meta.specs.TreeRows.{row_path, has_file, add_row, file_row, take_file, close_file, close_row}
 use Rattle.qfs_meta.specs.Condemning.{aborting}
 use Rattle.qfs_meta.specs.Granting.{granted_in, freed_row, freed_slots}
 use Rattle.qfs_meta.specs.Kept.{IsKept, IsGrantedOnServer, AreGrantedOnServers, IsServerNumber}
-use Rattle.qfs_meta.proofs.RisingLaws.{slot_at-here, slot_at-behind, place_rises, map_rises, filter_rises, slot_cmp_total, state_keeps_order}
+use Rattle.qfs_meta.proofs.RisingLaws.{slot_at-here, slot_at-behind, place_rises, map_rises, filter_rises, slot_cmp_total, tree_order_total, state_keeps_order}
 use Rattle.qfs_meta.proofs.TableLaws.{change_where-map}
 
 one_more : {X : Type 0} (xs : List X) (x : X) → length xs + 1 < 2 ^ 32 → length (xs ++ x ∷ []) < 2 ^ 32
@@ -47,6 +49,18 @@ sealed_rise file rows rising =
     subst (IsRising slot_cmp) (sym (change_where-map (is_of_file file) (change_state sealed_slot) rows))
     (map_rises slot_cmp (λ row. change_row (change_state sealed_slot) row (is_of_file file row)) rows (state_keeps_order sealed_slot (is_of_file file)) rising)
 
+path_stays : (row : TreeRow) (b : Bool) → (change_row close_row row b).path ≡ row.path
+unfolding close_row
+path_stays row true = refl
+path_stays row false = refl
+
+closed_rise : (file : ℕ) (rows : List TreeRow) → IsRising (row_cmp row_path) rows → IsRising (row_cmp row_path) (close_file file rows)
+unfolding close_file
+closed_rise file rows rising =
+    subst (IsRising (row_cmp row_path)) (sym (change_where-map (has_file file) close_row rows))
+    (map_rises (row_cmp row_path) (λ row. change_row close_row row (has_file file row)) rows
+    (λ a b i. path_cmp (path_stays a (has_file file a) i) (path_stays b (has_file file b) i)) rising)
+
 pub placed_rows : {X : Type 0} (P : X → Type 0) (order : X → X → Ordering) (new : X) (rows : List X) → P new → All P rows → All P (place order new rows)
 placed_rows P order new [] holds all = All-cons P new [] holds all
 placed_rows P order new (row ∷ rows) holds all =
@@ -58,26 +72,28 @@ placed_rows P order new (row ∷ rows) holds all =
 
 pub kept-create : (m : MetaImage) (path : PathNames) (actor command len : ℕ) → IsKept m →
     m.next_file + 1 < 2 ^ 32 → length m.history + 1 < 2 ^ 32 → IsKept (next_turn (apply m (AddFile path actor command len)))
-unfolding next_turn apply add_file write_entry
+unfolding next_turn apply add_file write_entry add_row added file_row
 kept-create m path actor command len kept file place = record {
   files = file;
   leases = kept.leases;
   condemned = kept.condemned;
   places = one_more m.history _ place;
   servers = kept.servers;
+  tree = place_rises tree_order_total _ m.tree kept.tree;
   slots = kept.slots;
   grants = kept.grants;
 }
 
 pub kept-close : (m : MetaImage) (file actor command : ℕ) → IsKept m →
     length m.history + 1 < 2 ^ 32 → IsKept (next_turn (apply m (CloseFile file actor command)))
-unfolding next_turn apply write_entry with_slots
+unfolding next_turn apply write_entry with_slots close_file
 kept-close m file actor command kept place = record {
   files = kept.files;
   leases = kept.leases;
   condemned = kept.condemned;
   places = one_more m.history _ place;
   servers = kept.servers;
+  tree = closed_rise file m.tree kept.tree;
   slots = sealed_rise file m.slots kept.slots;
   grants = sealed_rows file m.slots kept.grants;
 }
@@ -90,6 +106,7 @@ kept-lease m actor file kept lease = record {
   condemned = kept.condemned;
   places = kept.places;
   servers = kept.servers;
+  tree = kept.tree;
   slots = kept.slots;
   grants = kept.grants;
 }
@@ -102,6 +119,7 @@ kept-release m lease kept = record {
   condemned = kept.condemned;
   places = kept.places;
   servers = kept.servers;
+  tree = kept.tree;
   slots = kept.slots;
   grants = kept.grants;
 }
@@ -115,6 +133,7 @@ kept-grant m id server actor kept number = record {
   condemned = kept.condemned;
   places = kept.places;
   servers = kept.servers;
+  tree = kept.tree;
   slots = place_rises slot_cmp_total _ m.slots kept.slots;
   grants = placed_rows IsGrantedOnServer slot_cmp _ m.slots number kept.grants;
 }
@@ -129,6 +148,10 @@ pub freed_granted : (id : SlotId) (server : ℕ) (rows : List SlotRow) → AreGr
 freed_granted id server rows granted =
     All-map IsGrantedOnServer (freed_row id server) rows (All-weaker IsGrantedOnServer _ (freed_row_granted id server) rows granted)
 
+pub freed_rises : (id : SlotId) (server : ℕ) (rows : List SlotRow) → IsRising slot_cmp rows → IsRising slot_cmp (freed_slots id server rows)
+freed_rises id server rows rising =
+    map_rises slot_cmp (freed_row id server) rows (state_keeps_order (λ state. failed_slot server (ungranted_slot state)) (is_slot id.block id.slot)) rising
+
 -- what condemning a copy leaves alone
 pub condemn-kept : (id : SlotId) (copy : Copy) (m : MetaImage) → IsKept m → (condemn id.block id.slot copy m).next_condemned < 2 ^ 64 → IsKept (condemn id.block id.slot copy m)
 unfolding condemn list_if_live
@@ -140,6 +163,7 @@ condemn-kept id copy m kept fits =
         condemned = fits;
         places = kept.places;
         servers = kept.servers;
+        tree = kept.tree;
         slots = kept.slots;
         grants = kept.grants;
       }
@@ -156,19 +180,20 @@ kept-again m n id failed server actor kept number rest = record {
   condemned = rest.condemned;
   places = rest.places;
   servers = rest.servers;
-  slots = place_rises slot_cmp_total _ (freed_slots id failed m.slots)
-      (map_rises slot_cmp (freed_row id failed) m.slots (state_keeps_order (λ state. failed_slot failed (ungranted_slot state)) (is_slot id.block id.slot)) kept.slots);
+  tree = rest.tree;
+  slots = place_rises slot_cmp_total _ (freed_slots id failed m.slots) (freed_rises id failed m.slots kept.slots);
   grants = placed_rows IsGrantedOnServer slot_cmp _ (freed_slots id failed m.slots) number (freed_granted id failed m.slots kept.grants);
 }
 
 pub kept-abort : (m : MetaImage) (file : ℕ) → IsKept m → length m.history + 1 < 2 ^ 32 → (aborting file m).next_condemned < 2 ^ 64 → IsKept (next_turn (aborting file m))
-unfolding next_turn forget_file
+unfolding next_turn forget_file take_file
 kept-abort m file kept place fits = record {
   files = kept.files;
   leases = kept.leases;
   condemned = fits;
   places = one_more m.history _ place;
   servers = kept.servers;
+  tree = filter_rises (row_cmp row_path) (λ row. not (has_file file row)) m.tree kept.tree;
   slots = filter_rises slot_cmp (λ row. not (is_of_file file row)) m.slots kept.slots;
   grants = All-filter (λ row. not (is_of_file file row)) IsGrantedOnServer m.slots kept.grants;
 }

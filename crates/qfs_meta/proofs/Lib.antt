@@ -3,6 +3,7 @@ pub mod GetLaws
 pub mod GrantLaws
 pub mod KeptLaws
 pub mod ListedLaws
+pub mod LoadLaws
 pub mod PutLaws
 pub mod RequestLaws
 pub mod ServerLaws
@@ -10,4 +11,6 @@ pub mod StepLaws
 pub mod TableLaws
 pub mod TreeLaws
 pub mod RisingLaws
+pub mod RunLaws
+pub mod SlotLaws
 pub mod CondemnLaws

@@ -3,6 +3,7 @@ use Rattle.std.proofs.Common.{◌≡◌, ℕ, Bool, true, false, cond, ◌&&◌,
 use Rattle.std.specs.Option.{option_map}
 use Rattle.std.specs.Prelude.{◌==◌, unwrap_or}
 use Rattle.std.specs.Cmp.{IsTotalOrder, nat_cmp_total, on_total, then_total, tied_itself}
+use Rattle.std.specs.Cmp.Lexicographic.{nat_list_cmp_total, lists_total}
 use Rattle.std.specs.Ordering.{nat_cmp, ordering_then, ordering_reverse}
 use Rattle.std.specs.declared.cmp.Ordering.{Ordering}
 use Rattle.std.specs.declared.cmp.Ordering.TheVariants.{Less, Equal, Greater}
@@ -12,7 +13,9 @@ use Rattle.qfs_base.specs.declared.image.SlotRecord.{SlotRecord}
 use Rattle.qfs_base.specs.declared.image.SlotRow.{SlotRow}
 use Rattle.qfs_base.specs.Key.{block_cmp}
 use Rattle.qfs_base.specs.KeyLaws.{block_cmp_total}
+use Rattle.qfs_base.specs.NameTree.{row_cmp}
 use Rattle.qfs_base.specs.Table.{Each, IsRising, place, place_before, change_row, change_where}
+use Rattle.qfs_model_meta.specs.TreeRows.{row_path}
 use Rattle.qfs_model_meta.specs.Slots.{same_block, is_slot, slot_cmp, slot_at, change_state, change_slot, never_granted}
 
 -- ---- facts of each row
@@ -82,6 +85,11 @@ pub map_rises : {X : Type 0} (order : X → X → Ordering) (f : X → X) (rows 
 map_rises order f [] same rising = tt
 map_rises order f (row ∷ rows) same rising =
     (each_mapped _ f rows (each_weaker _ _ (λ later above. same row later ∙ above) rows rising.0), map_rises order f rows same rising.1)
+
+-- ---- the tree
+
+pub tree_order_total : IsTotalOrder (row_cmp row_path)
+tree_order_total = on_total row_path (lists_total nat_list_cmp_total)
 
 -- ---- slots
 

@@ -3,8 +3,10 @@ use Rattle.std.specs.Prelude.{ℕ, ◌<◌, ◌≤◌, ◌^◌, List, length, Al
 use Rattle.qfs_base.specs.declared.image.Grant.{Grant}
 use Rattle.qfs_base.specs.declared.image.MetaImage.{MetaImage}
 use Rattle.qfs_base.specs.declared.image.SlotRow.{SlotRow}
+use Rattle.qfs_base.specs.NameTree.{row_cmp}
 use Rattle.qfs_base.specs.Table.{IsRising}
 use Rattle.qfs_model_meta.specs.Slots.{slot_cmp}
+use Rattle.qfs_model_meta.specs.TreeRows.{row_path}
 
 -- the most chunk servers
 abbrev pub most_servers : ℕ
@@ -22,12 +24,14 @@ abbrev pub AreGrantedOnServers : List SlotRow → Type 0
 AreGrantedOnServers slots = All IsGrantedOnServer slots
 
 -- no counter has passed its type's last value, a place can name each entry of the history, there are
--- at most 64 servers, slots are in their order without repeats, and grants are on servers
+-- at most 64 servers, the tree and the slots are in their order without repeats, and grants are on
+-- servers
 pub record IsKept (m : MetaImage) : Type 0 where
   pub files : m.next_file < 2 ^ 32
   pub leases : m.next_lease < 2 ^ 64
   pub condemned : m.next_condemned < 2 ^ 64
   pub places : length m.history < 2 ^ 32
   pub servers : length m.servers ≤ most_servers
+  pub tree : IsRising (row_cmp row_path) m.tree
   pub slots : IsRising slot_cmp m.slots
   pub grants : AreGrantedOnServers m.slots

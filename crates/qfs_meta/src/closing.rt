@@ -1,16 +1,20 @@
 //! Which slots of a file lack a grant, and what closing it changes.
-ghost use Rattle.std.specs.Prelude.{◌≡◌, map, filter, find, OnOk, OnErr};
+ghost use Rattle.std.specs.Prelude.{◌≡◌, ◌≤◌, length, map, filter, find, OnOk, OnErr};
+ghost use Rattle.qfs_base.specs.Table.{IsRising};
 ghost use Rattle.qfs_model_meta.specs.Apply.{apply};
 ghost use Rattle.qfs_model_meta.specs.Change.{CloseFile};
 ghost use Rattle.qfs_model_meta.specs.PutRequests.{lacks_grant, slot_id, block_slots, file_slots, first_ungranted};
-ghost use Rattle.qfs_model_meta.specs.Slots.{slots_of};
+ghost use Rattle.qfs_model_meta.specs.Slots.{slot_cmp, slots_of, seal_file};
+ghost use Rattle.qfs_meta.specs.Kept.{IsKept, most_servers};
+ghost use Rattle.qfs_meta.specs.Loads.{loads_of};
 
 use crate::listed::SLOTS;
-use crate::rows::{RowChange, change_rows};
-use crate::slots::{granted_copy, slot_at};
+use crate::loads::{count, uncount};
+use crate::rows::{RowChange, change_rows, change_run, run_of};
+use crate::slots::{granted_copy, slot_at, slots_of};
 use qfs_base::chunk::BlockId;
 use qfs_base::history::Entry;
-use qfs_base::image::{MetaImage, SlotRow, TreeRow};
+use qfs_base::image::{MetaImage, RecordList, ServerView, SlotRow, TreeRow};
 use qfs_base::numbers::{ActorId, FileId};
 use qfs_base::request::SlotId;
 use qfs_base::server_set::ServerSet;
@@ -19,6 +23,7 @@ use std::alloc::{AllocError, Global};
 /// Whether a slot has no pending grant.
 #[tactic(auto, unfolding(qfs_model_meta::specs::PutRequests::lacks_grant))]
 fn lacks_grant(slots: &[SlotRow], id: SlotId) -> bool
+    requires { IsRising slot_cmp slots.now }
     ensures { result ≡ lacks_grant slots.now id }
 {
     slot_at(slots, id.block, id.slot).grant.is_none()
@@ -38,6 +43,7 @@ fn slot_id(row: &SlotRow) -> SlotId
 /// The first slot of a block without a pending grant.
 #[tactic(auto, using(crate::proofs::ListedLaws::find_steps), unfolding(qfs_model_meta::specs::PutRequests::block_slots))]
 fn ungranted_in_block(slots: &[SlotRow], block: BlockId) -> Option<SlotId>
+    requires { IsRising slot_cmp slots.now }
     ensures { result ≡ find (lacks_grant slots.now) (block_slots block) }
 {
     for slot in 0..SLOTS {
@@ -52,6 +58,7 @@ fn ungranted_in_block(slots: &[SlotRow], block: BlockId) -> Option<SlotId>
 /// The first slot of so many blocks of a file without a pending grant.
 #[tactic(auto, using(crate::proofs::ListedLaws::find_flat_steps), unfolding(qfs_model_meta::specs::PutRequests::file_slots))]
 fn ungranted_in_blocks(slots: &[SlotRow], file: FileId, count: u32) -> Option<SlotId>
+    requires { IsRising slot_cmp slots.now }
     ensures { result ≡ find (lacks_grant slots.now) (file_slots file count) }
 {
     for index in 0..count {
@@ -63,13 +70,12 @@ fn ungranted_in_blocks(slots: &[SlotRow], file: FileId, count: u32) -> Option<Sl
 }
 
 /// The first slot of a file without a pending grant among those that the table holds.
-#[tactic(auto, unfolding(qfs_model_meta::specs::Slots::slots_of, qfs_model_meta::specs::Slots::is_of_file))]
 fn ungranted_in_table(slots: &[SlotRow], file: FileId) -> Option<SlotId>
+    requires { IsRising slot_cmp slots.now }
     ensures { result ≡ find (lacks_grant slots.now) (map slot_id (slots_of file slots.now)) }
 {
-    slots
+    slots_of(slots, file)
         .iter()
-        .filter(|row| row.block.file == file)
         .map(|row| slot_id(row))
         .find(|id| lacks_grant(slots, *id))
 }
@@ -78,6 +84,7 @@ fn ungranted_in_table(slots: &[SlotRow], file: FileId) -> Option<SlotId>
 /// table holds beyond them.
 #[tactic(auto, using(crate::proofs::ListedLaws::find_append), unfolding(qfs_model_meta::specs::PutRequests::first_ungranted))]
 pub fn first_ungranted(slots: &[SlotRow], file: FileId, count: u32) -> Option<SlotId>
+    requires { IsRising slot_cmp slots.now }
     ensures { result ≡ first_ungranted file count slots.now }
 {
     match ungranted_in_blocks(slots, file, count) {
@@ -86,26 +93,41 @@ pub fn first_ungranted(slots: &[SlotRow], file: FileId, count: u32) -> Option<Sl
     }
 }
 
-/// All grants of a file become current, and no server counts as failed any more.
+/// A slot's grant becomes current, and no server counts as failed any more.
 #[derive(Drop)]
-struct SealFile {
-    file: FileId,
+struct Seal;
+
+impl RowChange<SlotRow> for Seal {
+    ghost use Rattle.qfs_model_meta.specs.Slots.{change_state, sealed_slot};
+
+    ghost changed = { λ seal row. change_state sealed_slot row };
+
+    #[tactic(auto, unfolding(qfs_model_meta::specs::Slots::change_state, qfs_model_meta::specs::Slots::sealed_slot))]
+    fn change(&self, row: &mut SlotRow) {
+        row.state.current = granted_copy(row.state.grant);
+        row.state.grant = None;
+        row.state.failed = ServerSet::none();
+    }
 }
 
-impl RowChange<SlotRow> for SealFile {
-    ghost use Rattle.qfs_base.specs.Table.{change_row};
-    ghost use Rattle.qfs_model_meta.specs.Slots.{change_state, sealed_slot, is_of_file};
-
-    ghost changed = { λ seal row. change_row (change_state sealed_slot) row (is_of_file seal.file row) };
-
-    #[tactic(auto, unfolding(qfs_model_meta::specs::Slots::change_state, qfs_model_meta::specs::Slots::sealed_slot, qfs_model_meta::specs::Slots::is_of_file))]
-    fn change(&self, row: &mut SlotRow) {
-        if row.block.file == self.file {
-            row.state.current = granted_copy(row.state.grant);
-            row.state.grant = None;
-            row.state.failed = ServerSet::none();
-        }
-    }
+/// All grants of a file become current.
+fn seal_file(
+    alloc: Global,
+    servers: &[ServerView],
+    slots: &mut RecordList,
+    loads: &mut [usize],
+    file: FileId,
+)
+    requires servers { length servers.now ≤ most_servers }
+    requires order { IsRising slot_cmp slots.old }
+    requires loads { loads.old ≡ loads_of servers.now slots.old }
+    ensures slots { slots.new ≡ seal_file file slots.old }
+    ensures loads { loads.new ≡ loads_of servers.now slots.new }
+{
+    let run = run_of(slots.as_slice(), &file);
+    uncount(loads, servers, slots.as_slice(), run);
+    change_run(alloc, slots, run, &Seal);
+    count(loads, servers, slots.as_slice(), run);
 }
 
 /// A file's row is closed.
@@ -132,15 +154,25 @@ impl RowChange<TreeRow> for CloseRow {
 pub fn close_file(
     alloc: Global,
     image: &mut MetaImage,
+    loads: &mut [usize],
     file: FileId,
     actor: ActorId,
     command: u16,
 ) -> Result<(), AllocError>
+    requires kept { IsKept image.old }
+    requires loads { loads.old ≡ loads_of image.old.servers image.old.slots }
     ensures ok { OnOk result (image.new ≡ apply image.old (CloseFile file actor command)) }
     ensures err { OnErr result (image.new ≡ image.old) }
+    ensures loads { loads.new ≡ loads_of image.new.servers image.new.slots }
 {
     image.history.push(Entry::Closed(file, actor, command))?;
-    change_rows(alloc, &mut image.slots, &SealFile { file });
+    seal_file(
+        alloc,
+        image.servers.as_slice(),
+        &mut image.slots,
+        loads,
+        file,
+    );
     change_rows(alloc, &mut image.tree, &CloseRow { file });
     Ok(())
 }

@@ -1,11 +1,13 @@
 //! Condemned copies: each waits for its deletion behind the live leases on its file.
 ghost use Rattle.std.specs.Prelude.{◌≡◌, ◌+◌, ◌<◌, ◌^◌, length, IfOk, OnOk, OnErr};
+ghost use Rattle.qfs_base.specs.Table.{IsRising};
 ghost use Rattle.qfs_model_meta.specs.Condemned.{condemned_row, condemn};
 ghost use Rattle.qfs_model_meta.specs.Leases.{leases_on};
-ghost use Rattle.qfs_model_meta.specs.Slots.{slots_of};
+ghost use Rattle.qfs_model_meta.specs.Slots.{slot_cmp, slots_of};
 ghost use Rattle.qfs_meta.specs.Condemning.{condemned_rows, condemning, live_grant, live_grants};
 
 use crate::servers::is_live;
+use crate::slots::slots_of;
 use qfs_base::chunk::Copy as ChunkCopy;
 use qfs_base::image::{CondemnedRow, Lease, MetaImage, ServerView, SlotRow};
 use qfs_base::listing::Listing;
@@ -131,18 +133,17 @@ fn live_grant(servers: &[ServerView], row: &SlotRow) -> Option<SlotCopy>
 }
 
 /// The copies that the pending grants of a file's slots allow, where they are live.
-#[tactic(auto, unfolding(qfs_model_meta::specs::Slots::slots_of, qfs_model_meta::specs::Slots::is_of_file))]
 pub fn live_grants(
     alloc: Global,
     servers: &[ServerView],
     slots: &[SlotRow],
     file: FileId,
 ) -> Result<Vec<SlotCopy>, AllocError>
+    requires { IsRising slot_cmp slots.now }
     ensures { IfOk result (λ copies. copies.items ≡ live_grants servers.now (slots_of file slots.now)) }
 {
-    slots
+    slots_of(slots, file)
         .iter()
-        .filter(|row| row.block.file == file)
         .filter_map(|row| live_grant(servers, row))
         .collect(alloc)
 }

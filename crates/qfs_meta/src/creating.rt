@@ -1,9 +1,12 @@
 //! What making a file changes.
 ghost use Rattle.std.specs.Prelude.{◌≡◌, ◌+◌, ◌<◌, ◌^◌, IfOk, OnOk, OnErr};
+ghost use Rattle.qfs_base.specs.NameTree.{row_cmp};
+ghost use Rattle.qfs_base.specs.Table.{IsRising};
 ghost use Rattle.qfs_model_meta.specs.Apply.{apply};
 ghost use Rattle.qfs_model_meta.specs.Change.{AddFile};
+ghost use Rattle.qfs_model_meta.specs.TreeRows.{row_path};
 
-use crate::rows::{Row, place};
+use crate::rows::{Key, place};
 use qfs_base::history::Entry;
 use qfs_base::image::{MetaImage, TreeRow};
 use qfs_base::numbers::ActorId;
@@ -11,14 +14,14 @@ use qfs_base::path::Path;
 use std::alloc::AllocError;
 use std::cmp::Ordering;
 
-impl Row for TreeRow {
+impl Key<TreeRow> for TreeRow {
     ghost use Rattle.qfs_base.specs.NameTree.{row_cmp};
     ghost use Rattle.qfs_model_meta.specs.TreeRows.{row_path};
 
     ghost order = { row_cmp row_path };
 
-    fn order(&self, other: &Self) -> Ordering {
-        self.path.cmp(&other.path)
+    fn order(&self, row: &TreeRow) -> Ordering {
+        self.path.cmp(&row.path)
     }
 }
 
@@ -38,7 +41,8 @@ pub fn add_file(
     command: u16,
     len: u32,
 ) -> Result<(), AllocError>
-    requires { image.old.next_file + 1 < 2 ^ 32 }
+    requires order { IsRising (row_cmp row_path) image.old.tree }
+    requires number { image.old.next_file + 1 < 2 ^ 32 }
     ensures ok { OnOk result (image.new ≡ apply image.old (AddFile path.now actor command len)) }
     ensures err { OnErr result (image.new ≡ image.old) }
 {

@@ -4,6 +4,7 @@ ghost use Rattle.qfs_model_meta.specs.Apply.{apply};
 ghost use Rattle.qfs_model_meta.specs.Change.{GiveLease, EndLease};
 ghost use Rattle.qfs_model_meta.specs.GetRequests.{decide_open, decide_release};
 ghost use Rattle.qfs_meta.specs.Kept.{IsKept};
+ghost use Rattle.qfs_meta.specs.Loads.{loads_of};
 ghost use Rattle.qfs_meta.specs.Serving.{Serves};
 
 use crate::leases::{Unblock, end_lease, holds_lease};
@@ -43,6 +44,7 @@ pub fn open(
     ensures ok { IfOk result (λ reply. Serves image.old (decide_open layout.now actor path.now image.old) image.new reply) }
     ensures err { OnErr result (image.new ≡ image.old) }
     ensures kept { IsKept image.new }
+    ensures loads { loads_of image.new.servers image.new.slots ≡ loads_of image.old.servers image.old.slots }
 {
     let place = next_place(image);
     if let Some(refusal) = look_refusal(image.tree.as_slice(), path) {
@@ -85,6 +87,7 @@ pub fn release(alloc: Global, image: &mut MetaImage, actor: ActorId, lease: Leas
     requires { IsKept image.old }
     ensures served { Serves image.old (decide_release actor lease image.old) image.new result }
     ensures kept { IsKept image.new }
+    ensures loads { loads_of image.new.servers image.new.slots ≡ loads_of image.old.servers image.old.slots }
 {
     let place = next_place(image);
     if !holds_lease(image.leases.as_slice(), actor, lease) {

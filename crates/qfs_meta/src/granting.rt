@@ -1,19 +1,21 @@
 //! The grant of a slot for a put.
 ghost use Rattle.std.specs.Prelude.{◌≡◌, ◌<◌, ◌≤◌, [], ◌∷◌, Some, length, map, IfOk, IfSome, OnOk, OnErr};
+ghost use Rattle.qfs_base.specs.Table.{IsRising};
 ghost use Rattle.qfs_model_meta.specs.Apply.{apply};
 ghost use Rattle.qfs_model_meta.specs.Change.{FailGrant};
 ghost use Rattle.qfs_model_meta.specs.Lists.{block_count};
 ghost use Rattle.qfs_model_meta.specs.PutRequests.{grant_after, decide_grant};
-ghost use Rattle.qfs_model_meta.specs.Slots.{slot_at, granted_slot};
+ghost use Rattle.qfs_model_meta.specs.Slots.{slot_at, granted_slot, slot_cmp};
 ghost use Rattle.qfs_meta.specs.Granting.{chosen_in, told_in, granted_in, freed_row, freed_slots};
 ghost use Rattle.qfs_meta.specs.Kept.{IsKept, IsServerNumber, AreGrantedOnServers, most_servers};
+ghost use Rattle.qfs_meta.specs.Loads.{loads_of};
 ghost use Rattle.qfs_meta.specs.Serving.{Serves};
 
 use crate::census::{barred_for_put, choose};
 use crate::condemning::condemn;
 use crate::listed::no_sources;
+use crate::loads::{loads_of, place_slot};
 use crate::names::unclosed_file;
-use crate::rows::place;
 use crate::servers::server_at;
 use crate::slots::slot_at;
 use crate::turn::raise_turn;
@@ -50,15 +52,22 @@ fn granted(state: &SlotRecord, server: ServerId, life: Life, actor: ActorId) -> 
 }
 
 /// The server that a put of a slot is granted, if one is open for it.
-fn chosen_in(servers: &[ServerView], slots: &[SlotRow], id: SlotId) -> Option<ServerId>
+fn chosen_in(
+    servers: &[ServerView],
+    slots: &[SlotRow],
+    loads: &[usize],
+    id: SlotId,
+) -> Option<ServerId>
     requires servers { length servers.now ≤ most_servers }
+    requires order { IsRising slot_cmp slots.now }
     requires grants { AreGrantedOnServers slots.now }
+    requires loads { loads.now ≡ loads_of servers.now slots.now }
     ensures chosen { result ≡ chosen_in servers.now slots.now id }
     ensures number { IfSome result IsServerNumber }
 {
     let record = slot_at(slots, id.block, id.slot);
     let barred = barred_for_put(servers, slots, id.block, record.failed);
-    choose(servers, slots, barred)
+    choose(servers, loads, barred)
 }
 
 /// Gives a slot a grant on a server, in the life that is known of it. On want of memory the slots
@@ -66,12 +75,17 @@ fn chosen_in(servers: &[ServerView], slots: &[SlotRow], id: SlotId) -> Option<Se
 fn grant_in(
     servers: &[ServerView],
     slots: &mut RecordList,
+    loads: &mut [usize],
     id: SlotId,
     server: ServerId,
     actor: ActorId,
 ) -> Result<(), AllocError>
+    requires servers { length servers.now ≤ most_servers }
+    requires order { IsRising slot_cmp slots.old }
+    requires loads { loads.old ≡ loads_of servers.now slots.old }
     ensures ok { OnOk result (slots.new ≡ granted_in servers.now slots.old id server actor) }
     ensures err { OnErr result (slots.new ≡ slots.old) }
+    ensures loads { loads.new ≡ loads_of servers.now slots.new }
 {
     let life = server_at(servers, server).life;
     let before = slot_at(slots.as_slice(), id.block, id.slot);
@@ -81,7 +95,7 @@ fn grant_in(
         slot: id.slot,
         state,
     };
-    place(slots, row)
+    place_slot(servers, slots, loads, row)
 }
 
 /// What a put of a file of `len` bytes is told of the grant that it is about to get.
@@ -94,7 +108,8 @@ fn told_in(
     slots: &[SlotRow],
     server: ServerId,
 ) -> Result<Granted, AllocError>
-    requires { id.block.index < block_count layout.now len }
+    requires order { IsRising slot_cmp slots.now }
+    requires index { id.block.index < block_count layout.now len }
     ensures { IfOk result (λ told. told ≡ told_in layout.now len id servers.now slots.now server) }
 {
     let record = slot_at(slots, id.block, id.slot);
@@ -116,19 +131,22 @@ fn grant_first(
     alloc: Global,
     layout: &Layout,
     image: &mut MetaImage,
+    loads: &mut [usize],
     actor: ActorId,
     len: u32,
     id: SlotId,
 ) -> Result<MetaReply, AllocError>
     requires kept { IsKept image.old }
+    requires loads { loads.old ≡ loads_of image.old.servers image.old.slots }
     requires index { id.block.index < block_count layout.now len }
     ensures ok { IfOk result (λ reply. Serves image.old (grant_after layout.now actor len id.block id.slot [] image.old) image.new reply) }
     ensures err { OnErr result (image.new ≡ image.old) }
     ensures kept { IsKept image.new }
+    ensures loads { loads.new ≡ loads_of image.new.servers image.new.slots }
 {
     let servers = image.servers.as_slice();
     let slots = image.slots.as_slice();
-    let Some(server) = chosen_in(servers, slots, id) else {
+    let Some(server) = chosen_in(servers, slots, loads, id) else {
         return Ok(MetaReply::NoServer {
             block: id.block,
             slot: id.slot,
@@ -138,6 +156,7 @@ fn grant_first(
     grant_in(
         image.servers.as_slice(),
         &mut image.slots,
+        loads,
         id,
         server,
         actor,
@@ -183,31 +202,37 @@ fn grant_again(
     alloc: Global,
     layout: &Layout,
     image: &mut MetaImage,
+    loads: &mut [usize],
     actor: ActorId,
     len: u32,
     id: SlotId,
     pending: Grant,
 ) -> Result<MetaReply, AllocError>
     requires kept { IsKept image.old }
+    requires loads { loads.old ≡ loads_of image.old.servers image.old.slots }
     requires index { id.block.index < block_count layout.now len }
     requires pending { (slot_at image.old.slots id.block id.slot).grant ≡ Some pending }
     ensures ok { IfOk result (λ reply. Serves image.old (grant_after layout.now actor len id.block id.slot (FailGrant id.block id.slot ∷ []) (apply image.old (FailGrant id.block id.slot))) image.new reply) }
     ensures err { OnErr result (image.new ≡ image.old) }
     ensures kept { IsKept image.new }
+    ensures loads { loads.new ≡ loads_of image.new.servers image.new.slots }
 {
     let servers = image.servers.as_slice();
     let rows = freed_slots(alloc, image.slots.as_slice(), id, pending.copy.server)?;
     let mut freed = Listing::from_vec(rows);
-    let Some(server) = chosen_in(servers, freed.as_slice(), id) else {
+    let mut counted = loads_of(alloc, servers, freed.as_slice())?;
+    let freed_loads = counted.as_mut_slice();
+    let Some(server) = chosen_in(servers, freed.as_slice(), freed_loads, id) else {
         return Ok(MetaReply::NoServer {
             block: id.block,
             slot: id.slot,
         });
     };
     let told = told_in(alloc, layout, len, id, servers, freed.as_slice(), server)?;
-    grant_in(servers, &mut freed, id, server, actor)?;
+    grant_in(servers, &mut freed, freed_loads, id, server, actor)?;
     condemn(alloc, image, id, pending.copy)?;
     image.slots = freed;
+    loads.copy_from_slice(freed_loads);
     raise_turn(image);
     Ok(MetaReply::Granted(told))
 }
@@ -218,14 +243,17 @@ pub fn grant(
     alloc: Global,
     layout: &Layout,
     image: &mut MetaImage,
+    loads: &mut [usize],
     actor: ActorId,
     id: SlotId,
     again: bool,
 ) -> Result<MetaReply, AllocError>
-    requires { IsKept image.old }
+    requires kept { IsKept image.old }
+    requires loads { loads.old ≡ loads_of image.old.servers image.old.slots }
     ensures ok { IfOk result (λ reply. Serves image.old (decide_grant layout.now actor id.block id.slot again image.old) image.new reply) }
     ensures err { OnErr result (image.new ≡ image.old) }
     ensures kept { IsKept image.new }
+    ensures loads { loads.new ≡ loads_of image.new.servers image.new.slots }
 {
     let Some(row) = unclosed_file(image.tree.as_slice(), actor, id.block.file) else {
         return Ok(MetaReply::Gone);
@@ -235,12 +263,12 @@ pub fn grant(
         return Ok(MetaReply::NoBlock);
     }
     let Some(pending) = slot_at(image.slots.as_slice(), id.block, id.slot).grant else {
-        return grant_first(alloc, layout, image, actor, len, id);
+        return grant_first(alloc, layout, image, loads, actor, len, id);
     };
     if !again {
         return Ok(MetaReply::Taken {
             version: pending.copy.version,
         });
     }
-    grant_again(alloc, layout, image, actor, len, id, pending)
+    grant_again(alloc, layout, image, loads, actor, len, id, pending)
 }

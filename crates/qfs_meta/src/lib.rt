@@ -1,4 +1,4 @@
-//! The metaserver in memory, over plain lists: which requests it refuses, and what the others
+//! The metaserver in memory, over sorted lists: which requests it refuses, and what the others
 //! change.
 #![tactic(auto)]
 
@@ -11,6 +11,7 @@ mod gets;
 mod granting;
 mod leases;
 mod listed;
+mod loads;
 mod meta;
 mod names;
 mod puts;

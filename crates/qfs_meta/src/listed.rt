@@ -1,6 +1,8 @@
 //! What actors are told of blocks: the copies of their slots that are listed.
 ghost use Rattle.std.specs.Prelude.{◌≡◌, IfOk};
+ghost use Rattle.qfs_base.specs.Table.{IsRising};
 ghost use Rattle.qfs_model_meta.specs.Lists.{no_sources, listed_nine, listed_blocks};
+ghost use Rattle.qfs_model_meta.specs.Slots.{slot_cmp};
 
 use crate::servers::listed_copy;
 use crate::slots::slot_at;
@@ -29,6 +31,7 @@ fn listed_nine(
     slots: &[SlotRow],
     block: BlockId,
 ) -> Result<Nine, AllocError>
+    requires { IsRising slot_cmp slots.now }
     ensures { IfOk result (λ nine. nine ≡ listed_nine servers.now slots.now block) }
 {
     let mut nine = Listing::with_capacity(alloc, SLOTS as usize)?;
@@ -47,6 +50,7 @@ pub fn listed_blocks(
     file: FileId,
     count: u32,
 ) -> Result<Listing<Nine>, AllocError>
+    requires { IsRising slot_cmp slots.now }
     ensures { IfOk result (λ blocks. blocks ≡ listed_blocks servers.now slots.now file count) }
 {
     let mut blocks = Listing::with_capacity(alloc, count as usize)?;

@@ -7,6 +7,7 @@ ghost use Rattle.qfs_model_meta.specs.Step.{meta_step, opening, first_server};
 ghost use Rattle.qfs_meta.specs.Metaserver.{is_built};
 ghost use Rattle.qfs_meta.specs.Serving.{IsNoFailure};
 
+use crate::loads::loads_of;
 use crate::requests::{is_built, serve_request};
 use qfs_base::image::{DroppedActor, MetaImage, ServerView, Servers};
 use qfs_base::listing::Listing;
@@ -35,17 +36,22 @@ pub struct Meta {
     alloc: Global,
     layout: Layout,
     image: MetaImage,
+    /// How many live copies and grants stand on each server, so that none is counted anew at each
+    /// grant.
+    loads: Vec<usize>,
 }
 
 impl Model for Meta {
+    ghost use Rattle.std.specs.Prelude.{◌≡◌};
     ghost use Rattle.qfs_meta.specs.Kept.{IsKept};
+    ghost use Rattle.qfs_meta.specs.Loads.{loads_of};
     ghost use Rattle.qfs_meta.specs.Metaserver.{Metaserver};
 
     ghost Value = { Metaserver };
 
     ghost view = { λ meta. record { layout = meta.layout; image = meta.image } };
 
-    ghost invariant = { λ meta. IsKept meta.image };
+    ghost invariant = { λ meta. IsKept meta.image × (meta.loads.items ≡ loads_of meta.image.servers meta.image.slots) };
 }
 
 /// The turn at which an actor was dropped, if it was.
@@ -74,13 +80,15 @@ impl Meta {
         requires { servers ≤ 64 }
         ensures { IfOk result (λ meta. (meta.layout ≡ layout) × (meta.image ≡ opening servers)) }
     {
+        let servers = first_servers(alloc, servers)?;
+        let loads = loads_of(alloc, servers.as_slice(), &[])?;
         let image = MetaImage {
             turn: 0,
             clock: 0,
             next_file: 1,
             next_lease: 1,
             next_condemned: 1,
-            servers: first_servers(alloc, servers)?,
+            servers,
             tree: Listing::new(alloc),
             slots: Listing::new(alloc),
             leases: Listing::new(alloc),
@@ -92,6 +100,7 @@ impl Meta {
             alloc,
             layout,
             image,
+            loads,
         })
     }
 
@@ -114,8 +123,14 @@ impl Meta {
         if let Some(turn) = dropped_at(self.image.dropped.as_slice(), actor) {
             return Ok(MetaReply::Dropped { turn });
         }
-        let Ok(reply) = serve_request(self.alloc, &self.layout, &mut self.image, actor, request)
-        else {
+        let Ok(reply) = serve_request(
+            self.alloc,
+            &self.layout,
+            &mut self.image,
+            self.loads.as_mut_slice(),
+            actor,
+            request,
+        ) else {
             return Ok(MetaReply::NoMemory);
         };
         Ok(reply)

@@ -3,6 +3,7 @@ ghost use Rattle.std.specs.Prelude.{◌≡◌, IfOk, OnErr};
 ghost use Rattle.qfs_base.specs.declared.chunk.BlockId.{BlockId};
 ghost use Rattle.qfs_model_meta.specs.PutRequests.{decide_create, decide_close, decide_abort};
 ghost use Rattle.qfs_meta.specs.Kept.{IsKept};
+ghost use Rattle.qfs_meta.specs.Loads.{loads_of};
 ghost use Rattle.qfs_meta.specs.Serving.{Serves};
 
 use crate::aborting::abort_file;
@@ -29,6 +30,7 @@ pub fn create(
     ensures ok { IfOk result (λ reply. Serves image.old (decide_create actor path.now command len image.old) image.new reply) }
     ensures err { OnErr result (image.new ≡ image.old) }
     ensures kept { IsKept image.new }
+    ensures loads { loads_of image.new.servers image.new.slots ≡ loads_of image.old.servers image.old.slots }
 {
     let place = next_place(image);
     if let Some(refusal) = add_refusal(image.tree.as_slice(), path) {
@@ -48,13 +50,16 @@ pub fn close(
     alloc: Global,
     layout: &Layout,
     image: &mut MetaImage,
+    loads: &mut [usize],
     actor: ActorId,
     file: FileId,
 ) -> Result<MetaReply, AllocError>
-    requires { IsKept image.old }
+    requires kept { IsKept image.old }
+    requires loads { loads.old ≡ loads_of image.old.servers image.old.slots }
     ensures ok { IfOk result (λ reply. Serves image.old (decide_close layout.now actor file image.old) image.new reply) }
     ensures err { OnErr result (image.new ≡ image.old) }
     ensures kept { IsKept image.new }
+    ensures loads { loads.new ≡ loads_of image.new.servers image.new.slots }
 {
     let Some(row) = unclosed_file(image.tree.as_slice(), actor, file) else {
         return Ok(MetaReply::Gone);
@@ -71,7 +76,7 @@ pub fn close(
     if place == Place::MAX {
         return Ok(MetaReply::NoMemory);
     }
-    close_file(alloc, image, file, actor, command)?;
+    close_file(alloc, image, loads, file, actor, command)?;
     raise_turn(image);
     Ok(MetaReply::Done { place })
 }
@@ -80,13 +85,16 @@ pub fn close(
 pub fn abort(
     alloc: Global,
     image: &mut MetaImage,
+    loads: &mut [usize],
     actor: ActorId,
     file: FileId,
 ) -> Result<MetaReply, AllocError>
-    requires { IsKept image.old }
+    requires kept { IsKept image.old }
+    requires loads { loads.old ≡ loads_of image.old.servers image.old.slots }
     ensures ok { IfOk result (λ reply. Serves image.old (decide_abort actor file image.old) image.new reply) }
     ensures err { OnErr result (image.new ≡ image.old) }
     ensures kept { IsKept image.new }
+    ensures loads { loads.new ≡ loads_of image.new.servers image.new.slots }
 {
     let Some(_row) = unclosed_file(image.tree.as_slice(), actor, file) else {
         return Ok(MetaReply::Gone);
@@ -95,7 +103,7 @@ pub fn abort(
     if place == Place::MAX {
         return Ok(MetaReply::NoMemory);
     }
-    abort_file(alloc, image, file)?;
+    abort_file(alloc, image, loads, file)?;
     raise_turn(image);
     Ok(MetaReply::Done { place })
 }

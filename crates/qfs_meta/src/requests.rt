@@ -2,6 +2,7 @@
 ghost use Rattle.std.specs.Prelude.{◌≡◌, true, IfOk, OnErr};
 ghost use Rattle.qfs_model_meta.specs.Decide.{decide};
 ghost use Rattle.qfs_meta.specs.Kept.{IsKept};
+ghost use Rattle.qfs_meta.specs.Loads.{loads_of};
 ghost use Rattle.qfs_meta.specs.Metaserver.{is_built};
 ghost use Rattle.qfs_meta.specs.Serving.{Serves};
 
@@ -37,14 +38,17 @@ pub fn serve_request(
     alloc: Global,
     layout: &Layout,
     image: &mut MetaImage,
+    loads: &mut [usize],
     actor: ActorId,
     request: &MetaRequest,
 ) -> Result<MetaReply, AllocError>
     requires kept { IsKept image.old }
+    requires loads { loads.old ≡ loads_of image.old.servers image.old.slots }
     requires built { is_built request.now ≡ true }
     ensures ok { IfOk result (λ reply. Serves image.old (decide layout.now actor image.old request.now) image.new reply) }
     ensures err { OnErr result (image.new ≡ image.old) }
     ensures kept { IsKept image.new }
+    ensures loads { loads.new ≡ loads_of image.new.servers image.new.slots }
 {
     match request {
         MetaRequest::Create { path, command, len } => create(image, actor, path, *command, *len),
@@ -62,10 +66,10 @@ pub fn serve_request(
                 index: *index,
             };
             let id = SlotId { block, slot: *slot };
-            grant(alloc, layout, image, actor, id, *again)
+            grant(alloc, layout, image, loads, actor, id, *again)
         }
-        MetaRequest::Close { file } => close(alloc, layout, image, actor, *file),
-        MetaRequest::Abort { file } => abort(alloc, image, actor, *file),
+        MetaRequest::Close { file } => close(alloc, layout, image, loads, actor, *file),
+        MetaRequest::Abort { file } => abort(alloc, image, loads, actor, *file),
         MetaRequest::OpenFile { path } => open(alloc, layout, image, actor, path),
         MetaRequest::Release { lease } => Ok(release(alloc, image, actor, *lease)),
         _ => unreachable!("only requests that are served come here"),

@@ -1,13 +1,57 @@
-//! The slots of blocks.
-ghost use Rattle.std.specs.Prelude.{◌≡◌};
-ghost use Rattle.qfs_model_meta.specs.Slots.{never_granted, slot_at, granted_copy};
+//! The slots of blocks: the table of their records, in their order.
+ghost use Rattle.std.specs.Prelude.{◌≡◌, filter};
+ghost use Rattle.qfs_base.specs.Table.{IsRising};
+ghost use Rattle.qfs_model_meta.specs.Slots.{never_granted, slot_at, granted_copy, slot_cmp, slots_of, is_of_block};
 
-use crate::rows::Row;
+use crate::rows::{Key, rows_of};
 use qfs_base::chunk::{BlockId, Copy};
 use qfs_base::image::{Grant, SlotRecord, SlotRow};
-use qfs_base::numbers::Slot;
+use qfs_base::numbers::{FileId, Slot};
+use qfs_base::request::SlotId;
 use qfs_base::server_set::ServerSet;
 use std::cmp::Ordering;
+
+impl Key<SlotRow> for SlotRow {
+    ghost use Rattle.qfs_model_meta.specs.Slots.{slot_cmp};
+
+    ghost order = { slot_cmp };
+
+    #[tactic(auto, unfolding(qfs_model_meta::specs::Slots::slot_cmp))]
+    fn order(&self, row: &SlotRow) -> Ordering {
+        self.block.cmp(&row.block).then(self.slot.cmp(&row.slot))
+    }
+}
+
+impl Key<SlotRow> for SlotId {
+    ghost use Rattle.std.specs.Ordering.{nat_cmp, ordering_then};
+    ghost use Rattle.qfs_base.specs.Key.{block_cmp};
+
+    ghost order = { λ id row. ordering_then (block_cmp id.block row.block) (nat_cmp id.slot row.slot) };
+
+    fn order(&self, row: &SlotRow) -> Ordering {
+        self.block.cmp(&row.block).then(self.slot.cmp(&row.slot))
+    }
+}
+
+impl Key<SlotRow> for BlockId {
+    ghost use Rattle.qfs_base.specs.Key.{block_cmp};
+
+    ghost order = { λ block row. block_cmp block row.block };
+
+    fn order(&self, row: &SlotRow) -> Ordering {
+        self.cmp(&row.block)
+    }
+}
+
+impl Key<SlotRow> for FileId {
+    ghost use Rattle.std.specs.Ordering.{nat_cmp};
+
+    ghost order = { λ file row. nat_cmp file row.block.file };
+
+    fn order(&self, row: &SlotRow) -> Ordering {
+        self.cmp(&row.block.file)
+    }
+}
 
 /// A slot that was never granted: versions start at 1.
 #[tactic(auto, unfolding(qfs_model_meta::specs::Slots::never_granted))]
@@ -22,15 +66,28 @@ fn never_granted() -> SlotRecord
     }
 }
 
+/// The rows of a file.
+pub fn slots_of(slots: &[SlotRow], file: FileId) -> &[SlotRow]
+    requires { IsRising slot_cmp slots.now }
+    ensures { result.now ≡ slots_of file slots.now }
+{
+    rows_of(slots, &file)
+}
+
+/// The rows of a block.
+pub fn slots_of_block(slots: &[SlotRow], block: BlockId) -> &[SlotRow]
+    requires { IsRising slot_cmp slots.now }
+    ensures { result.now ≡ filter (is_of_block block) slots.now }
+{
+    rows_of(slots, &block)
+}
+
 /// What is known of a slot.
-#[tactic(auto, unfolding(qfs_model_meta::specs::Slots::slot_at, qfs_model_meta::specs::Slots::is_slot, qfs_model_meta::specs::Slots::same_block))]
 pub fn slot_at(slots: &[SlotRow], block: BlockId, slot: Slot) -> SlotRecord
+    requires { IsRising slot_cmp slots.now }
     ensures { result ≡ slot_at slots.now block slot }
 {
-    match slots
-        .iter()
-        .find(|row| row.block == block && row.slot == slot)
-    {
+    match rows_of(slots, &SlotId { block, slot }).first() {
         Some(row) => row.state,
         None => never_granted(),
     }
@@ -42,17 +99,4 @@ pub fn granted_copy(grant: Option<Grant>) -> Option<Copy>
     ensures { result ≡ granted_copy grant }
 {
     grant.map(|grant| grant.copy)
-}
-
-impl Row for SlotRow {
-    ghost use Rattle.qfs_model_meta.specs.Slots.{slot_cmp};
-
-    ghost order = { slot_cmp };
-
-    #[tactic(auto, unfolding(qfs_model_meta::specs::Slots::slot_cmp))]
-    fn order(&self, other: &Self) -> Ordering {
-        self.block
-            .cmp(&other.block)
-            .then(self.slot.cmp(&other.slot))
-    }
 }

@@ -1,8 +1,10 @@
-use Rattle.std.proofs.Common.{◌≡◌, ◌+◌, ◌∙◌, ◌++◌, ◌∷◌, [], ap}
+use Rattle.std.proofs.Common.{false, ◌≡◌, ◌+◌, ◌∙◌, ◌++◌, ◌∷◌, [], ap}
 use Rattle.qfs_base.specs.declared.history.Entry.TheVariants as Wrote
 use Rattle.qfs_base.specs.NameTree.{added}
 use Rattle.qfs_model_meta.specs.Apply.{apply, add_file, write_entry}
 use Rattle.qfs_model_meta.specs.TreeRows.{add_row, file_row}
+use Rattle.qfs_meta.proofs.RisingLaws.{tree_order_total}
+use Rattle.qfs_meta.proofs.RunLaws.{by_row}
 use Rattle.qfs_meta.proofs.creating.add_file.Goals as goal
 
 pub returns-clause-ok : goal.returns-clause-ok
@@ -14,3 +16,6 @@ returns-clause-ok c =
     let history : c.push.new.self ≡ m.history ++ Wrote.Created m.next_file c.args.path.now ∷ [] =
     c.in_ok-push.ensures.ok ∙ ap (λ path. m.history ++ Wrote.Created m.next_file path ∷ []) c.in_ok-copy_path-2.ensures in
     λ i. record m { next_file = m.next_file + 1; tree = tree i; history = history i }
+
+pub place-requires : goal.place-requires
+place-requires c = by_row tree_order_total (record { path = _; file = 0; closed = false; actor = 0; command = 0; len = 0 }) c.args.image.now.tree c.requires.order

@@ -8,6 +8,7 @@ use Rattle.qfs_model_meta.specs.Lists.{block_count, listed_blocks}
 use Rattle.qfs_model_meta.specs.Step.{next_turn}
 use Rattle.qfs_model_meta.specs.TreeRows.{standing, row_at}
 use Rattle.qfs_meta.specs.Kept.{IsKept}
+use Rattle.qfs_meta.proofs.LoadLaws.{lease_given}
 use Rattle.qfs_meta.proofs.GetLaws.{open-refused, open-made}
 use Rattle.qfs_meta.proofs.KeptLaws.{kept-lease}
 use Rattle.qfs_meta.proofs.StepLaws.{runs_out}
@@ -50,3 +51,6 @@ returns-clause-ok c =
     (ap (λ tree. look_refusal (standing tree) c.args.path.now) (sym c.as_slice.ensures) ∙ sym c.look_refusal.ensures ∙ c.in_default.is)
     (λ i. record { lease = m.next_lease; place = c.next_place-place.ensures i; file = file c i; len = len c i; blocks = blocks i })
     (made c) (returns-clause-kept c)
+
+pub returns-clause-loads : goal.returns-clause-loads
+returns-clause-loads c = lease_given c.args.image.now c.raise_turn.new.image c.args.actor _ (made c)

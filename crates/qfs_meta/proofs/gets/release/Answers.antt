@@ -4,6 +4,7 @@ use Rattle.qfs_model_meta.specs.Change.{EndLease}
 use Rattle.qfs_model_meta.specs.Leases.{holds_lease}
 use Rattle.qfs_model_meta.specs.Step.{next_turn}
 use Rattle.qfs_meta.specs.Kept.{IsKept}
+use Rattle.qfs_meta.proofs.LoadLaws.{lease_ended}
 use Rattle.qfs_meta.proofs.GetLaws.{release-gone, release-made}
 use Rattle.qfs_meta.proofs.KeptLaws.{kept-release}
 use Rattle.qfs_meta.proofs.gets.release.Goals as goal
@@ -24,3 +25,6 @@ returns-clause-served c =
     release-made c.args.actor c.args.lease c.args.image.now _ _ c.next_place-place.ensures
     (ap (holds_lease c.args.actor c.args.lease) (sym c.as_slice.ensures) ∙ sym c.holds_lease.ensures ∙ c.if-not-holds_lease.false)
     (made c) (returns-clause-kept c)
+
+pub returns-clause-loads : goal.returns-clause-loads
+returns-clause-loads c = lease_ended c.args.image.now c.raise_turn.new.image c.args.lease (made c)

@@ -3,6 +3,8 @@ use Rattle.qfs_model_meta.specs.Apply.{apply_all}
 use Rattle.qfs_model_meta.specs.Step.{next_turn}
 use Rattle.qfs_meta.specs.Granting.{chosen_in, told_in, granted_in}
 use Rattle.qfs_meta.specs.Kept.{IsKept}
+use Rattle.qfs_meta.specs.Loads.{loads_of}
+use Rattle.qfs_meta.proofs.LoadLaws.{turned}
 use Rattle.qfs_meta.proofs.GrantLaws.{chosen-none, chosen-granted}
 use Rattle.qfs_meta.proofs.KeptLaws.{kept-grant}
 use Rattle.qfs_meta.proofs.granting.grant_first.Goals as goal
@@ -33,3 +35,9 @@ returns-clause-ok c =
     ((λ i. chosen_in (sym c.as_slice-servers.ensures i) (sym c.as_slice-slots.ensures i) c.args.id) ∙ sym c.chosen_in.ensures.chosen ∙ c.in-Some.is)
     (c.in_ok-told.ensures ∙ (λ i. told_in c.args.layout.now c.args.len c.args.id (c.as_slice-servers.ensures i) (c.as_slice-slots.ensures i) c.in-Some.server))
     (made c) (returns-clause-kept c)
+
+pub returns-clause-loads : goal.returns-clause-loads
+returns-clause-loads c =
+    c.grant_in.ensures.loads
+    ∙ ap (λ servers. loads_of servers c.grant_in.new.slots) c.as_slice.ensures
+    ∙ sym (turned _ c.raise_turn.new.image c.raise_turn.ensures)

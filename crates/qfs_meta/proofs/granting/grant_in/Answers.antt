@@ -12,4 +12,4 @@ returns-clause-ok c =
     c.slot_at-before.ensures ∙ ap (λ slots. slot_at slots id.block id.slot) c.as_slice.ensures in
     let state : c.granted-state.result ≡ granted_slot c.args.server (server_at c.args.servers.now c.args.server).life c.args.actor 0 (slot_at c.args.slots.now id.block id.slot) =
     c.granted-state.ensures ∙ (λ i. granted_slot c.args.server (c.server_at-life.ensures i).life c.args.actor 0 (before i)) in
-    on_ok_weaker c.place.result (λ done. done ∙ (λ i. with_slot id.block id.slot (state i) c.args.slots.now)) c.place.ensures.ok
+    on_ok_weaker c.place_slot.result (λ done. done ∙ (λ i. with_slot id.block id.slot (state i) c.args.slots.now)) c.place_slot.ensures.ok

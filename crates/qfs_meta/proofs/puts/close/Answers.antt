@@ -7,6 +7,7 @@ use Rattle.qfs_model_meta.specs.PutRequests.{first_ungranted}
 use Rattle.qfs_model_meta.specs.Step.{next_turn}
 use Rattle.qfs_model_meta.specs.TreeRows.{unclosed_file}
 use Rattle.qfs_meta.specs.Kept.{IsKept}
+use Rattle.qfs_meta.proofs.LoadLaws.{turned}
 use Rattle.qfs_meta.proofs.KeptLaws.{kept-close}
 use Rattle.qfs_meta.proofs.PutLaws.{close-gone, close-incomplete, close-made}
 use Rattle.qfs_meta.proofs.StepLaws.{runs_out}
@@ -37,7 +38,7 @@ made c = c.raise_turn.ensures ∙ ap next_turn c.in_ok-close_file.ensures.ok
 pub returns-clause-kept : goal.returns-clause-kept
 returns-clause-kept c =
     subst IsKept (sym (made c))
-    (kept-close c.args.image.now c.args.file c.args.actor c.in-Some.row.now.command c.requires (omega arith))
+    (kept-close c.args.image.now c.args.file c.args.actor c.in-Some.row.now.command c.requires.kept (omega arith))
 
 pub returns-clause-ok : goal.returns-clause-ok
 returns-clause-ok c =
@@ -50,3 +51,6 @@ returns-clause-ok c =
     ∙ c.in_default-first_ungranted.is in
     close-made c.args.layout.now c.args.actor c.args.file c.args.image.now c.in-Some.row.now _ _ c.next_place-place.ensures
     found granted (made c) (returns-clause-kept c)
+
+pub returns-clause-loads : goal.returns-clause-loads
+returns-clause-loads c = c.close_file.ensures.loads ∙ sym (turned _ c.raise_turn.new.image c.raise_turn.ensures)

@@ -5,6 +5,7 @@ use Rattle.qfs_model_meta.specs.Change.{AddFile}
 use Rattle.qfs_model_meta.specs.Step.{next_turn}
 use Rattle.qfs_model_meta.specs.TreeRows.{standing}
 use Rattle.qfs_meta.specs.Kept.{IsKept}
+use Rattle.qfs_meta.proofs.LoadLaws.{file_added}
 use Rattle.qfs_meta.proofs.KeptLaws.{kept-create}
 use Rattle.qfs_meta.proofs.PutLaws.{create-refused, create-made}
 use Rattle.qfs_meta.proofs.StepLaws.{runs_out}
@@ -31,3 +32,6 @@ returns-clause-ok c =
     create-made c.args.image.now c.args.actor c.args.path.now c.args.command c.args.len _ _ c.next_place-place.ensures
     (ap (λ tree. add_refusal (standing tree) c.args.path.now) (sym c.as_slice.ensures) ∙ sym c.add_refusal.ensures ∙ c.in_default.is)
     (made c) (returns-clause-kept c)
+
+pub returns-clause-loads : goal.returns-clause-loads
+returns-clause-loads c = file_added c.args.image.now c.raise_turn.new.image c.args.path.now c.args.actor c.args.command c.args.len (made c)
