@@ -1,4 +1,4 @@
-//! Two commands of an actor, among nodes that answer as a script says.
+//! Two commands of an actor, among nodes that answer as a test says.
 ghost use Rattle.std.specs.Prelude.{◌≡◌, IfOk};
 ghost use Rattle.qfs_machine.specs.declared.machine.Readiness.{Readiness};
 ghost use Rattle.qfs_actor.specs.Forms.{IsBuiltFile};

@@ -1,5 +1,5 @@
 //! The tests of all crates. They stand in one crate, which no other uses, since a crate with tests
-//! is proved twice. Expected values come from worked rows and tables, and never from the program.
+//! is proved twice. Expected values were worked out apart from the program.
 #![tactic(auto)]
 
 #[cfg(test)]

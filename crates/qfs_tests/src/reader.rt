@@ -1,4 +1,4 @@
-//! Gets among nodes that answer as a script says.
+//! Gets among nodes that answer as a test says.
 
 use crate::nodes::{Nodes, run};
 use qfs_base::chunk::Copy;

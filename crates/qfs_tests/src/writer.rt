@@ -1,4 +1,4 @@
-//! Puts among nodes that answer as a script says.
+//! Puts among nodes that answer as a test says.
 
 use crate::nodes::{Nodes, run};
 use qfs_base::chunk::BlockId;
