@@ -1,10 +1,7 @@
 -- What changing each row of a table does.
-use Rattle.std.proofs.Common.{◌≡◌, ℕ, ◌+◌, ◌<◌, Bool, List, [], ◌∷◌, ◌++◌, length, take, drop, map, insert, slice_set, slice_index_or, refl, ap, sym, ◌∙◌, add-one, append_assoc, arith}
-use Rattle.std.proofs.lemmas.List.{take_more, drop_more, set_split, take_more_set, drop-set-lt}
-use Rattle.std.proofs.Math.Seq.{drop-length}
-use Rattle.std.specs.declared.cmp.Ordering.{Ordering}
-use Rattle.std.specs.declared.cmp.Ordering.TheVariants.{Less, Equal, Greater}
-use Rattle.qfs_base.specs.Table.{place, place_before, change_row, change_where}
+use Rattle.std.proofs.Common.{◌≡◌, ℕ, ◌+◌, ◌<◌, Bool, List, [], ◌∷◌, ◌++◌, length, take, drop, map, slice_set, slice_index_or, refl, ap, sym, ◌∙◌, append_assoc, arith}
+use Rattle.std.proofs.lemmas.List.{drop_more, take_more_set, drop-set-lt}
+use Rattle.qfs_base.specs.Table.{change_row, change_where}
 
 -- one more row has been changed
 pub change_goes_on : {X : Type 0} (f : X → X) (rows first : List X) (at : ℕ) (d y : X) → at < length rows →
