@@ -2,9 +2,6 @@
 //! the history of its files and the order of its steps.
 #![tactic(auto)]
 
-#[cfg(test)]
-mod tests;
-
 ghost use Rattle.std.specs.Prelude.{All, IfOk};
 ghost use Rattle.qfs_world.specs.Calls.{IsNew};
 

@@ -1,6 +1,6 @@
 -- How a world at work goes on by drawn steps.
-use Rattle.std.proofs.Common.{◌≡◌, ℕ, zero, suc, inl, inr, ◌+◌, ◌<◌, ◌≤◌, Bool, true, false, IsTrue, List, [], ◌∷◌, ◌++◌, length, refl, sym, ◌∙◌, ap, ap₂, subst, arith, Option, Some, None, is_some, IsSome, eq-eqb}
-use Rattle.std.specs.Prelude.{All, ◌==◌, ◌&&◌, ◌||◌, ◌%◌, ⊤, slice_get}
+use Rattle.std.proofs.Common.{◌≡◌, ℕ, zero, suc, inl, inr, ◌<◌, ◌≤◌, Bool, true, false, IsTrue, List, [], ◌∷◌, ◌++◌, length, refl, sym, ◌∙◌, ap, subst, arith, Option, Some, None, eq-eqb}
+use Rattle.std.specs.Prelude.{◌==◌, ◌&&◌, ◌||◌, ◌%◌, slice_get}
 use Rattle.std.specs.List.{AllZip, list_any, list_all}
 use Rattle.qfs_model_text.specs.Order.{same_outcome}
 use Rattle.qfs_model_world.specs.GivenOrder.{is_done}
@@ -13,16 +13,15 @@ use Rattle.rand_pcg.specs.Lcg.{Lcg}
 use Rattle.rand_pcg.specs.Pcg.{pcg32}
 use Rattle.qfs_base.specs.declared.history.Outcome.TheVariants as Came
 use Rattle.qfs_base.specs.declared.history.Step.{Step}
-use Rattle.qfs_base.specs.declared.script.Script.{Script}
 use Rattle.qfs_driver.proofs.DrawnOrders.{is_drawn-snoc, generator_behind-snoc}
 use Rattle.qfs_driver.specs.Draws.{generator_behind}
 use Rattle.qfs_driver.specs.Playing.{Continues, IsDrawnSo, StopsAt, TakesDrawnStep}
-use Rattle.qfs_model_actor.specs.Actor.{Actor}
 use Rattle.qfs_model_world.specs.Drawn.{generator_of, drawn_of, is_by, drawn_from, is_drawn}
 use Rattle.qfs_model_world.specs.Fits.{turn}
 use Rattle.qfs_model_world.specs.World.{World, numbered, after as after_order}
 use Rattle.qfs_store.specs.Stored.{Stored}
-use Rattle.qfs_world.specs.Calls.{HasRisen, Steps}
+use Rattle.qfs_world.specs.Calls.{FaultsRise, HasRisen, Steps}
+use Rattle.qfs_world.proofs.Faults.{goes-on-at}
 use Rattle.qfs_world.specs.Turns.{GoesOn}
 use Rattle.qfs_world.specs.Follows.{Follows, IsAfter}
 use Rattle.qfs_world.specs.Running.{Running, AllTell, turn_of}
@@ -102,6 +101,26 @@ unfolding numbered
 went_on_at before behind zero new go_on is = cc
 went_on_at before behind (suc k) new go_on is = went_on_in before behind k new go_on is
 
+-- a server that isn't there isn't there behind such steps, and one that is there is
+none_behind : (before behind : List Stored) (server : ℕ) → AllZip GoesOn before behind → numbered before server ≡ None
+    → (found : Option Stored) → numbered behind server ≡ found → found ≡ None
+none_behind before behind server go_on none None is = refl
+none_behind before behind server go_on none (Some new) is =
+    let at = went_on_at before behind server new go_on is in let there = at.there in absurd (cc)
+
+between : (before behind : List Stored) (k : ℕ) (old : Stored) → AllZip GoesOn before behind → slice_get before k ≡ Some old
+    → (new : Stored) × (slice_get behind k ≡ Some new)
+between [] behind k old go_on is = absurd (cc)
+between (x ∷ xs) [] k old go_on is = absurd go_on
+between (x ∷ xs) (y ∷ ys) zero old go_on is = (y, refl)
+between (x ∷ xs) (y ∷ ys) (suc k) old go_on is = between xs ys k old go_on.1 is
+
+stored_between : (before behind : List Stored) (server : ℕ) (old : Stored) → AllZip GoesOn before behind → numbered before server ≡ Some old
+    → (new : Stored) × (numbered behind server ≡ Some new)
+unfolding numbered
+stored_between before behind zero old go_on is = absurd (cc)
+stored_between before behind (suc k) old go_on is = between before behind k old go_on is
+
 -- ---- whose turn it is
 
 has_place : (turns : List ℕ) (k actor : ℕ) → slice_get turns k ≡ Some actor → list_any (λ number. number == actor) turns ≡ true
@@ -153,9 +172,38 @@ module _ {D L : Type 0} where
   unfolding generator_behind
   words_at_start generator world none = rw none refl
 
+  rises_itself : (world : Running D L) → FaultsRise world world
+  rises_itself world = record {
+    at_servers = λ number old new was now below.
+        let same : old ≡ new = some_is (sym was ∙ now) in
+        let count : old.faults ≡ new.faults = ap (λ (s : Stored). s.faults) same in
+        omega (arith, count);
+    elsewhere = λ number none. refl;
+  }
+
+  rises_further : (a b c : Running D L) → AllZip GoesOn a.stores b.stores → AllZip GoesOn b.stores c.stores
+      → FaultsRise a b → FaultsRise b c → FaultsRise a c
+  rises_further a b c on further first second = record {
+    at_servers = λ number old new was now below.
+        let mid = stored_between a.stores b.stores number old on was in
+        let grows : mid.0.faults ≤ new.faults = (goes-on-at b.stores c.stores number mid.0 new further mid.1 now).never_falls in
+        let one = first.at_servers number old mid.0 was mid.1 (omega (arith, grows, below)) in
+        let two = second.at_servers number mid.0 new mid.1 now below in
+        omega (arith, one, two);
+    elsewhere = λ number none.
+        second.elsewhere number (none_behind a.stores b.stores number on none (numbered b.stores number) refl)
+        ∙ first.elsewhere number none;
+  }
+
   pub continues_itself : (world : Running D L) → Continues world world
   continues_itself world =
-      record { script_is = refl; spare_is = refl; disks_are = refl; stores_go_on = all_go_on world.stores }
+      record {
+        script_is = refl;
+        spare_is = refl;
+        disks_are = refl;
+        stores_go_on = all_go_on world.stores;
+        faults_rise = λ tell. rises_itself world;
+      }
 
   pub continues_same : (before behind : Running D L) → behind ≡ before → Continues before behind
   continues_same before behind same = subst (λ w. Continues before w) (sym same) (continues_itself before)
@@ -166,6 +214,9 @@ module _ {D L : Type 0} where
     spare_is = second.spare_is ∙ first.spare_is;
     disks_are = second.disks_are ∙ first.disks_are;
     stores_go_on = all_go_on_further a.stores b.stores c.stores first.stores_go_on second.stores_go_on;
+    faults_rise = λ tell.
+        rises_further a b c first.stores_go_on second.stores_go_on (first.faults_rise tell)
+        (second.faults_rise (all_tell_behind a.stores b.stores first.stores_go_on tell));
   }
 
   turn_after : (world : Running D L) → Follows world.script world.order world.meta world.stores world.actors

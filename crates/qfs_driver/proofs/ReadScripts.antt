@@ -1,19 +1,17 @@
 -- The scripts that are read are those of the first path.
-use Rattle.std.proofs.Common.{◌≡◌, ℕ, suc, ◌+◌, ◌<◌, ◌≤◌, Bool, true, false, cond, List, [], ◌∷◌, length, refl, sym, ◌∙◌, ap, subst, arith, Option, Some, None, Result, Ok, Err, inl, inr, lit<}
-use Rattle.std.specs.Prelude.{◌==◌, ◌&&◌, nat_le, nat_lt, codes, decimal, ⊤, ◌⊎◌, flat_map, All, ◌^◌}
+use Rattle.std.proofs.Common.{◌≡◌, ℕ, suc, ◌+◌, ◌<◌, ◌≤◌, Bool, true, false, cond, List, [], ◌∷◌, length, refl, sym, ap, subst, arith, Option, Some, None, Result, Ok, Err, inl, inr, lit<}
+use Rattle.std.specs.Prelude.{◌&&◌, nat_le, nat_lt, codes, decimal, ◌⊎◌, flat_map, All, ◌^◌}
 use Rattle.std.specs.Str.Parse.{digits_value}
-use Rattle.std.specs.Int.{is_power_of_two}
 use Rattle.std.specs.Option.{option_and_then}
 use Rattle.std.specs.Result.{result_ok}
 use Rattle.std.specs.Str.{bytes_eq}
 use Rattle.std.proofs.lemmas.Bool.{leb-true, ltb-true, and_parts}
 use Rattle.hex.specs.Hex.{decode_of}
-use Rattle.qfs_base.specs.Path.{slash}
 use Rattle.qfs_base.specs.Shape.{Shape, IsStripe, IsRowCount}
 use Rattle.qfs_base.specs.Table.{Each}
 use Rattle.qfs_base.specs.declared.command.Command.{Command}
 use Rattle.qfs_base.specs.declared.script.Script.{Script}
-use Rattle.qfs_script.specs.Commands.{is_name, one_name_path, few_bytes, hex_bytes, put_of, get_of, put_words, get_words, command_words, command_form}
+use Rattle.qfs_script.specs.Commands.{one_name_path, few_bytes, hex_bytes, put_of, get_of, put_words, get_words, command_words, command_form}
 use Rattle.qfs_script.specs.Head.{fixed_form, is_shape, shape_of, shape_in, layout_words, layout_form, enough_servers, servers_words, servers_form}
 use Rattle.qfs_script.specs.Lines.{words_of}
 use Rattle.qfs_script.specs.Numbers.{number_below}

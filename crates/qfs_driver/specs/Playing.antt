@@ -1,24 +1,24 @@
 -- A world at work whose actors take their turns as they are drawn.
-use Rattle.std.specs.Prelude.{ℕ, ◌≡◌, ⊤, List, [], Option, Some, IsTrue}
+use Rattle.std.specs.Prelude.{ℕ, ◌≡◌, ⊤, List, [], Some, IsTrue}
 use Rattle.std.specs.List.{AllZip, list_all}
 use Rattle.qfs_base.specs.declared.history.Outcome.TheVariants as Came
 use Rattle.qfs_driver.specs.declared.status.Status.{Status}
 use Rattle.qfs_driver.specs.declared.status.Status.TheVariants as Ended
 use Rattle.qfs_model_world.specs.Drawn.{drawn_of, is_drawn}
 use Rattle.qfs_model_world.specs.GivenOrder.{is_done}
-use Rattle.qfs_store.specs.Stored.{Stored}
-use Rattle.qfs_world.specs.Calls.{HasRisen, Steps}
+use Rattle.qfs_world.specs.Calls.{FaultsRise, HasRisen, Steps}
 use Rattle.qfs_world.specs.Turns.{GoesOn}
 use Rattle.qfs_world.specs.Running.{Running, AllTell, turn_of}
 
 module _ {D L : Type 0} where
   -- a world at work came of another by steps: what it is made of and only keeps is the same, its devices tell what they hold
-  -- as they did, and have failed no less often
+  -- as they did, have failed no less often, and where they tell at least as often as steps failed
   pub record Continues (before behind : Running D L) : Type 0 where
     pub script_is : behind.script ≡ before.script
     pub spare_is : behind.spare ≡ before.spare
     pub disks_are : behind.disks ≡ before.disks
     pub stores_go_on : AllZip GoesOn before.stores behind.stores
+    pub faults_rise : AllTell before.stores → FaultsRise before behind
 
   -- its steps were drawn from a number, as far as its devices tell what they hold, and all came out done
   pub record IsDrawnSo (number : ℕ) (world : Running D L) : Type 0 where

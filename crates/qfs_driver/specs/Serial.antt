@@ -24,23 +24,23 @@ pub record Streams : Type 0 where
 
 module _ {D : Type 0} where
   -- a script was read whole, and this is the text of its run
-  pub record Runs (told : D → Option Held) (number : ℕ) (came behind : List D) (before after : Streams) (text : List ℕ) : Type 0 where
+  pub record Runs (told : D → Option Held) (faults : D → ℕ) (number : ℕ) (came behind : List D) (before after : Streams) (text : List ℕ) : Type 0 where
     pub script : Script
     pub read : ReadsWhole before.left after.left script
     pub enough : script.servers ≤ length came
-    pub prints : Prints told number script came behind text
+    pub prints : Prints told faults number script came behind text
     pub places : StayInPlace script.servers came behind
 
   -- the text of the run was written whole
-  pub record WritesWhole (told : D → Option Held) (number : ℕ) (came behind : List D) (before after : Streams) : Type 0 where
+  pub record WritesWhole (told : D → Option Held) (faults : D → ℕ) (number : ℕ) (came behind : List D) (before after : Streams) : Type 0 where
     pub text : List ℕ
-    pub runs : Runs told number came behind before after text
+    pub runs : Runs told faults number came behind before after text
     pub written : Appends text before.written after.written
 
   -- a first part of the text of the run was written, and the sink failed
-  pub record WritesPart (told : D → Option Held) (number : ℕ) (came behind : List D) (before after : Streams) : Type 0 where
+  pub record WritesPart (told : D → Option Held) (faults : D → ℕ) (number : ℕ) (came behind : List D) (before after : Streams) : Type 0 where
     pub text : List ℕ
-    pub runs : Runs told number came behind before after text
+    pub runs : Runs told faults number came behind before after text
     pub count : ℕ
     pub part : count < length text
     pub written : Appends (take count text) before.written after.written
@@ -65,12 +65,12 @@ module _ {D : Type 0} where
 
   -- each status has its cause; want of memory is free
   abbrev pub EndsSo : (D → Option Held) → (D → ℕ) → ℕ → List D → List D → Streams → Streams → Status → Type 0
-  EndsSo told faults number came behind before after Ended.Ok = WritesWhole told number came behind before after
+  EndsSo told faults number came behind before after Ended.Ok = WritesWhole told faults number came behind before after
   EndsSo told faults number came behind before after Ended.Usage = ⊥
   EndsSo told faults number came behind before after (Ended.BadScript line cause) = IsRefused before.left after.left line cause
   EndsSo told faults number came behind before after (Ended.TooFewDevices servers devices) = LacksDevices servers devices came before after
   EndsSo told faults number came behind before after Ended.ReadFault = Rose before.source_faults after.source_faults
-  EndsSo told faults number came behind before after Ended.WriteFault = WritesPart told number came behind before after
+  EndsSo told faults number came behind before after Ended.WriteFault = WritesPart told faults number came behind before after
   EndsSo told faults number came behind before after Ended.NoMemory = ⊤
   EndsSo told faults number came behind before after (Ended.DeviceFault server) = StopsAtFault faults server came behind before after
 

@@ -48,10 +48,17 @@ module _ (image_length : MetaImage → ℕ) (record_length : Logged → ℕ) whe
 unfoldable pub is_sure : Event → Bool
 is_sure event = not ((node_of_request event.request == 0) && not (same_outcome event.outcome Ended.Done))
 
+-- how many bytes each of the two disks handed out
+pub record BytesRead : Type 0 where
+  pub left : ℕ
+  pub right : ℕ
+
 -- where all steps at the metaserver came out done, the log has the records of the requests logged since the last checkpoint,
--- and the disks handed out at least what the restarts read. `logged` is what stands in the log, and `before` and `behind` are
--- how many bytes the two disks together had handed out
-pub record DisksStand (image_length : MetaImage → ℕ) (record_length : Logged → ℕ) (script : Script) (order : List Step) (logged : List Logged) (before behind : ℕ) : Type 0 where
+-- and the two disks together handed out at least what the restarts read; a count at its last value says nothing. `logged` is
+-- what stands in the log, and `before` and `behind` are the disks' counts
+pub record DisksStand (image_length : MetaImage → ℕ) (record_length : Logged → ℕ) (script : Script) (order : List Step) (logged : List Logged) (before behind : BytesRead) : Type 0 where
   pub records : IsTrue (list_all is_sure (events script order)) → logged ≡ logged_since_checkpoint (events script order)
-  pub handed_out : IsTrue (list_all is_sure (events script order)) → behind < last_count
-      → before + restarts_read image_length record_length script (events script order) ≤ behind
+  pub handed_out : IsTrue (list_all is_sure (events script order))
+      → behind.left < last_count → behind.right < last_count
+      → before.left + before.right + restarts_read image_length record_length script (events script order)
+      ≤ behind.left + behind.right

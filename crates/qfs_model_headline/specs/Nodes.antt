@@ -1,5 +1,5 @@
 -- What stands on the devices at the end of a run.
-use Rattle.std.specs.Prelude.{◌≡◌, ◌≢◌, ℕ, ◌+◌, ◌<◌, ◌≤◌, ◌==◌, ◌&&◌, ◌||◌, not, Bool, true, false, List, length, drop, slice_get, Option, Some, None, IsTrue}
+use Rattle.std.specs.Prelude.{◌≡◌, ◌≢◌, ℕ, ◌+◌, ◌≤◌, ◌==◌, ◌&&◌, ◌||◌, not, min, Bool, true, false, List, length, drop, slice_get, Option, Some, None, IsTrue}
 use Rattle.std.specs.List.{list_any}
 use Rattle.qfs_base.specs.Key.{key_cmp}
 use Rattle.qfs_base.specs.KeyMap.{value_at}
@@ -93,31 +93,34 @@ HoldsNoOther steps number held server =
 
 -- ---- bytes handed out
 
--- a device handed out what its server did, or at least that where a Put or a Start failed; a count at its last value says nothing
+-- a device handed out what its server did, or at least that where a Put or a Start failed; a count of 64 bits stays at its
+-- last value
 abbrev pub HandsOut : ℕ → ℕ → Bool → Type 0
-HandsOut device server false = device ≡ server
-HandsOut device server true = server ≤ device
+HandsOut device server false = min device last_count ≡ min server last_count
+HandsOut device server true = min server last_count ≤ min device last_count
 
 abbrev pub HandedOut : List Event → ℕ → Held → Server → Type 0
 HandedOut steps number held server =
-    held.handed_out < last_count
-    → HandsOut held.handed_out server.handed_out (has_failed is_put_or_start number steps)
+    HandsOut held.handed_out server.handed_out (has_failed is_put_or_start number steps)
 
 -- ---- all devices
 
--- a device of a server of the script
-pub record IsServerDevice (steps : List Event) (number : ℕ) (held : Held) (server : Server) : Type 0 where
+-- a device of a server of the script tells that it holds what its server has, what failed Puts left, and nothing else
+pub record IsServerDevice (steps : List Event) (number : ℕ) (told : Option Held) (server : Server) : Type 0 where
+  pub held : Held
+  pub tells : told ≡ Some held
   pub stands : StandsFor held server
   pub others : HoldsNoOther steps number held server
   pub handed_out : HandedOut steps number held server
 
--- device s, from 1, stands for server s of the world after the order; a device above the script's servers is as it came
-abbrev pub IsDeviceOf : List Event → ℕ → Held → Held → Option Server → Type 0
-IsDeviceOf steps number came left (Some server) = IsServerDevice steps number left server
-IsDeviceOf steps number came left None = left ≡ came
+module _ {D : Type 0} where
+  -- device s, from 1, stands for server s of the world after the order; a device above the script's servers is as it came
+  abbrev pub IsDeviceOf : (D → Option Held) → List Event → ℕ → D → D → Option Server → Type 0
+  IsDeviceOf told steps number came left (Some server) = IsServerDevice steps number (told left) server
+  IsDeviceOf told steps number came left None = left ≡ came
 
-pub record DevicesStand (script : Script) (order : List Step) (came left : List Held) : Type 0 where
-  pub as_many : length left ≡ length came
-  pub each : (number : ℕ) (before after_run : Held)
-      → numbered came number ≡ Some before → numbered left number ≡ Some after_run
-      → IsDeviceOf (events script order) number before after_run (numbered (after script order).servers number)
+  pub record DevicesStand (told : D → Option Held) (script : Script) (order : List Step) (came left : List D) : Type 0 where
+    pub as_many : length left ≡ length came
+    pub each : (number : ℕ) (before behind : D)
+        → numbered came number ≡ Some before → numbered left number ≡ Some behind
+        → IsDeviceOf told (events script order) number before behind (numbered (after script order).servers number)

@@ -1,5 +1,6 @@
--- What may be asked of a metaserver so that it stays sound: paths are paths, lengths are in their range, and a server tells
--- only of copies that were granted to it. The actors of a script are meant to ask nothing else.
+-- What may be asked of a metaserver so that it stays sound: paths are paths, lengths and the numbers of actors and commands
+-- are in their range, and a server tells only of copies that were granted to it. The actors of a script are meant to ask
+-- nothing else.
 use Rattle.std.specs.Prelude.{ℕ, ⊤, ◌<◌, ◌≤◌, IsTrue}
 use Rattle.qfs_base.specs.Path.{IsPath}
 use Rattle.qfs_base.specs.Shape.{Shape}
@@ -10,7 +11,7 @@ use Rattle.qfs_base.specs.declared.image.MetaImage.{MetaImage}
 use Rattle.qfs_base.specs.declared.image.SlotRow.{SlotRow}
 use Rattle.qfs_base.specs.declared.request.MetaRequest.{MetaRequest}
 use Rattle.qfs_base.specs.declared.request.MetaRequest.TheVariants as Ask
-use Rattle.qfs_model_meta.specs.Counters.{last_u32}
+use Rattle.qfs_model_meta.specs.Counters.{last_u16, last_u32}
 use Rattle.qfs_model_meta.specs.Grammar.{most_bytes}
 use Rattle.qfs_model_meta.specs.Past.{Past, was_granted, remember}
 use Rattle.qfs_model_meta.specs.Sound.{IsSound}
@@ -24,7 +25,7 @@ WasGrantedOn past server life key =
 abbrev pub MayAsk : Past → MetaRequest → Type 0
 MayAsk past (Ask.Mkdir path) = IsPath path
 MayAsk past (Ask.Rename from to) = IsPath to
-MayAsk past (Ask.Create path command len) = IsPath path × (len ≤ most_bytes)
+MayAsk past (Ask.Create path command len) = IsPath path × (command ≤ last_u16) × (len ≤ most_bytes)
 MayAsk past (Ask.Hello server life keys) = Each (WasGrantedOn past server life) keys
 MayAsk past request = ⊤
 
@@ -36,5 +37,5 @@ HasVersionsLeft m = Each (λ (row : SlotRow). row.state.next < last_u32) m.slots
 abbrev pub StaysSound : Type 0
 StaysSound =
     (layout : Shape) (actor : ℕ) (request : MetaRequest) (outcome : Outcome) (past : Past) (m : MetaImage)
-    → IsSound past m → HasVersionsLeft m → MayAsk past request
+    → IsSound past m → HasVersionsLeft m → actor ≤ last_u16 → MayAsk past request
     → IsSound (remember actor past (meta_step layout actor request outcome m).reply) (meta_step layout actor request outcome m).meta

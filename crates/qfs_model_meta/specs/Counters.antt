@@ -2,7 +2,10 @@
 use Rattle.std.specs.Prelude.{ℕ, ◌+◌, nat_lt, min, Bool, ◌&&◌, length}
 use Rattle.qfs_base.specs.declared.image.MetaImage.{MetaImage}
 
--- the last value of a number of 32 bits, and of one of 64
+-- the last value of a number of 16 bits, of one of 32 and of one of 64
+abbrev pub last_u16 : ℕ
+last_u16 = 65535
+
 abbrev pub last_u32 : ℕ
 last_u32 = 4294967295
 

@@ -4,6 +4,8 @@ use Rattle.std.specs.List.{IsDistinct}
 use Rattle.std.specs.declared.cmp.Ordering.{Ordering}
 use Rattle.std.specs.Ordering.{nat_cmp}
 use Rattle.qfs_base.specs.declared.chunk.Copy.{Copy}
+use Rattle.qfs_base.specs.declared.history.Entry.{Entry}
+use Rattle.qfs_base.specs.declared.history.Entry.TheVariants as Wrote
 use Rattle.qfs_base.specs.declared.image.CondemnedRow.{CondemnedRow}
 use Rattle.qfs_base.specs.declared.image.Lease.{Lease}
 use Rattle.qfs_base.specs.declared.image.MetaImage.{MetaImage}
@@ -13,7 +15,7 @@ use Rattle.qfs_base.specs.declared.lists.NameKind.TheVariants as Is
 use Rattle.qfs_base.specs.NameTree.{kind_at, parents_of, row_cmp}
 use Rattle.qfs_base.specs.Path.{IsPath}
 use Rattle.qfs_base.specs.Table.{Each, IsRising}
-use Rattle.qfs_model_meta.specs.Counters.{counters_fit}
+use Rattle.qfs_model_meta.specs.Counters.{last_u16, last_u32, counters_fit}
 use Rattle.qfs_model_meta.specs.Dropped.{dropped_cmp}
 use Rattle.qfs_model_meta.specs.Leases.{leases_on}
 use Rattle.qfs_model_meta.specs.Slots.{slot_cmp, granted_copy}
@@ -31,6 +33,10 @@ IsServer servers number = (1 ≤ number) × (number ≤ servers)
 abbrev pub IsPlain : TreeRow → Type 0
 IsPlain row =
     row.file ≡ 0 → (row.closed ≡ false) × (row.actor ≡ 0) × (row.command ≡ 0) × (row.len ≡ 0)
+
+-- the actor and the command that made a row are in the width of their numbers
+abbrev pub HasMaker : TreeRow → Type 0
+HasMaker row = (row.actor ≤ last_u16) × (row.command ≤ last_u16)
 
 -- every directory that a row lies in is there
 abbrev pub HasParents : List TreeRow → TreeRow → Type 0
@@ -50,6 +56,7 @@ pub record IsTree (next_file : ℕ) (tree : List TreeRow) : Type 0 where
   pub file_numbers : Each (λ file. file < next_file) (files_in tree)
   pub each_file_once : IsDistinct nat_eq (files_in tree)
   pub lengths : Each (λ (row : TreeRow). row.len ≤ most_bytes) tree
+  pub makers : Each HasMaker tree
 
 -- the servers that a slot names are there
 pub record NamesServers (servers : ℕ) (row : SlotRow) : Type 0 where
@@ -95,6 +102,16 @@ pub record IsCondemnedList (servers next : ℕ) (leases : List Lease) (rows : Li
   pub on_servers : Each (λ (row : CondemnedRow). IsServer servers row.condemned.copy.server) rows
   pub blockers : Each (HasBlockers leases) rows
 
+-- an entry of the file history that an image spells: its paths are paths, and its numbers are in their widths
+abbrev pub IsEntry : Entry → Type 0
+IsEntry (Wrote.Mkdir path) = IsPath path
+IsEntry (Wrote.Rmdir path) = IsPath path
+IsEntry (Wrote.Created file path) = (file ≤ last_u32) × IsPath path
+IsEntry (Wrote.Closed file actor command) = (file ≤ last_u32) × (actor ≤ last_u16) × (command ≤ last_u16)
+IsEntry (Wrote.Aborted file) = file ≤ last_u32
+IsEntry (Wrote.Removed path) = IsPath path
+IsEntry (Wrote.Renamed from to) = IsPath from × IsPath to
+
 -- a state that an image spells
 pub record IsImage (m : MetaImage) : Type 0 where
   pub some_server : 1 ≤ length m.servers
@@ -108,3 +125,4 @@ pub record IsImage (m : MetaImage) : Type 0 where
   pub leases : IsLeaseList m.next_lease m.leases
   pub condemned : IsCondemnedList (length m.servers) m.next_condemned m.leases m.condemned
   pub dropped : IsRising dropped_cmp m.dropped
+  pub history : Each IsEntry m.history

@@ -26,10 +26,10 @@ pending_refusal None = None
 pending_refusal (Some grant) = Some (Told.Taken grant.copy.version)
 
 -- a slot comes behind another, or behind none
-unfoldable pub is_behind : Option SlotId → SlotRow → Bool
-is_behind None row = true
-is_behind (Some after) row =
-    is_lt (ordering_then (block_cmp after.block row.block) (nat_cmp after.slot row.slot))
+unfoldable pub is_behind : Option SlotId → SlotId → Bool
+is_behind None id = true
+is_behind (Some after) id =
+    is_lt (ordering_then (block_cmp after.block id.block) (nat_cmp after.slot id.slot))
 
 -- whether a file has a block of this index
 unfoldable pub has_block : Shape → ℕ → Option TreeRow → Bool

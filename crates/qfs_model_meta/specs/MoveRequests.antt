@@ -18,6 +18,7 @@ use Rattle.qfs_model_meta.specs.Decision.{Decision, refuse, unless, need, refuse
 use Rattle.qfs_model_meta.specs.LeasedGrants.{pending_refusal, is_behind, is_at_rest, is_live_on, grant_leased, grant_chosen, move_source}
 use Rattle.qfs_model_meta.specs.Lists.{block_count, one_source}
 use Rattle.qfs_model_meta.specs.Placing.{Numbered, census, open_servers, lighter, heavier, barred_for_block}
+use Rattle.qfs_model_meta.specs.PutRequests.{slot_id}
 use Rattle.qfs_model_meta.specs.Servers.{server_at, is_listed, takes_chunks}
 use Rattle.qfs_model_meta.specs.Slots.{slot_at}
 use Rattle.qfs_model_meta.specs.TreeRows.{standing, row_at}
@@ -56,7 +57,7 @@ is_to_move layout server m row =
 -- the first such slot behind another
 unfoldable pub next_to_move : Shape → ℕ → Option SlotId → MetaImage → Option SlotRow
 next_to_move layout server after m =
-    find (λ (row : SlotRow). is_behind after row && is_to_move layout server m row) m.slots
+    find (λ (row : SlotRow). is_behind after (slot_id row) && is_to_move layout server m row) m.slots
 
 -- a slot's copy is to move to a server that is chosen
 unfoldable pub evacuate_slot : Shape → ℕ → MetaImage → SlotRow → Decision

@@ -7,6 +7,7 @@ ghost use Rattle.qfs_model_meta.specs.Past.{no_past};
 ghost use Rattle.qfs_model_meta.specs.Sound.{IsSound};
 ghost use Rattle.qfs_model_meta.specs.Step.{opening};
 ghost use Rattle.qfs_model_meta.specs.WorkedFiles.{PutAndGet, TreeRefusals, Renamed, Replaced};
+ghost use Rattle.qfs_model_meta.specs.WorkedForeign.{ForeignHealed};
 ghost use Rattle.qfs_model_meta.specs.WorkedRepairs.{Moved, Recovered, Evacuated, Hibernated, Regranted, Dropped, Balanced};
 
 /// On nine servers a put of five bytes and a get: the nine slots are granted on the servers 1 to
@@ -38,6 +39,12 @@ pub fn moves_under_a_reader()
 /// A slot is recovered once its server is down or was emptied.
 pub fn recovers_a_slot()
     ensures { Recovered }
+{}
+
+/// The slots of a closed file are missing where no record of them is there, as only an image from
+/// elsewhere leaves them.
+pub fn heals_without_records()
+    ensures { ForeignHealed }
 {}
 
 /// A server is evacuated where another can take its copies.

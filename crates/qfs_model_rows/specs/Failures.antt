@@ -1,17 +1,20 @@
 -- Gets and puts while servers are down, were emptied or fail.
-use Rattle.std.specs.Prelude.{ℕ, List, [], ◌∷◌, ◌++◌, codes, replicate}
+use Rattle.std.specs.Prelude.{List, [], ◌∷◌, ◌++◌, codes}
 use Rattle.qfs_base.specs.declared.command.Command.{Command}
 use Rattle.qfs_base.specs.declared.command.Command.TheVariants as Does
 use Rattle.qfs_base.specs.declared.history.Step.{Step}
 use Rattle.qfs_base.specs.declared.script.Script.{Script}
 use Rattle.qfs_model_server.specs.Server.{Copies}
 use Rattle.qfs_model_rows.specs.Prints.{Prints, Stores, one_copy}
-use Rattle.qfs_model_rows.specs.Scripts.{path_a, get_all, put_one, put_five, small_script, steps, failing_steps, history_of_put}
+use Rattle.qfs_model_rows.specs.Scripts.{path_a, get_all, put_one, put_five, one_byte, no_byte, small_script, steps, failing_steps, history_of_put}
 
 -- three servers are down: the parity slots take their places
+abbrev pub degraded : Script
+degraded = small_script 9 ((put_five ∷ Does.Stop 1 ∷ Does.Stop 2 ∷ Does.Stop 3 ∷ get_all path_a ∷ []) ∷ [])
+
 abbrev pub DegradedGet : Type 0
 DegradedGet = Prints
-    (small_script 9 ((put_five ∷ Does.Stop 1 ∷ Does.Stop 2 ∷ Does.Stop 3 ∷ get_all path_a ∷ []) ∷ []))
+    degraded
     (steps 1 34)
     (codes "1 1 at 1 stored 5"
     ∷ codes "1 2 stopped"
@@ -41,10 +44,16 @@ TooFewListed = Prints
     ∷ [])
 
 -- four servers go down after the file was opened
+abbrev pub stopped_in_get : Script
+stopped_in_get = small_script 9 ((put_one ∷ get_all path_a ∷ []) ∷ stops ∷ [])
+
+abbrev pub stopping_order : List Step
+stopping_order = steps 1 21 ++ steps 2 8 ++ steps 1 10
+
 abbrev pub TooFewAnswer : Type 0
 TooFewAnswer = Prints
-    (small_script 9 ((put_one ∷ get_all path_a ∷ []) ∷ stops ∷ []))
-    (steps 1 21 ++ steps 2 8 ++ steps 1 10)
+    stopped_in_get
+    stopping_order
     (codes "1 1 at 1 stored 1"
     ∷ codes "1 2 at 2 toofew 0 0:down 3:down 7:down 8:down"
     ∷ codes "2 1 stopped"
@@ -59,20 +68,27 @@ TooFewAnswer = Prints
 abbrev pub put_and_get : Script
 put_and_get = small_script 9 ((put_five ∷ get_all path_a ∷ []) ∷ [])
 
+abbrev pub three_fail : List Step
+three_fail = steps 1 21 ++ failing_steps 1 3 ++ steps 1 7
+
 abbrev pub ThreeFetchesFail : Type 0
 ThreeFetchesFail = Prints
     put_and_get
-    (steps 1 21 ++ failing_steps 1 3 ++ steps 1 7)
+    three_fail
     (codes "1 1 at 1 stored 5"
     ∷ codes "1 2 at 2 read 5 hex 0102030405"
     ∷ history_of_put
     ++ codes "order 1x21 1fx3 1x7"
     ∷ [])
 
+abbrev pub four_fail : List Step
+four_fail =
+    steps 1 21 ++ failing_steps 1 1 ++ steps 1 2 ++ failing_steps 1 1 ++ steps 1 3 ++ failing_steps 1 2 ++ steps 1 1
+
 abbrev pub FourFetchesFail : Type 0
 FourFetchesFail = Prints
     put_and_get
-    (steps 1 21 ++ failing_steps 1 1 ++ steps 1 2 ++ failing_steps 1 1 ++ steps 1 3 ++ failing_steps 1 2 ++ steps 1 1)
+    four_fail
     (codes "1 1 at 1 stored 5"
     ∷ codes "1 2 at 2 toofew 0 0:fault 3:fault 7:fault 8:fault"
     ∷ history_of_put
@@ -105,14 +121,7 @@ EmptiedServer = Prints
     ++ codes "order 1x31"
     ∷ [])
 
--- the device of server 3 fails in a put: slot 2 goes to server 4 in its next version, and slot 3 to server 3. All data
--- stand in slot 0, so the parity chunks are as it is
-abbrev pub one_byte : List ℕ
-one_byte = 1 ∷ replicate 15 0
-
-abbrev pub no_byte : List ℕ
-no_byte = replicate 16 0
-
+-- the device of server 3 fails in a put: slot 2 goes to server 4 in its next version, and slot 3 to server 3
 abbrev pub regranted_copies : List Copies
 regranted_copies =
     one_copy 0 1 one_byte

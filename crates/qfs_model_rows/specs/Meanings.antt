@@ -31,8 +31,10 @@ use Rattle.qfs_model_world.specs.Made.{made, right_bytes}
 use Rattle.qfs_model_world.specs.Puts.{command_of}
 use Rattle.qfs_model_world.specs.Reports.{IsPlaced}
 use Rattle.qfs_model_world.specs.World.{after}
-use Rattle.qfs_model_rows.specs.Failures.{stops, put_and_get}
-use Rattle.qfs_model_rows.specs.Scripts.{path_of, path_a, put_hex, get_all, remove, put_one, put_five, small_script, steps, failing_steps}
+use Rattle.qfs_model_rows.specs.Failures.{degraded, stopped_in_get, stopping_order, put_and_get, three_fail, four_fail}
+use Rattle.qfs_model_rows.specs.Refusals.{put_anew, anew_order}
+use Rattle.qfs_model_rows.specs.Repairs.{moved_in_get, moving_order}
+use Rattle.qfs_model_rows.specs.Scripts.{path_of, path_a, small_script, steps}
 
 -- ---- held blocks
 
@@ -49,27 +51,13 @@ unfoldable pub holds_first_block : List Event → ℕ → ℕ → ℕ → Bool
 holds_first_block all number i j =
     held_if_open all number i j (option_and_then (λ (event : Event). opened_in event.reply) (slice_get all i))
 
--- three servers were down before: six copies are listed, and stay
-abbrev pub degraded : Script
-degraded = small_script 9 ((put_five ∷ Does.Stop 1 ∷ Does.Stop 2 ∷ Does.Stop 3 ∷ get_all path_a ∷ []) ∷ [])
-
--- three fetches fail, and a fourth
-abbrev pub three_fail : List Step
-three_fail = steps 1 21 ++ failing_steps 1 3 ++ steps 1 7
-
-abbrev pub four_fail : List Step
-four_fail =
-    steps 1 21 ++ failing_steps 1 1 ++ steps 1 2 ++ failing_steps 1 1 ++ steps 1 3 ++ failing_steps 1 2 ++ steps 1 1
-
--- four servers go down while the file is open
-abbrev pub stopped_in_get : Script
-stopped_in_get = small_script 9 ((put_one ∷ get_all path_a ∷ []) ∷ stops ∷ [])
-
+-- three servers were down before: six copies are listed, and stay. Three fetches fail, and a fourth. Four servers go down while
+-- the file is open
 pub record HeldBlocks : Type 0 where
   pub degraded_get : holds_first_block (events degraded (steps 1 34)) 5 26 33 ≡ true
   pub three_fetches_fail : holds_first_block (events put_and_get three_fail) 2 20 30 ≡ true
   pub four_fetches_fail : holds_first_block (events put_and_get four_fail) 2 20 30 ≡ false
-  pub four_servers_stop : holds_first_block (events stopped_in_get (steps 1 21 ++ steps 2 8 ++ steps 1 10)) 2 20 38 ≡ false
+  pub four_servers_stop : holds_first_block (events stopped_in_get stopping_order) 2 20 38 ≡ false
 
 -- ---- drawn orders
 
@@ -91,16 +79,6 @@ pub record DrawnOrders : Type 0 where
 -- ---- deletions
 
 -- a copy that was moved away is ordered deleted and erased, after the get's release; no other is
-abbrev pub moved_in_get : Script
-moved_in_get =
-    small_script 10 (
-    (put_one ∷ get_all path_a ∷ [])
-    ∷ (Does.Move path_a 0 0 10 ∷ Does.Sweep 5 ∷ Does.Sweep 5 ∷ [])
-    ∷ [])
-
-abbrev pub moving_order : List Step
-moving_order = steps 1 21 ++ steps 2 5 ++ steps 1 7 ++ steps 2 4
-
 abbrev pub first_copy : SlotCopy
 first_copy = record {
   block = record { file = 1; index = 0 };
@@ -114,14 +92,6 @@ pub record Deletions : Type 0 where
 -- ---- the file history
 
 -- a path is removed and put anew during a get: every reply agrees with the one history
-abbrev pub put_anew : Script
-put_anew =
-    small_script 9 (
-    (put_one ∷ get_all path_a ∷ []) ∷ (remove path_a ∷ put_hex path_a (2 ∷ []) ∷ get_all path_a ∷ []) ∷ [])
-
-abbrev pub anew_order : List Step
-anew_order = steps 1 21 ++ steps 2 21 ++ steps 1 7 ++ steps 2 8
-
 abbrev pub anew_history : List Entry
 anew_history =
     Wrote.Created 1 path_a

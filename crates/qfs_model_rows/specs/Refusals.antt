@@ -1,18 +1,26 @@
 -- Commands that are refused, and files that change under a get.
-use Rattle.std.specs.Prelude.{[], ◌∷◌, ◌++◌, codes}
+use Rattle.std.specs.Prelude.{List, [], ◌∷◌, ◌++◌, codes}
 use Rattle.qfs_base.specs.NameTree.{PathNames}
 use Rattle.qfs_base.specs.declared.command.Command.TheVariants as Does
 use Rattle.qfs_base.specs.declared.command.FileCommand.TheVariants as File
+use Rattle.qfs_base.specs.declared.history.Step.{Step}
 use Rattle.qfs_base.specs.declared.script.Script.{Script}
 use Rattle.qfs_model_rows.specs.Prints.{Prints}
 use Rattle.qfs_model_rows.specs.Scripts.{path_of, path_a, put_hex, put_fill, get_all, remove, put_one, small_script, steps, failing_steps, history_of_put}
 
 -- a path is removed and put anew during a get, which reads what it opened
+abbrev pub put_anew : Script
+put_anew =
+    small_script 9 (
+    (put_one ∷ get_all path_a ∷ []) ∷ (remove path_a ∷ put_hex path_a (2 ∷ []) ∷ get_all path_a ∷ []) ∷ [])
+
+abbrev pub anew_order : List Step
+anew_order = steps 1 21 ++ steps 2 21 ++ steps 1 7 ++ steps 2 8
+
 abbrev pub PutAnewDuringGet : Type 0
 PutAnewDuringGet = Prints
-    (small_script 9 (
-    (put_one ∷ get_all path_a ∷ []) ∷ (remove path_a ∷ put_hex path_a (2 ∷ []) ∷ get_all path_a ∷ []) ∷ []))
-    (steps 1 21 ++ steps 2 21 ++ steps 1 7 ++ steps 2 8)
+    put_anew
+    anew_order
     (codes "1 1 at 1 stored 1"
     ∷ codes "1 2 at 2 read 1 hex 01"
     ∷ codes "2 1 at 2 done"

@@ -1,5 +1,5 @@
 -- Copies are recovered, moved and swept.
-use Rattle.std.specs.Prelude.{◌≡◌, ℕ, List, [], ◌∷◌, ◌++◌, codes, replicate, Some}
+use Rattle.std.specs.Prelude.{◌≡◌, List, [], ◌∷◌, ◌++◌, codes, replicate, Some}
 use Rattle.qfs_base.specs.declared.chunk.Copy.{Copy}
 use Rattle.qfs_base.specs.declared.command.Command.{Command}
 use Rattle.qfs_base.specs.declared.command.Command.TheVariants as Does
@@ -9,23 +9,23 @@ use Rattle.qfs_model_meta.specs.Slots.{slot_at}
 use Rattle.qfs_model_server.specs.Server.{Copies}
 use Rattle.qfs_model_world.specs.World.{after}
 use Rattle.qfs_model_rows.specs.Prints.{Prints, Stores, one_copy}
-use Rattle.qfs_model_rows.specs.Scripts.{path_of, path_a, put_hex, get_all, remove, put_one, small_script, steps, history_of_put}
-
--- the chunks of a file of the one byte 01: in slot 0, and the parity slots are as it is
-abbrev pub one_byte : List ℕ
-one_byte = 1 ∷ replicate 15 0
-
-abbrev pub no_byte : List ℕ
-no_byte = replicate 16 0
+use Rattle.qfs_model_rows.specs.Scripts.{path_of, path_a, put_hex, get_all, remove, put_one, one_byte, no_byte, small_script, steps, history_of_put}
 
 -- a copy is moved during a get: the old one is deleted only after the get has released its lease
-abbrev pub MovedDuringGet : Type 0
-MovedDuringGet = Prints
-    (small_script 10 (
+abbrev pub moved_in_get : Script
+moved_in_get =
+    small_script 10 (
     (put_one ∷ get_all path_a ∷ [])
     ∷ (Does.Move path_a 0 0 10 ∷ Does.Sweep 5 ∷ Does.Sweep 5 ∷ [])
-    ∷ []))
-    (steps 1 21 ++ steps 2 5 ++ steps 1 7 ++ steps 2 4)
+    ∷ [])
+
+abbrev pub moving_order : List Step
+moving_order = steps 1 21 ++ steps 2 5 ++ steps 1 7 ++ steps 2 4
+
+abbrev pub MovedDuringGet : Type 0
+MovedDuringGet = Prints
+    moved_in_get
+    moving_order
     (codes "1 1 at 1 stored 1"
     ∷ codes "1 2 at 2 read 1 hex 01"
     ∷ codes "2 1 moved 1 0 0 from 1 to 10 version 2"

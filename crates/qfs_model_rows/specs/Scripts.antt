@@ -44,6 +44,14 @@ put_one = put_hex path_a (1 ∷ [])
 abbrev pub put_five : Command
 put_five = put_hex path_a (1 ∷ 2 ∷ 3 ∷ 4 ∷ 5 ∷ [])
 
+-- a chunk of one row whose first byte is 01, or that has no byte but zeros: with `put /a hex 01` slot 0 and the parity slots are
+-- of the first kind, since all data stand in slot 0, and the other slots of the second
+abbrev pub one_byte : List ℕ
+one_byte = 1 ∷ replicate 15 0
+
+abbrev pub no_byte : List ℕ
+no_byte = replicate 16 0
+
 -- one phase of actors with these commands, on so many servers
 abbrev pub script_of : Shape → ℕ → List (List Command) → Script
 script_of layout servers actors = record {

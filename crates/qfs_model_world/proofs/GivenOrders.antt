@@ -1,5 +1,5 @@
 -- Where an order that a script gives can be followed, and where it can't.
-use Rattle.std.proofs.Common.{◌≡◌, ℕ, suc, ◌+◌, Bool, true, false, cond, List, [], ◌∷◌, take, Option, Some, refl, sym, ap, subst, arith, true≢false}
+use Rattle.std.proofs.Common.{◌≡◌, ℕ, zero, suc, ◌+◌, Bool, true, false, cond, List, [], ◌∷◌, length, take, Option, Some, refl, sym, ◌∙◌, ap, subst, arith, ◌≤◌, true≢false}
 use Rattle.std.specs.Prelude.{◌&&◌, fold, is_none, unwrap_or, slice_get, IsTrue}
 use Rattle.std.specs.List.{list_all}
 use Rattle.qfs_base.specs.declared.history.Step.{Step}
@@ -45,6 +45,7 @@ followed script order = followed_from script order (start script) 0
 
 -- an order is bad so many steps behind a world
 record IsBadFrom (script : Script) (world : World) (steps : List Step) (count : ℕ) : Type 0 where
+  within : count ≤ length steps
   fitting : IsTrue (fits_from script world (take count steps))
   done : IsTrue (list_all is_done (take count steps))
   stuck : CantGoOn script (fold move world (take count steps)) (slice_get steps count)
@@ -69,7 +70,7 @@ bad_at_end : (script : Script) (world : World) (index i : ℕ) (over : Bool) →
 unfolding bad_end fits_from
 bad_at_end script world index i true is bad = absurd (true≢false (ap is_none bad))
 bad_at_end script world index i false is bad =
-    (0, omega (arith, same_place index i bad), record { fitting = refl; done = refl; stuck = is })
+    (0, omega (arith, same_place index i bad), record { within = omega arith; fitting = refl; done = refl; stuck = is })
 
 -- the same behind a step, where it holds of the rest
 bad_at_step : (script : Script) (step : Step) (steps : List Step) (world : World) (index i : ℕ)
@@ -80,7 +81,7 @@ bad_at_step : (script : Script) (step : Step) (steps : List Step) (world : World
     → (count : ℕ) × (i ≡ index + count) × IsBadFrom script world (step ∷ steps) count
 unfolding fits_from may_be_given
 bad_at_step script step steps world index i more false is bad =
-    (0, omega (arith, same_place index i bad), record { fitting = refl; done = refl; stuck = is })
+    (0, omega (arith, same_place index i bad), record { within = omega arith; fitting = refl; done = refl; stuck = is })
 bad_at_step script step steps world index i more true is bad =
     let rest = more bad in
     let found : IsBadFrom script (move world step) steps rest.0 = rest.2 in
@@ -89,6 +90,7 @@ bad_at_step script step steps world index i more true is bad =
       suc rest.0,
       omega (arith, rest.1),
       record {
+        within = omega (arith, found.within);
         fitting = both (may_come script world step) (fits_from script (move world step) (take rest.0 steps)) may found.fitting;
         done = both (is_done step) (list_all is_done (take rest.0 steps)) done found.done;
         stuck = found.stuck;
@@ -109,4 +111,54 @@ bad_there script order i bad =
     let found = bad_from_at script order (start script) 0 i bad in
     let here : found.0 ≡ i = omega (arith, found.1) in
     subst (IsBadAt script order) here
-    (record { fitting = found.2.fitting; done = found.2.done; stuck = found.2.stuck })
+    (record { within = found.2.within; fitting = found.2.fitting; done = found.2.done; stuck = found.2.stuck })
+
+-- ---- there is but one such place
+
+first_behind : (script : Script) (step : Step) (steps : List Step) (world : World) (index count : ℕ)
+    → (IsBadFrom script (move world step) steps count → bad_from script (move world step) (index + 1) steps ≡ Some (index + 1 + count))
+    → IsBadFrom script world (step ∷ steps) (suc count)
+    → bad_from script world index (step ∷ steps) ≡ Some (index + suc count)
+unfolding bad_from fits_from may_be_given
+first_behind script step steps world index count rest bad =
+    let fitting : fits_from script (move world step) (take count steps) ≡ true =
+    second_of (may_come script world step) (fits_from script (move world step) (take count steps)) bad.fitting in
+    let done : list_all is_done (take count steps) ≡ true =
+    second_of (is_done step) (list_all is_done (take count steps)) bad.done in
+    let may : (may_come script world step && is_done step) ≡ true =
+    both (may_come script world step) (is_done step)
+    (first_of (may_come script world step) (fits_from script (move world step) (take count steps)) bad.fitting)
+    (first_of (is_done step) (list_all is_done (take count steps)) bad.done) in
+    let next : bad_from script (move world step) (index + 1) steps ≡ Some (index + 1 + count) =
+    rest (record { within = omega (arith, bad.within); fitting = fitting; done = done; stuck = bad.stuck }) in
+    let there : index + 1 + count ≡ index + suc count = omega arith in
+    ap (λ may. cond may (bad_from script (move world step) (index + 1) steps) (Some index)) may ∙ next ∙ ap Some there
+
+first_here : (script : Script) (step : Step) (steps : List Step) (world : World) (index : ℕ)
+    → IsBadFrom script world (step ∷ steps) 0 → bad_from script world index (step ∷ steps) ≡ Some (index + 0)
+unfolding bad_from
+first_here script step steps world index bad =
+    let there : index ≡ index + 0 = omega arith in
+    ap (λ may. cond may (bad_from script (move world step) (index + 1) steps) (Some index)) bad.stuck ∙ ap Some there
+
+first_at_end : (script : Script) (world : World) (index count : ℕ)
+    → IsBadFrom script world [] count → bad_from script world index [] ≡ Some (index + count)
+unfolding bad_from bad_end
+first_at_end script world index zero bad =
+    let there : index ≡ index + 0 = omega arith in
+    ap (bad_end index) bad.stuck ∙ ap Some there
+first_at_end script world index (suc count) bad = absurd (omega (arith, bad.within))
+
+first_from : (script : Script) (steps : List Step) (world : World) (index count : ℕ)
+    → IsBadFrom script world steps count → bad_from script world index steps ≡ Some (index + count)
+first_from script [] world index count bad = first_at_end script world index count bad
+first_from script (step ∷ steps) world index zero bad = first_here script step steps world index bad
+first_from script (step ∷ steps) world index (suc count) bad =
+    first_behind script step steps world index count (first_from script steps (move world step) (index + 1) count) bad
+
+pub first_there : (script : Script) (order : List Step) (i : ℕ) → IsBadAt script order i → bad_place script order ≡ Some i
+unfolding bad_place fits after
+first_there script order i bad =
+    let there : 0 + i ≡ i = omega arith in
+    first_from script order (start script) 0 i
+    (record { within = bad.within; fitting = bad.fitting; done = bad.done; stuck = bad.stuck }) ∙ ap Some there

@@ -1,4 +1,5 @@
 pub mod OneActor
+pub mod OneStep
 pub mod Texts
 pub mod OnLiterals
 pub mod Orders

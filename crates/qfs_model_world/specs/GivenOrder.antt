@@ -1,5 +1,5 @@
 -- Orders that a script gives, step by step: where one can't be followed any further.
-use Rattle.std.specs.Prelude.{◌≡◌, ℕ, ◌+◌, ◌&&◌, Bool, false, if◌then◌else◌, List, [], ◌∷◌, take, slice_get, Option, Some, None, IsTrue}
+use Rattle.std.specs.Prelude.{◌≡◌, ℕ, ◌+◌, ◌≤◌, ◌&&◌, Bool, false, if◌then◌else◌, List, [], ◌∷◌, length, take, slice_get, Option, Some, None, IsTrue}
 use Rattle.std.specs.List.{list_all}
 use Rattle.qfs_base.specs.declared.history.Outcome.TheVariants as Ended
 use Rattle.qfs_base.specs.declared.history.Step.{Step}
@@ -41,8 +41,10 @@ abbrev pub CantGoOn : Script → World → Option Step → Type 0
 CantGoOn script world None = is_over script world ≡ false
 CantGoOn script world (Some step) = may_be_given script world step ≡ false
 
--- an order is bad at a place: the steps before can be followed, and there it can't go on
+-- an order is bad at a place, that of one of its steps or its end: the steps before can be followed, and there it can't go on.
+-- There is at most one such place, the first that is bad
 pub record IsBadAt (script : Script) (order : List Step) (place : ℕ) : Type 0 where
+  pub within : place ≤ length order
   pub fitting : IsTrue (fits script (take place order))
   pub done : IsTrue (list_all is_done (take place order))
   pub stuck : CantGoOn script (after script (take place order)) (slice_get order place)

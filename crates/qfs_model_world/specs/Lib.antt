@@ -3,6 +3,7 @@ pub mod Fits
 pub mod Puts
 pub mod FileHistory
 pub mod Events
+pub mod OneStep
 pub mod Made
 pub mod Audit
 pub mod Text

@@ -105,8 +105,10 @@ pub record GrantedOnceIn (world : World) (past : Past) : Type 0 where
 abbrev pub IsPastLife : World → Inventoried → Type 0
 IsPastLife world i = IfSome (numbered world.servers i.server) (λ (server : Server). i.life ≤ server.life)
 
--- a server's known life is at most its life; a granted or listed life is at most the known one
+-- the metaserver sees as many servers as there are, and a server's known life is at most its life; a granted or listed life is
+-- at most the known one
 pub record LivesAgree (world : World) (past : Past) : Type 0 where
+  pub as_many : length world.meta.servers ≡ length world.servers
   pub known : Each (λ (s : ℕ × Server). (server_at world.meta.servers s.0).life ≤ s.1.life) (numbered_servers world)
   pub granted : LivesRise past world.meta
   pub listed : Each (λ (l : ListedCopy).

@@ -14,8 +14,16 @@ pub fn orders_are_followed_that_fit()
         → is_none (bad_place script order) ≡ (fits script order && (list_all is_done order && is_whole script order)) }
 {}
 
-/// At the place where an order is bad the steps before can be followed, and there it can't go on.
+/// At the place where an order is bad, which is that of a step of it or its end, the steps before
+/// can be followed, and there it can't go on.
 pub fn bad_orders_cant_go_on()
     ensures { (script : Script) (order : List Step) (place : ℕ)
         → bad_place script order ≡ Some place → IsBadAt script order place }
+{}
+
+/// Where the steps before a place can be followed and there the order can't go on, that is the one
+/// place where it is bad.
+pub fn orders_are_bad_at_one_place()
+    ensures { (script : Script) (order : List Step) (place : ℕ)
+        → IsBadAt script order place → bad_place script order ≡ Some place }
 {}

@@ -1,24 +1,26 @@
 -- A world at its start.
-use Rattle.std.proofs.Common.{◌≡◌, ℕ, ◌≤◌, List, [], ◌∷◌, length, take, Option, Some, None, refl, sym, ◌∙◌, ap, subst, arith, length-take}
+use Rattle.std.proofs.Common.{◌≡◌, ℕ, suc, zero, ◌≤◌, List, [], ◌∷◌, length, take, Option, Some, None, refl, sym, ◌∙◌, ap, subst, arith, length-take, slice_get}
 use Rattle.std.specs.Prelude.{map, replicate, All, IsSome, IsTrue}
 use Rattle.std.specs.List.{AllByRecursion}
 use Rattle.std.proofs.lemmas.List.{length-map}
 use Rattle.std.proofs.lemmas.List.Elements.{recursion_from_All, All-take}
 use Rattle.qfs_actor.specs.Standing.{Standing}
+use Rattle.qfs_base.specs.declared.chunk.ChunkKey.{ChunkKey}
 use Rattle.qfs_base.specs.declared.image.MetaImage.{MetaImage}
 use Rattle.qfs_base.specs.declared.script.Script.{Script}
-use Rattle.qfs_device.specs.Held.{Held, new_device}
+use Rattle.qfs_device.specs.Held.{Held, chunk_at, new_device}
 use Rattle.qfs_meta.specs.Metaserver.{Metaserver}
 use Rattle.qfs_model_meta.specs.Step.{opening}
-use Rattle.qfs_model_server.specs.Server.{fresh_server}
+use Rattle.qfs_model_server.specs.Server.{Server, fresh_server}
+use Rattle.qfs_model_world.specs.Events.{Event, events}
 use Rattle.qfs_model_world.specs.Fits.{fits, fits_from}
-use Rattle.qfs_model_world.specs.World.{start, after}
+use Rattle.qfs_model_world.specs.World.{numbered, start, after}
 use Rattle.qfs_store.specs.Fresh.{fresh_stands}
 use Rattle.qfs_store.specs.Stands.{StandsOn, no_copies, kept}
 use Rattle.qfs_store.specs.Stored.{Stored}
 use Rattle.qfs_world.specs.AtWork.{IsAtWork, AreNumbered, image_of, stores_of, actors_of, sizes_of, starts_from, total}
 use Rattle.qfs_world.specs.Calls.{IsNew, stored_over}
-use Rattle.qfs_world.specs.Follows.{Follows, IsServer, StandForAll}
+use Rattle.qfs_world.specs.Follows.{Follows, HoldNoOthers, IsServer, StandForAll}
 use Rattle.qfs_world.specs.Running.{AllTell, IsRunnable, commands_by_actor}
 use Rattle.qfs_world.specs.declared.node.NodeState.{NodeState}
 use Rattle.qfs_world.proofs.Nodes.{nodes_with, stores-with}
@@ -48,6 +50,25 @@ module _ {D : Type 0} (told : D → Option Held) (faults : D → ℕ) where
   all-stand [] fresh tell = tt
   all-stand (device ∷ devices) fresh tell =
       (new-stands device fresh.0 (told device) refl tell.0, all-stand devices fresh.1 tell.1)
+
+  -- a new device holds nothing
+  new-at : (devices : List D) (k : ℕ) (stored : Stored) (held : Held) → AllByRecursion (IsNew told) devices
+      → slice_get (map (stored_over told faults) devices) k ≡ Some stored → stored.told ≡ Some held → held ≡ new_device
+  new-at [] k stored held fresh e is = absurd (cc)
+  new-at (device ∷ devices) zero stored held fresh e is =
+      let same : stored_over told faults device ≡ stored = cc in fresh.0 held (ap (λ (s : Stored). s.told) same ∙ is)
+  new-at (device ∷ devices) (suc k) stored held fresh e is = new-at devices k stored held fresh.1 e is
+
+  none-held : (held : Held) (key : ChunkKey) (found : List ℕ) → held ≡ new_device → chunk_at held key ≡ Some found → ⊥
+  none-held held key found new there =
+      let none : chunk_at held key ≡ None = ap (λ (h : Held). chunk_at h key) new in cc
+
+  all-empty : (steps : List Event) (devices : List D) (servers : List Server) → AllByRecursion (IsNew told) devices
+      → HoldNoOthers steps (map (stored_over told faults) devices) servers
+  unfolding numbered
+  all-empty steps devices servers fresh zero stored server held of to is = absurd (cc)
+  all-empty steps devices servers fresh (suc k) stored server held of to is =
+      λ key found absent there. absurd (none-held held key found (new-at devices k stored held fresh of is) there)
 
   -- the chunk servers of a script over the first devices
   abbrev pub first_stores : Script → List D → List Stored
@@ -88,14 +109,15 @@ module _ {D : Type 0} (told : D → Option Held) (faults : D → ℕ) where
     at-start : AllTell (first_stores script devices)
         → Follows script [] (opening script.servers) (first_stores script devices) (actors_of actors)
     at-start tell =
+        let new = recursion_from_All (IsNew told) (take script.servers devices) (All-take (IsNew told) script.servers devices fresh) in
         let stand =
-        all-stand (take script.servers devices)
-        (recursion_from_All (IsNew told) (take script.servers devices) (All-take (IsNew told) script.servers devices fresh))
+        all-stand (take script.servers devices) new
         (recursion_from_All (λ (s : Stored). IsSome s.told) (first_stores script devices) tell) in
         record {
           servers = replicate script.servers fresh_server;
           world = starts-after script actors actors_are;
           stand = subst (λ n. StandForAll (first_stores script devices) (replicate n fresh_server)) many stand;
+          others = all-empty (events script []) (take script.servers devices) (replicate script.servers fresh_server) new;
           fits = fits-none script;
         }
 

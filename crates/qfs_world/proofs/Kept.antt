@@ -1,7 +1,8 @@
 -- A world at work stays that of the definitions through a step.
-use Rattle.std.proofs.Common.{◌≡◌, ℕ, suc, zero, true, List, [], ◌∷◌, ◌++◌, Some, None, refl, sym, ◌∙◌, ap, slice_get, slice_set}
+use Rattle.std.proofs.Common.{◌≡◌, ℕ, suc, zero, true, false, List, [], ◌∷◌, ◌++◌, Some, None, refl, sym, ◌∙◌, ap, subst, slice_get, slice_set}
 use Rattle.std.specs.Prelude.{◌==◌, IsSome, IsTrue, is_some}
 use Rattle.std.specs.List.{list_any, AllByRecursion}
+use Rattle.std.proofs.lemmas.Option.{same_Some}
 use Rattle.std.proofs.lemmas.List.Elements.{All-from_recursion, recursion_from_All}
 use Rattle.qfs_base.specs.Outcome.{outcome_of, meta_outcome, chunk_outcome}
 use Rattle.qfs_base.specs.declared.history.Outcome.{Outcome}
@@ -11,28 +12,34 @@ use Rattle.qfs_base.specs.declared.reply.ChunkAnswer.{ChunkAnswer}
 use Rattle.qfs_base.specs.declared.reply.ChunkAnswer.TheVariants as Did
 use Rattle.qfs_base.specs.declared.reply.ChunkReply.{ChunkReply}
 use Rattle.qfs_base.specs.declared.reply.MetaReply.{MetaReply}
+use Rattle.qfs_base.specs.declared.reply.NodeReply.{NodeReply}
 use Rattle.qfs_base.specs.declared.reply.NodeReply.TheVariants as From
 use Rattle.qfs_base.specs.declared.request.ChunkRequest.{ChunkRequest}
 use Rattle.qfs_base.specs.declared.request.ChunkRequest.TheVariants as Serve
 use Rattle.qfs_base.specs.declared.request.MetaRequest.{MetaRequest}
+use Rattle.qfs_base.specs.declared.request.NodeRequest.{NodeRequest}
 use Rattle.qfs_base.specs.declared.request.NodeRequest.TheVariants as To
 use Rattle.qfs_base.specs.declared.script.Script.{Script}
 use Rattle.qfs_machine.specs.Askable.{IsAskedOfServer}
 use Rattle.qfs_meta.specs.Metaserver.{Metaserver}
-use Rattle.qfs_model_actor.specs.Actor.{Actor}
+use Rattle.qfs_device.specs.Held.{Held}
+use Rattle.qfs_model_actor.specs.Actor.{Actor, request_of}
 use Rattle.qfs_model_meta.specs.Step.{meta_step}
-use Rattle.qfs_model_server.specs.Server.{Server, server_step}
+use Rattle.qfs_model_headline.specs.Nodes.{HoldsNoOther, wiped_at}
+use Rattle.qfs_model_server.specs.Server.{Server, Answered, server_step}
+use Rattle.qfs_model_world.specs.Events.{Event, events}
 use Rattle.qfs_model_world.specs.Fits.{chunk_may_fail, chunk_may_want, may_fail, may_want_memory, may_end}
 use Rattle.qfs_model_world.specs.World.{World, numbered, renumbered, node_turn, meta_turned, chunk_turn, chunk_turned}
 use Rattle.qfs_store.specs.Stands.{OnFault, MemoryFor, TakesNoMemory}
 use Rattle.qfs_store.specs.Stored.{Stored}
-use Rattle.qfs_world.specs.Follows.{Follows, StandForAll}
+use Rattle.qfs_world.specs.Follows.{Follows, HoldNoOthers, StandForAll}
 use Rattle.qfs_world.specs.Running.{AllTell, turn_of}
 use Rattle.qfs_world.specs.Turns.{no_server}
 use Rattle.qfs_world.specs.declared.node.NodeState.{NodeState}
 use Rattle.qfs_world.proofs.Nodes.{OfMeta, OfStore, OfNone}
-use Rattle.qfs_world.proofs.Simulation.{world-after, fits-after}
-use Rattle.qfs_world.proofs.Stands.{stands-at, stands-past, stands-set, store-follows}
+use Rattle.qfs_world.proofs.Others.{KeepsUnlessWipe, step-kept, meta-empties, down-empties, no-other-after, no-others-longer, no-others-set}
+use Rattle.qfs_world.proofs.Simulation.{event, events-after, world-after, fits-after}
+use Rattle.qfs_world.proofs.Stands.{ServerAt, stands-at, stands-past, stands-set, store-follows, Follows as Served}
 
 -- ---- which outcomes may come
 
@@ -146,6 +153,36 @@ module _ (script : Script) (order : List Step) (meta : Metaserver) (stores : Lis
     unfolding numbered
     found = there
 
+    -- a step that empties no server leaves what devices hold of no copy
+    more-others : (request : NodeRequest) (asked : request_of actor ≡ Some request) (served : World) (reply : NodeReply)
+        → (turned : node_turn world (suc place) outcome request ≡ record { world = served; reply = reply })
+        → ((number : ℕ) → wiped_at number reply request ≡ false)
+        → HoldNoOthers (events script (order ++ entry ∷ [])) stores follows.servers
+    more-others request asked served reply turned stays =
+        subst (λ steps. HoldNoOthers steps stores follows.servers)
+        (sym (events-after script order world (suc place) actor request follows.world found asked outcome served reply turned))
+        (no-others-longer (events script order)
+        (event script order world (suc place) actor request follows.world found asked outcome served reply turned)
+        stores follows.servers stays follows.others)
+
+    -- the device of the server that took its step holds no others behind it
+    store-others : (t : OfStore meta stores actor outcome behind moved) (event : Event) (at : ServerAt t.stored follows.servers t.place)
+        → (to : Served t.request t.answer at.server t.next)
+        → server_step t.request outcome at.server ≡ record { server = (server_step t.request (chunk_outcome t.answer.answer) at.server).server; reply = t.answer }
+        → event.request ≡ To.Chunk (suc t.place) t.request → event.outcome ≡ outcome → event.reply ≡ From.Chunk t.answer
+        → (held : Held) → t.next.told ≡ Some held
+        → HoldsNoOther (events script order ++ event ∷ []) (suc t.place) held (server_step t.request (chunk_outcome t.answer.answer) at.server).server
+    store-others t event at to step asked ended told held is =
+        let same : to.is.held ≡ held = same_Some to.is.held held (sym to.is.told ∙ is) in
+        subst (λ h. HoldsNoOther (events script order ++ event ∷ []) (suc t.place) h (server_step t.request (chunk_outcome t.answer.answer) at.server).server) same
+        (no-other-after (events script order) event (suc t.place) t.request t.answer at.server
+        (server_step t.request (chunk_outcome t.answer.answer) at.server).server t.stored.known t.next.known at.is.held to.is.held
+        t.askable asked (ended ∙ chunk-ends outcome t.answer t.outcome_is) told
+        (subst (λ (a : Answered). KeepsUnlessWipe t.request a.reply.answer) step (step-kept t.request outcome at.server))
+        at.is.stands to.is.stands (t.serves.chunks at.is.held to.is.held at.is.told to.is.told) t.serves.known
+        (follows.others (suc t.place) t.stored at.server at.is.held (numbered-is stores t.place t.stored t.there)
+        (numbered-is follows.servers t.place at.server at.there) at.is.told))
+
     pub follows-meta : (t : OfMeta meta stores actor outcome behind moved)
         → Follows script (order ++ entry ∷ []) t.next.image stores (slice_set actors place moved)
     unfolding node_turn meta_turned renumbered
@@ -167,6 +204,8 @@ module _ (script : Script) (order : List Step) (meta : Metaserver) (stores : Lis
               outcome (record world { meta = t.next.image }) (From.Meta t.answer) turned
               ∙ ap (λ m. record { layout = script.layout; meta = t.next.image; servers = follows.servers; actors = slice_set actors place m }) (sym t.took);
           stand = follows.stand;
+          others = more-others (To.Meta t.request) t.asked (record world { meta = t.next.image }) (From.Meta t.answer) turned
+              (meta-empties (From.Meta t.answer) t.request);
           fits =
               fits-after script order world (suc place) actor (To.Meta t.request) follows.world found t.asked
               outcome (record world { meta = t.next.image }) (From.Meta t.answer) turned t.outcome_is may turns follows.fits;
@@ -188,6 +227,8 @@ module _ (script : Script) (order : List Step) (meta : Metaserver) (stores : Lis
               outcome world no_server turned
               ∙ ap (λ m. record { layout = script.layout; meta = meta.image; servers = follows.servers; actors = slice_set actors place m }) (sym t.took);
           stand = follows.stand;
+          others = more-others (To.Chunk t.server t.request) t.asked world no_server turned
+              (down-empties t.server t.request);
           fits =
               fits-after script order world (suc place) actor (To.Chunk t.server t.request) follows.world found t.asked
               outcome world no_server turned t.outcome_is may turns follows.fits;
@@ -219,6 +260,13 @@ module _ (script : Script) (order : List Step) (meta : Metaserver) (stores : Lis
               outcome served (From.Chunk t.answer) turned
               ∙ ap (λ m. record { layout = script.layout; meta = meta.image; servers = slice_set follows.servers t.place server; actors = slice_set actors place m }) (sym t.took);
           stand = stands-set stores follows.servers t.place t.next server follows.stand to.is;
+          others =
+              subst (λ steps. HoldNoOthers steps (slice_set stores t.place t.next) (slice_set follows.servers t.place server))
+              (sym (events-after script order world (suc place) actor (To.Chunk (suc t.place) t.request) follows.world found t.asked
+              outcome served (From.Chunk t.answer) turned))
+              (no-others-set (events script order) _ stores follows.servers t.place t.next server t.request t.answer refl refl
+              (store-others t (event script order world (suc place) actor (To.Chunk (suc t.place) t.request) follows.world found t.asked
+              outcome served (From.Chunk t.answer) turned) at to step refl refl refl) follows.others);
           fits =
               fits-after script order world (suc place) actor (To.Chunk (suc t.place) t.request) follows.world found t.asked
               outcome served (From.Chunk t.answer) turned t.outcome_is may turns follows.fits;

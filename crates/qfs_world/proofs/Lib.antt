@@ -1,11 +1,13 @@
 pub mod Asked
 pub mod Begin
+pub mod Faults
 pub mod Home
 pub mod Kept
 pub mod Lists
 pub mod Nodes
 pub mod Numbered
 pub mod OneNode
+pub mod Others
 pub mod Simulation
 pub mod Stands
 pub mod Starts

@@ -1,16 +1,14 @@
 -- A turn looks at one node, and changes one.
-use Rattle.std.proofs.Common.{◌≡◌, ℕ, suc, zero, List, Option, Some, None, refl, sym, ◌∙◌, ap, ap₂, slice_get, slice_set}
+use Rattle.std.proofs.Common.{◌≡◌, ℕ, suc, zero, List, Option, Some, None, refl, sym, ◌∙◌, ap, ap₂}
 use Rattle.qfs_base.specs.Shape.{Shape}
 use Rattle.qfs_base.specs.declared.history.Outcome.{Outcome}
 use Rattle.qfs_base.specs.declared.image.MetaImage.{MetaImage}
 use Rattle.qfs_base.specs.declared.request.ChunkRequest.{ChunkRequest}
-use Rattle.qfs_base.specs.declared.request.MetaRequest.{MetaRequest}
-use Rattle.qfs_base.specs.declared.request.NodeRequest.{NodeRequest}
 use Rattle.qfs_base.specs.declared.request.NodeRequest.TheVariants as To
 use Rattle.qfs_base.specs.declared.reply.NodeReply.TheVariants as From
 use Rattle.qfs_model_meta.specs.Step.{Served, meta_step}
 use Rattle.qfs_model_server.specs.Server.{Server, server_step}
-use Rattle.qfs_model_world.specs.World.{World, Turned, numbered, renumbered, node_turn, meta_turned, chunk_turn, chunk_turned}
+use Rattle.qfs_model_world.specs.World.{World, numbered, renumbered, node_turn, meta_turned, chunk_turn, chunk_turned}
 use Rattle.qfs_world.specs.Frame.{SameNode, OthersSame, TurnsAreAlike, TurnsChangeOneNode}
 use Rattle.qfs_world.proofs.Lists.{get-set, get-set-other}
 

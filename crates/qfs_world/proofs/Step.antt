@@ -28,6 +28,7 @@ use Rattle.qfs_world.specs.Running.{Running, AllTell, turn_of, steps_left}
 use Rattle.qfs_world.specs.Turns.{GoesOn, no_server}
 use Rattle.qfs_world.specs.declared.node.NodeState.{NodeState}
 use Rattle.qfs_world.specs.declared.node.NodeState.TheVariants as Node
+use Rattle.qfs_world.proofs.Faults.{RoseAt, one-more, rises-at, fails-nowhere-else}
 use Rattle.qfs_world.proofs.Kept.{all-tell-set, chunk-ends, fault-of, meta-ends, numbered-is, follows-meta, follows-none, follows-store}
 use Rattle.qfs_world.proofs.Lists.{get-set, get-set-other, set-same}
 use Rattle.qfs_world.proofs.Nodes.{node-meta, node-chunk, nodes_with, stores-with, OfMeta, OfStore, OfNone, Took, took-turn}
@@ -201,21 +202,13 @@ module _ {D : Type 0} where
 
     -- ---- what a step tells
 
-    -- a device of this server has failed between these
-    record HasFault (stores' : List Stored) (node : ℕ) : Type 0 where
-      pub old : Stored
-      pub new : Stored
-      pub was : numbered stores node ≡ Some old
-      pub is_now : numbered stores' node ≡ Some new
-      pub rose : Rose old.faults new.faults
-
     record Tells (meta' : Metaserver) (stores' : List Stored) (reply : NodeReply) (node : ℕ) : Type 0 where
       pub is : Behind meta' stores' reply
       pub to : node_of it.actor ≡ Some node
       pub meta_stays : (node ≡ 0 → ⊥) → meta'.image ≡ image_of nodes
       pub stores_stay : (server : ℕ) → (server ≡ node → ⊥) → numbered stores' server ≡ numbered stores server
       pub goes_on : AllZip GoesOn stores stores'
-      pub cause : outcome ≡ Ended.Failed → HasFault stores' node
+      pub cause : outcome ≡ Ended.Failed → RoseAt stores stores' node
 
     tells-meta : (t : OfMeta meta stores it.actor outcome behind next.actor) → Tells t.next stores (From.Meta t.answer) 0
     tells-meta t = record {
@@ -288,6 +281,7 @@ module _ {D : Type 0} where
           let image : image_of behind ≡ meta'.image = ap image_of t.is.nodes_are in
           let all : actors_of (slice_set actors place next) ≡ slice_set (actors_of actors) place (after_reply it.actor reply) =
           actors-set actors place next ∙ ap (slice_set (actors_of actors) place) t.is.took in
+          let goes_on : AllZip GoesOn stores (stores_of behind) = subst (AllZip GoesOn stores) same t.goes_on in
           record {
             actor = it.actor;
             node = node;
@@ -300,7 +294,7 @@ module _ {D : Type 0} where
               meta = λ apart. image ∙ t.meta_stays apart;
               stores = λ server apart. ap (λ ss. numbered ss server) (sym same) ∙ t.stores_stay server apart;
             };
-            goes_on = subst (AllZip GoesOn stores) same t.goes_on;
+            goes_on = goes_on;
             cause =
                 λ failed.
                 let f = t.cause failed in
@@ -310,6 +304,18 @@ module _ {D : Type 0} where
                   before_is = f.was;
                   behind_is = ap (λ ss. numbered ss node) (sym same) ∙ f.is_now;
                   rose = f.rose;
+                };
+            faults =
+                λ tell.
+                let follows = work.follows tell in
+                let more =
+                one-more script order _ (suc place) it.actor node outcome follows.world
+                (numbered-is (actors_of actors) place it.actor (actors-at actors place it there)) t.to in
+                let cause : outcome ≡ Ended.Failed → RoseAt stores (stores_of behind) node =
+                λ failed. subst (λ ss. RoseAt stores ss node) same (t.cause failed) in
+                record {
+                  at_servers = λ n old new. rises-at script order (suc place) node outcome more stores (stores_of behind) cause n old new goes_on;
+                  elsewhere = fails-nowhere-else script order (suc place) node outcome more stores (stores_of behind) cause;
                 };
             falls =
                 let fewer = left-all-falls (actors_of actors) place it.actor reply (actors-at actors place it there) unfinished in

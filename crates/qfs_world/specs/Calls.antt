@@ -1,5 +1,5 @@
 -- What the calls of a world promise.
-use Rattle.std.specs.Prelude.{ℕ, ◌≡◌, ◌<◌, ◌==◌, List, [], ◌∷◌, ◌++◌, length, take, drop, map, flat_map, Option, Some, IsTrue}
+use Rattle.std.specs.Prelude.{ℕ, ◌≡◌, ◌+◌, ◌<◌, ◌≤◌, ◌==◌, List, [], ◌∷◌, ◌++◌, length, take, drop, map, flat_map, Option, Some, None, IsTrue}
 use Rattle.std.specs.List.{AllZip, list_any}
 use Rattle.std.specs.Option.{ForSome}
 use Rattle.qfs_base.specs.declared.command.ReplyLine.{ReplyLine}
@@ -7,16 +7,18 @@ use Rattle.qfs_base.specs.declared.history.Outcome.{Outcome}
 use Rattle.qfs_base.specs.declared.history.Outcome.TheVariants as Ended
 use Rattle.qfs_base.specs.declared.reply.NodeReply.{NodeReply}
 use Rattle.qfs_base.specs.declared.script.Script.{Script}
-use Rattle.qfs_device.specs.Fault.{Rose}
+use Rattle.qfs_device.specs.Fault.{Rose, last_count}
 use Rattle.qfs_device.specs.Held.{Held, new_device}
 use Rattle.qfs_device.specs.declared.log_disk.MetaDisks.{MetaDisks}
 use Rattle.qfs_model_actor.specs.Actor.{Actor, after_reply, node_of}
 use Rattle.qfs_model_meta.specs.Step.{opening}
+use Rattle.qfs_model_world.specs.Events.{events}
+use Rattle.qfs_model_world.specs.Headline.{failed_at}
 use Rattle.qfs_model_world.specs.Text.{lines_of_actor}
 use Rattle.qfs_model_world.specs.World.{numbered, renumbered, numbered_actors}
 use Rattle.qfs_store.specs.Stands.{no_copies}
 use Rattle.qfs_store.specs.Stored.{Stored}
-use Rattle.qfs_world.specs.Running.{Running, commands_by_actor, turn_of, steps_left}
+use Rattle.qfs_world.specs.Running.{Running, AllTell, commands_by_actor, turn_of, steps_left}
 use Rattle.qfs_world.specs.Turns.{GoesOn}
 
 -- ---- a new world
@@ -60,6 +62,16 @@ module _ {D L : Type 0} where
     pub meta : (node ≡ 0 → ⊥) → behind.meta ≡ before.meta
     pub stores : (server : ℕ) → (server ≡ node → ⊥) → numbered behind.stores server ≡ numbered before.stores server
 
+  -- the counts of the servers' devices rose at least as often as steps failed at their servers, but for counts at their last
+  -- value; and no step failed at another node
+  pub record FaultsRise (before behind : Running D L) : Type 0 where
+    pub at_servers : (number : ℕ) (old new : Stored)
+        → numbered before.stores number ≡ Some old → numbered behind.stores number ≡ Some new → new.faults < last_count
+        → old.faults + failed_at number (events behind.script behind.order)
+        ≤ new.faults + failed_at number (events before.script before.order)
+    pub elsewhere : (number : ℕ) → numbered before.stores number ≡ None
+        → failed_at number (events behind.script behind.order) ≡ failed_at number (events before.script before.order)
+
   -- an actor took its step, which came out so: the order has one entry more, and nothing else changed but that actor and
   -- the node that its request went to
   pub record Steps (before : Running D L) (number : ℕ) (outcome : Outcome) (behind : Running D L) : Type 0 where
@@ -73,6 +85,7 @@ module _ {D L : Type 0} where
     pub others : OthersStay before behind node
     pub goes_on : AllZip GoesOn before.stores behind.stores
     pub cause : outcome ≡ Ended.Failed → HasRisen before behind node
+    pub faults : AllTell before.stores → FaultsRise before behind
     pub falls : steps_left behind.actors < steps_left before.actors
     pub script_is : behind.script ≡ before.script
     pub spare_are : behind.spare ≡ before.spare

@@ -1,13 +1,15 @@
 -- When the nodes and actors of a world at work are those of the definitions.
-use Rattle.std.specs.Prelude.{◌≡◌, List, [], ◌∷◌, Some, IsTrue}
+use Rattle.std.specs.Prelude.{ℕ, ◌≡◌, List, [], ◌∷◌, Some, IsTrue}
 use Rattle.qfs_base.specs.declared.history.Step.{Step}
 use Rattle.qfs_base.specs.declared.image.MetaImage.{MetaImage}
 use Rattle.qfs_base.specs.declared.script.Script.{Script}
 use Rattle.qfs_device.specs.Held.{Held}
 use Rattle.qfs_model_actor.specs.Actor.{Actor}
+use Rattle.qfs_model_headline.specs.Nodes.{HoldsNoOther}
 use Rattle.qfs_model_server.specs.Server.{Server}
+use Rattle.qfs_model_world.specs.Events.{Event, events}
 use Rattle.qfs_model_world.specs.Fits.{fits}
-use Rattle.qfs_model_world.specs.World.{after}
+use Rattle.qfs_model_world.specs.World.{numbered, after}
 use Rattle.qfs_store.specs.Stands.{StandsOn, kept}
 use Rattle.qfs_store.specs.Stored.{Stored}
 use Rattle.qfs_world.specs.Running.{Running, AllTell}
@@ -27,11 +29,19 @@ StandForAll [] (server ∷ servers) = ⊥
 StandForAll (stored ∷ stores) [] = ⊥
 StandForAll (stored ∷ stores) (server ∷ servers) = IsServer stored server × StandForAll stores servers
 
+-- on the device of each of these servers, every key of no copy is one that a failed Put left in these steps
+abbrev pub HoldNoOthers : List Event → List Stored → List Server → Type 0
+HoldNoOthers steps stores servers =
+    (number : ℕ) (stored : Stored) (server : Server) (held : Held)
+    → numbered stores number ≡ Some stored → numbered servers number ≡ Some server → stored.told ≡ Some held
+    → HoldsNoOther steps number held server
+
 -- the metaserver, the stores and the actors are those of the world after an order of a script, and the order fits it
 pub record Follows (script : Script) (order : List Step) (meta : MetaImage) (stores : List Stored) (actors : List Actor) : Type 0 where
   pub servers : List Server
   pub world : after script order ≡ record { layout = script.layout; meta = meta; servers = servers; actors = actors }
   pub stand : StandForAll stores servers
+  pub others : HoldNoOthers (events script order) stores servers
   pub fits : IsTrue (fits script order)
 
 -- as far as the devices tell what they hold, a world at work is the world after its own order of its script

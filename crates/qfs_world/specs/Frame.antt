@@ -3,7 +3,7 @@ use Rattle.std.specs.Prelude.{ℕ, ◌≡◌}
 use Rattle.qfs_base.specs.declared.history.Outcome.{Outcome}
 use Rattle.qfs_base.specs.declared.request.NodeRequest.{NodeRequest}
 use Rattle.qfs_base.specs.declared.request.NodeRequest.TheVariants as To
-use Rattle.qfs_model_world.specs.World.{World, Turned, numbered, node_turn}
+use Rattle.qfs_model_world.specs.World.{World, numbered, node_turn}
 
 -- two worlds agree on the node that a request goes to
 abbrev pub SameNode : NodeRequest → World → World → Type 0

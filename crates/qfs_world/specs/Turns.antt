@@ -19,7 +19,8 @@ use Rattle.qfs_meta.specs.Metaserver.{Metaserver}
 use Rattle.qfs_model_actor.specs.Actor.{Actor, request_of, after_reply}
 use Rattle.qfs_model_meta.specs.Step.{meta_step}
 use Rattle.qfs_model_server.specs.Server.{without_room}
-use Rattle.qfs_store.specs.Stands.{IsStep, OnFault, MemoryFor}
+use Rattle.qfs_store.specs.Chunks.{LeavesChunks}
+use Rattle.qfs_store.specs.Stands.{IsStep, KnownAfter, OnFault, MemoryFor}
 use Rattle.qfs_store.specs.Stored.{Stored}
 use Rattle.qfs_world.specs.declared.node.NodeState.{NodeState}
 use Rattle.qfs_world.specs.declared.node.NodeState.TheVariants as Node
@@ -35,9 +36,11 @@ pub record GoesOn (before behind : Stored) : Type 0 where
   pub tells : is_some behind.told ≡ is_some before.told
   pub never_falls : before.faults ≤ behind.faults
 
--- a chunk server took its step on a request, with the outcome that its reply shows
+-- a chunk server took its step on a request, with the outcome that its reply shows, and left its device's keys so
 pub record StoreServes (before : Stored) (request : ChunkRequest) (answer : ChunkReply) (behind : Stored) : Type 0 where
   pub step : IsStep request before.told before.known answer behind.told behind.known
+  pub chunks : LeavesChunks request before.told before.known answer.answer behind.told
+  pub known : KnownAfter request answer.answer before.known behind.known
   pub goes_on : GoesOn before behind
   pub cause : OnFault answer.answer (Rose before.faults behind.faults)
   pub memory : MemoryFor request answer.answer

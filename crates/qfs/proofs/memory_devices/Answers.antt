@@ -1,6 +1,4 @@
 -- One new device more.
-use Rattle.std.proofs.Common.{◌≡◌}
-use Rattle.std.specs.Prelude.{All}
 use Rattle.std.proofs.lemmas.List.Elements.{All-push}
 use Rattle.qfs_world.specs.Calls.{IsNew}
 use Rattle.qfs.proofs.Devices.{told_by, is_new}

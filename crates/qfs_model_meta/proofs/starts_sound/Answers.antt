@@ -17,11 +17,12 @@ returns c = record {
     first_lease = one;
     first_condemned = one;
     counters = refl;
-    tree = record { in_order = tt; paths = tt; no_root = tt; in_directories = tt; plain_directories = tt; file_numbers = tt; each_file_once = tt; lengths = tt };
+    tree = record { in_order = tt; paths = tt; no_root = tt; in_directories = tt; plain_directories = tt; file_numbers = tt; each_file_once = tt; lengths = tt; makers = tt };
     slots = record { in_order = tt; slot_numbers = tt; of_files = tt; current_of_closed = tt; on_servers = tt; failed_in_order = tt };
     leases = record { in_order = tt; numbers = tt };
     condemned = record { in_order = tt; numbers = tt; slot_numbers = tt; on_servers = tt; blockers = tt };
     dropped = tt;
+    history = tt;
   };
   granted_once = record { once = tt; of_files = tt; behind = tt; different = λ block slot. tt; known = λ block slot. tt; ordered = tt; listed = tt };
   lives = tt;

@@ -2,7 +2,8 @@
 use Rattle.std.proofs.Common.{◌≡◌, refl, ap, ◌∙◌}
 use Rattle.std.proofs.lemmas.Result.{err_from_is_err_and}
 use Rattle.qfs_base.specs.declared.image.MetaImage.{MetaImage}
-use Rattle.qfs_driver.proofs.RunLaws.{run_prints, run_stays, run_stops}
+use Rattle.qfs_driver.proofs.DeviceLaws.{run_stays}
+use Rattle.qfs_driver.proofs.RunLaws.{run_prints, run_stops}
 use Rattle.qfs_world.specs.Calls.{lines_of_actors}
 use Rattle.qfs_driver.proofs.run.run.Goals as goal
 
@@ -32,7 +33,7 @@ returns-in-Ok-text_of-clause-text g c =
     c.as_slice-in-Ok-into_parts.ensures ∙ ap (λ (m : MetaImage). m.history) c.in-Ok-into_parts.ensures.image in
     let order : c.as_slice-in-Ok-into_parts-2.result.now ≡ c.play-played.new.world.order =
     c.as_slice-in-Ok-into_parts-2.ensures ∙ c.in-Ok-into_parts.ensures.order in
-    run_prints _ _ _ _ _ _ _ c.in-Ok.world c.play-played.new.world _ starts c.play-played.ensures.continues
+    run_prints _ _ _ _ _ _ _ c.in-Ok.world c.play-played.new.world _ c.requires.enough starts c.play-played.ensures.continues
     c.in-Ok-into_parts.ensures.devices
     c.in_ok-played-in-Ok-into_parts.ensures.drawn c.in_ok-played-in-Ok-into_parts.ensures.ended
     c.in-Ok-into_parts.ensures.after c.requires.read

@@ -1,10 +1,9 @@
 -- The actor whose turn it is stands at its place, and tells where it goes.
-use Rattle.std.proofs.Common.{◌≡◌, ℕ, List, ◌-◌, suc, sym, ◌∙◌, ap, arith, Some}
+use Rattle.std.proofs.Common.{◌≡◌, ℕ, List, ◌-◌, sym, ◌∙◌, ap, arith}
 use Rattle.std.proofs.lemmas.Option.{slice_get_within, get_or_from_slice_get, slice_get-map}
-use Rattle.std.specs.Prelude.{slice_get}
 use Rattle.std.specs.Option.{option_map, option_and_then}
 use Rattle.qfs_actor.specs.Standing.{Standing}
-use Rattle.qfs_model_actor.specs.Actor.{Actor, node_of}
+use Rattle.qfs_model_actor.specs.Actor.{node_of}
 use Rattle.qfs_model_world.specs.World.{numbered}
 use Rattle.qfs_world.proofs.Step.{AtTurn, turn-place}
 use Rattle.qfs_world.specs.AtWork.{actors_of}
