@@ -14,7 +14,7 @@ use Rattle.std.specs.declared.cmp.Ordering.{Ordering}
 use Rattle.std.specs.declared.cmp.Ordering.TheVariants.{Less, Equal, Greater}
 use Rattle.qfs_base.specs.Table.{Each, IsRising, place, place_before, change_row, change_where, without}
 use Rattle.qfs_meta.specs.declared.rows.Run.{Run}
-use Rattle.qfs_meta.specs.Runs.{IsInOrder, IsRun, has_key}
+use Rattle.qfs_meta.specs.Runs.{IsInOrder, IsRun}
 use Rattle.qfs_meta.proofs.RisingLaws.{each_weaker}
 
 -- ---- what a comparison was

@@ -1,5 +1,5 @@
 -- The rows of a table that have a key.
-use Rattle.std.specs.Prelude.{ℕ, ◌≡◌, ◌≤◌, Bool, true, false, List, length, take, drop, slice_range}
+use Rattle.std.specs.Prelude.{◌≡◌, ◌≤◌, Bool, List, length, take, drop, slice_range}
 use Rattle.std.specs.declared.cmp.Ordering.{Ordering}
 use Rattle.std.specs.declared.cmp.Ordering.TheVariants.{Less, Equal, Greater}
 use Rattle.std.specs.List.Sorted.{IsPartitionedBy}

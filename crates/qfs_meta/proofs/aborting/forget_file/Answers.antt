@@ -1,4 +1,4 @@
-use Rattle.std.proofs.Common.{◌≡◌, ◌++◌, List, take, drop, rules, ◌∙◌, ap, sym, subst, not}
+use Rattle.std.proofs.Common.{◌++◌, List, take, drop, rules, ◌∙◌, ap, sym, subst, not}
 use Rattle.std.proofs.lemmas.Fn.{filter_same}
 use Rattle.std.specs.Ordering.{nat_cmp}
 use Rattle.qfs_base.specs.declared.image.SlotRow.{SlotRow}

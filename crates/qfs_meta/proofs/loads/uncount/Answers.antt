@@ -1,7 +1,6 @@
-use Rattle.std.proofs.Common.{◌≡◌, ◌+◌, ◌-◌, ◌*◌, ◌<◌, ◌≤◌, ◌++◌, List, ℕ, length, take, drop, slice_range, slice_index_or, ap, sym, ◌∙◌, arith}
+use Rattle.std.proofs.Common.{◌++◌, List, length, take, drop, slice_index_or, ap, sym, ◌∙◌, arith}
 use Rattle.qfs_base.specs.declared.image.SlotRow.{SlotRow}
-use Rattle.qfs_meta.specs.Loads.{loads_of}
-use Rattle.qfs_meta.proofs.LoadLaws.{past_end, length-loads, load-parts, load-bound, length-mixed, mixed-at, mixed-next, mixed-end}
+use Rattle.qfs_meta.proofs.LoadLaws.{past_end, length-loads, load-parts, length-mixed, mixed-at, mixed-next, mixed-end}
 use Rattle.qfs_meta.proofs.loads.uncount.Goals as goal
 
 pub loop-at-init : goal.loop-at-init
