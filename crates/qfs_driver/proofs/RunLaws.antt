@@ -11,7 +11,7 @@ use Rattle.qfs_driver.proofs.PlayLaws.{all_tell_behind}
 use Rattle.qfs_driver.specs.Playing.{Continues, IsDrawnSo, HasEnded, StopsAt}
 use Rattle.qfs_driver.specs.Scripts.{IsReadScript}
 use Rattle.qfs_laws_first.proofs.Fitting.{fitting-done}
-use Rattle.qfs_laws_first.proofs.Laws.{one-file-history, every-get, no-deletion}
+use Rattle.qfs_laws_first.proofs.Laws.{one-file-history, plain-replies, every-get, no-deletion}
 use Rattle.qfs_laws_first.specs.FirstPath.{AllDone}
 use Rattle.qfs_model_world.specs.GivenOrder.{is_done}
 use Rattle.qfs_driver.specs.Run.{IsRunOf, Prints, HasFault, StopsOver, counts_of}
@@ -68,6 +68,7 @@ module _ {D L : Type 0} where
         devices = stand;
         faults_show = show;
         one_history = one-file-history world.script read.commands world.order read.first_path all_done;
+        plain = plain-replies world.script read.commands world.order read.first_path all_done;
         every_get = every-get world.script read.commands world.order read.first_path all_done;
         no_deletion = no-deletion world.script read.commands world.order read.first_path;
       }

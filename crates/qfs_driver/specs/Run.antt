@@ -9,6 +9,7 @@ use Rattle.qfs_model_headline.specs.Faults.{Counts, FaultsShow}
 use Rattle.qfs_model_headline.specs.Nodes.{DevicesStand}
 use Rattle.qfs_driver.specs.declared.status.Status.{Status}
 use Rattle.qfs_driver.specs.declared.status.Status.TheVariants as Ended
+use Rattle.qfs_laws_first.specs.Replies.{PlainReplies}
 use Rattle.qfs_model_world.specs.Deletion.{NoDeletion}
 use Rattle.qfs_model_world.specs.EveryGet.{EveryGet}
 use Rattle.qfs_model_world.specs.GivenOrder.{is_done}
@@ -27,8 +28,8 @@ module _ {D : Type 0} where
 
   -- the text of a script and of an order that fits it, is whole and is drawn from a number, in which every step came out
   -- done; what the run leaves on the devices; and their faults, whatever the counts of the disks, which stay. In this order
-  -- there is one file history, every get that is served well reads the bytes of its path at its place, and no deletion names a
-  -- current copy
+  -- there is one file history, every reply is that of a file stored, of bytes read or of a refusal, every get that is served
+  -- well reads the bytes of its path at its place, and no deletion names a current copy
   pub record IsRunOf (told : D → Option Held) (faults : D → ℕ) (number : ℕ) (script : Script) (came behind : List D) (text : List ℕ) : Type 0 where
     pub order : List Step
     pub printed : IsPrintedDrawn number script order text
@@ -36,6 +37,7 @@ module _ {D : Type 0} where
     pub devices : DevicesStand told script order came behind
     pub faults_show : (left right : ℕ) → FaultsShow script order (counts_of faults came left right) (counts_of faults behind left right)
     pub one_history : OneFileHistory script order
+    pub plain : PlainReplies script order
     pub every_get : EveryGet script order
     pub no_deletion : NoDeletion script order
 

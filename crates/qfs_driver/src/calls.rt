@@ -25,7 +25,7 @@ pub fn top<S: Source, K: Sink, D: ChunkDevice, L: LogDisk, G: Gate>(
     ensures usage { (result ≡ Status.Usage) ↔ (seed_of (map string_bytes words.now) ≡ None) }
     ensures unread { result ≡ Status.Usage → script.new ≡ script.old }
     ensures ends { (number : ℕ) → seed_of (map string_bytes words.now) ≡ Some number → EndsSo D.told D.faults number devices.old.items devices.new.items (record { left = S.left script.old; source_faults = S.faults script.old; written = K.written out.old; sink_faults = K.faults out.old }) (record { left = S.left script.new; source_faults = S.faults script.new; written = K.written out.new; sink_faults = K.faults out.new }) result }
-    ensures unwritten { OnUnwritten result (K.written out.new ≡ K.written out.old) }
+    ensures unwritten { OnUnwritten result (out.new ≡ out.old) }
     ensures untouched { OnUntouched result (devices.new ≡ devices.old) }
     ensures places { length devices.new.items ≡ length devices.old.items }
     ensures disks { disks.new ≡ disks.old }

@@ -31,7 +31,7 @@ pub fn serial<S: Source, K: Sink, D: ChunkDevice, L: LogDisk>(
 ) -> Status
     requires { All (IsNew D.told) devices.old.items }
     ensures ends { EndsSo D.told D.faults (number_of plan) devices.old.items devices.new.items (record { left = S.left script.old; source_faults = S.faults script.old; written = K.written out.old; sink_faults = K.faults out.old }) (record { left = S.left script.new; source_faults = S.faults script.new; written = K.written out.new; sink_faults = K.faults out.new }) result }
-    ensures unwritten { OnUnwritten result (K.written out.new ≡ K.written out.old) }
+    ensures unwritten { OnUnwritten result (out.new ≡ out.old) }
     ensures untouched { OnUntouched result (devices.new ≡ devices.old) }
     ensures places { length devices.new.items ≡ length devices.old.items }
     ensures disks { disks.new ≡ disks.old }
@@ -52,7 +52,7 @@ fn drawn<S: Source, K: Sink, D: ChunkDevice, L: LogDisk>(
 ) -> Status
     requires { All (IsNew D.told) devices.old.items }
     ensures ends { EndsSo D.told D.faults number devices.old.items devices.new.items (record { left = S.left script.old; source_faults = S.faults script.old; written = K.written out.old; sink_faults = K.faults out.old }) (record { left = S.left script.new; source_faults = S.faults script.new; written = K.written out.new; sink_faults = K.faults out.new }) result }
-    ensures unwritten { OnUnwritten result (K.written out.new ≡ K.written out.old) }
+    ensures unwritten { OnUnwritten result (out.new ≡ out.old) }
     ensures untouched { OnUntouched result (devices.new ≡ devices.old) }
     ensures places { length devices.new.items ≡ length devices.old.items }
     ensures disks { disks.new ≡ disks.old }
