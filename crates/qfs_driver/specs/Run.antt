@@ -7,11 +7,14 @@ use Rattle.qfs_device.specs.Fault.{Rose}
 use Rattle.qfs_device.specs.Held.{Held}
 use Rattle.qfs_model_headline.specs.Faults.{Counts, FaultsShow}
 use Rattle.qfs_model_headline.specs.Nodes.{DevicesStand}
+use Rattle.qfs_driver.specs.Fails.{FailsLast}
 use Rattle.qfs_driver.specs.declared.status.Status.{Status}
 use Rattle.qfs_driver.specs.declared.status.Status.TheVariants as Ended
 use Rattle.qfs_laws_first.specs.Replies.{PlainReplies}
 use Rattle.qfs_model_world.specs.Deletion.{NoDeletion}
+use Rattle.qfs_model_world.specs.Drawn.{is_drawn}
 use Rattle.qfs_model_world.specs.EveryGet.{EveryGet}
+use Rattle.qfs_model_world.specs.Fits.{fits}
 use Rattle.qfs_model_world.specs.GivenOrder.{is_done}
 use Rattle.qfs_model_world.specs.Headline.{IsPrintedDrawn}
 use Rattle.qfs_model_world.specs.Reports.{OneFileHistory}
@@ -59,8 +62,24 @@ module _ {D : Type 0} where
     pub behind_is : numbered behind server ≡ Some new
     pub rose : Rose (faults old) (faults new)
 
-  -- why a run of a script on so many servers stops early: memory is wanting, or the device of one of them failed
-  abbrev pub StopsOver : (D → ℕ) → ℕ → List D → List D → Status → Type 0
-  StopsOver faults servers before behind Ended.NoMemory = ⊤
-  StopsOver faults servers before behind (Ended.DeviceFault server) = (server ≤ servers) × HasFault faults server before behind
-  StopsOver faults servers before behind status = ⊥
+  -- a run of a script went by an order that fits it and is drawn from a number, until a Put or a Fetch failed at a server. What
+  -- it leaves on the devices, and their faults, whatever the counts of the disks
+  pub record IsRunTo (told : D → Option Held) (faults : D → ℕ) (number : ℕ) (script : Script) (server : ℕ) (came behind : List D) : Type 0 where
+    pub order : List Step
+    pub fitting : IsTrue (fits script order)
+    pub drawn : IsTrue (is_drawn number script order)
+    pub fails : FailsLast script order server
+    pub devices : DevicesStand told script order came behind
+    pub faults_show : (left right : ℕ) → FaultsShow script order (counts_of faults came left right) (counts_of faults behind left right)
+
+  -- the device of a server of a script failed, and as far as the devices told what they held, in a Put or Fetch that ended a run
+  pub record FailsAtServer (told : D → Option Held) (faults : D → ℕ) (number : ℕ) (script : Script) (server : ℕ) (came behind : List D) : Type 0 where
+    pub one_of_them : server ≤ script.servers
+    pub fault : HasFault faults server came behind
+    pub run : ServersTell told script.servers came → IsRunTo told faults number script server came behind
+
+  -- why a run of a script stops early: memory is wanting, or the device of a server failed
+  abbrev pub StopsOver : (D → Option Held) → (D → ℕ) → ℕ → Script → List D → List D → Status → Type 0
+  StopsOver told faults number script came behind Ended.NoMemory = ⊤
+  StopsOver told faults number script came behind (Ended.DeviceFault server) = FailsAtServer told faults number script server came behind
+  StopsOver told faults number script came behind status = ⊥

@@ -26,7 +26,7 @@ pub fn run<D: ChunkDevice, L: LogDisk>(
     requires enough { script.now.servers ≤ length devices.old.items }
     requires fresh { All (IsNew D.told) devices.old.items }
     ensures text { IfOk result (λ text. Prints D.told D.faults number script.now devices.old.items devices.new.items text.items) }
-    ensures err { IfErr result (StopsOver D.faults script.now.servers devices.old.items devices.new.items) }
+    ensures err { IfErr result (StopsOver D.told D.faults number script.now devices.old.items devices.new.items) }
     ensures places { StayInPlace script.now.servers devices.old.items devices.new.items }
     ensures disks { disks.new ≡ disks.old }
 {

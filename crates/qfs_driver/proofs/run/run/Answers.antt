@@ -13,8 +13,8 @@ returns-in_err-played-in-Ok-into_parts-clause-err g c =
     let starts = rw c.replace-taken.ensures.value at c.in-Ok.ensures.ok in
     let p = err_from_is_err_and c.from_residual.result c.from_residual.ensures.1 in
     rw (p.1, p.2)
-    (run_stops _ _ _ _ _ _ c.in-Ok.world c.play-played.new.world c.in_err-played-in-Ok-into_parts.field-0.0
-    c.requires.enough starts c.play-played.ensures.continues c.in-Ok-into_parts.ensures.devices
+    (run_stops _ _ _ _ _ _ _ c.in-Ok.world c.play-played.new.world c.in_err-played-in-Ok-into_parts.field-0.0
+    c.requires.enough starts c.play-played.ensures.continues c.in-Ok-into_parts.ensures.devices c.in-Ok-into_parts.ensures.after
     c.in_err-played-in-Ok-into_parts.ensures.err)
 
 pub returns-in_err-played-in-Ok-into_parts-clause-places :
