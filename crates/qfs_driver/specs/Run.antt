@@ -1,6 +1,6 @@
 -- What a run of a script comes to: its order, its text, and where its devices stand.
-use Rattle.std.specs.Prelude.{ℕ, ◌≡◌, ◌≤◌, ⊤, List, length, map, take, drop, All, Option, Some, IsSome, IsTrue}
-use Rattle.std.specs.List.{list_all}
+use Rattle.std.specs.Prelude.{ℕ, ◌≡◌, ◌≤◌, ⊤, List, length, map, take, drop, All, Option, Some, is_some, IsSome, IsTrue}
+use Rattle.std.specs.List.{AllZip, list_all}
 use Rattle.qfs_base.specs.declared.history.Step.{Step}
 use Rattle.qfs_base.specs.declared.script.Script.{Script}
 use Rattle.qfs_device.specs.Fault.{Rose}
@@ -53,6 +53,15 @@ module _ {D : Type 0} where
   pub record StayInPlace (servers : ℕ) (before behind : List D) : Type 0 where
     pub as_many : length behind ≡ length before
     pub spare : drop servers behind ≡ drop servers before
+
+  -- a device tells what it holds as it did, and its count of faults hasn't fallen
+  pub record Remains (told : D → Option Held) (faults : D → ℕ) (before behind : D) : Type 0 where
+    pub tells : is_some (told behind) ≡ is_some (told before)
+    pub never_falls : faults before ≤ faults behind
+
+  -- so do all devices, each in its place
+  abbrev pub AllRemain : (D → Option Held) → (D → ℕ) → List D → List D → Type 0
+  AllRemain told faults before behind = AllZip (Remains told faults) before behind
 
   -- the count of faults of a server's device rose
   pub record HasFault (faults : D → ℕ) (server : ℕ) (before behind : List D) : Type 0 where

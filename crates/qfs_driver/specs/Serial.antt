@@ -62,7 +62,13 @@ module _ {D : Type 0} where
     pub fails : FailsAtServer told faults number script server came behind
     pub places : StayInPlace script.servers came behind
 
-  -- each status has its cause; want of memory is free
+  -- memory was wanting: the devices above some number of servers, one that a script may have, are as they came
+  pub record LacksMemory (came behind : List D) : Type 0 where
+    pub servers : ℕ
+    pub most : servers ≤ 64
+    pub places : StayInPlace servers came behind
+
+  -- each status has its cause; want of memory may come at any time
   abbrev pub EndsSo : (D → Option Held) → (D → ℕ) → ℕ → List D → List D → Streams → Streams → Status → Type 0
   EndsSo told faults number came behind before after Ended.Ok = WritesWhole told faults number came behind before after
   EndsSo told faults number came behind before after Ended.Usage = ⊥
@@ -70,7 +76,7 @@ module _ {D : Type 0} where
   EndsSo told faults number came behind before after (Ended.TooFewDevices servers devices) = LacksDevices servers devices came before after
   EndsSo told faults number came behind before after Ended.ReadFault = Rose before.source_faults after.source_faults
   EndsSo told faults number came behind before after Ended.WriteFault = WritesPart told faults number came behind before after
-  EndsSo told faults number came behind before after Ended.NoMemory = ⊤
+  EndsSo told faults number came behind before after Ended.NoMemory = LacksMemory came behind
   EndsSo told faults number came behind before after (Ended.DeviceFault server) = StopsAtFault told faults number server came behind before after
 
 -- nothing is written but with the statuses Ok and WriteFault
