@@ -313,8 +313,8 @@ module _ {D L : Type 0} where
       let asks = asks_server turn.request server (node_of_asked steps.actor turn.request steps.node turn.asked steps.to ∙ fails.at)
       (not_first before.stores server risen.old risen.before_is) turn.askable in
       let more : events before.script (before.order ++ record { actor = actor; outcome = Came.Failed } ∷ [])
-          ≡ events before.script before.order
-          ++ event_of before.script before.order world actor steps.actor turn.request follows.world steps.of turn.asked Came.Failed turned.world turned.reply refl ∷ [] =
+      ≡ events before.script before.order
+      ++ event_of before.script before.order world actor steps.actor turn.request follows.world steps.of turn.asked Came.Failed turned.world turned.reply refl ∷ [] =
       events-after before.script before.order world actor steps.actor turn.request follows.world steps.of turn.asked Came.Failed turned.world turned.reply refl in
       record {
         done = before.order;

@@ -1,5 +1,5 @@
 -- A run's text, and why a run stops early, from what its world was made of and came to.
-use Rattle.std.proofs.Common.{◌≡◌, ℕ, zero, suc, ◌<◌, ◌≤◌, true, IsTrue, List, [], length, take, map, refl, sym, ◌∙◌, ap, subst, arith, Option, Some, IsSome}
+use Rattle.std.proofs.Common.{◌≡◌, ℕ, zero, suc, ◌<◌, ◌≤◌, true, IsTrue, List, [], length, take, refl, sym, ◌∙◌, ap, subst, arith, Option, Some, IsSome}
 use Rattle.std.specs.Prelude.{slice_get}
 use Rattle.std.specs.List.{list_all}
 use Rattle.std.proofs.lemmas.List.Elements.{All-map}
