@@ -1,6 +1,7 @@
 -- Where the devices of a run stand at its end.
 use Rattle.std.proofs.Common.{◌≡◌, ℕ, zero, suc, min, ◌+◌, ◌-◌, ◌<◌, ◌≤◌, Bool, true, false, List, [], ◌∷◌, length, take, drop, map, refl, sym, ◌∙◌, ap, subst, arith, length-take, length-drop, Option, Some, None}
 use Rattle.std.specs.Prelude.{slice_get}
+use Rattle.std.specs.List.{AllZip}
 use Rattle.std.proofs.lemmas.List.{length-map, length-take-le}
 use Rattle.std.proofs.lemmas.List.Elements.{length_all_zip}
 use Rattle.qfs_base.specs.Key.{key_cmp}
@@ -12,7 +13,8 @@ use Rattle.qfs_device.specs.Held.{Held, chunk_at}
 use Rattle.qfs_device.specs.declared.log_disk.MetaDisks.{MetaDisks}
 use Rattle.qfs_driver.proofs.Places.{some_is, in_first, from_first, mapped_at, unmapped_at, below_length, length_past, behind_first}
 use Rattle.qfs_driver.specs.Playing.{Continues}
-use Rattle.qfs_driver.specs.Run.{StayInPlace, counts_of}
+use Rattle.qfs_driver.proofs.Remaining.{remain_from, same_remain, servers_remain}
+use Rattle.qfs_driver.specs.Run.{AllRemain, StayInPlace, counts_of}
 use Rattle.qfs_model_headline.specs.Faults.{FaultsShow}
 use Rattle.qfs_model_headline.specs.Nodes.{HoldsUnder, StandsFor, HandsOut, has_failed, is_put_or_start, IsServerDevice, IsDeviceOf, DevicesStand}
 use Rattle.qfs_model_server.specs.Server.{Server}
@@ -114,6 +116,17 @@ module _ {D L : Type 0} (told : D → Option Held) (faults : D → ℕ) (script 
       let rest : length behind - script.servers ≡ length came - script.servers =
       sym (length-drop script.servers behind) ∙ ap length spare ∙ length-drop script.servers came in
       record { as_many = omega (arith, full, rest, count_last, enough); spare = spare }
+
+  pub run_remains : AllRemain told faults came behind
+  run_remains =
+      let n = script.servers in
+      let first : AllRemain told faults (take n came) (take n behind) =
+      servers_remain told faults (take n came) (take n behind) ended.stores
+      (subst (λ stores. AllZip GoesOn stores ended.stores) starts.stores_are continues.stores_go_on)
+      (ap (λ k. map told (take k behind)) (sym count_last) ∙ are.told_are)
+      (ap (λ k. map faults (take k behind)) (sym count_last) ∙ are.faults_are) in
+      remain_from told faults n came behind first
+      (same_remain told faults (drop n came) (drop n behind) run_stays.spare)
 
   -- a device above the servers is as it came
   spare_same : (k : ℕ) (before after_run : D) → script.servers ≤ k → slice_get came k ≡ Some before → slice_get behind k ≡ Some after_run

@@ -1,6 +1,7 @@
 -- How a world at work goes on by drawn steps.
 use Rattle.std.proofs.Common.{◌≡◌, ℕ, zero, suc, inl, inr, ◌<◌, ◌≤◌, Bool, true, false, IsTrue, List, [], ◌∷◌, ◌++◌, length, refl, sym, ◌∙◌, ap, subst, arith, Option, Some, None, eq-eqb}
-use Rattle.std.specs.Prelude.{◌==◌, ◌&&◌, ◌||◌, ◌%◌, slice_get}
+use Rattle.std.specs.Prelude.{◌==◌, ◌&&◌, ◌||◌, ◌%◌, slice_get, option_map}
+use Rattle.std.specs.Option.{option_and_then}
 use Rattle.std.specs.List.{AllZip, list_any, list_all}
 use Rattle.qfs_model_text.specs.Order.{same_outcome}
 use Rattle.qfs_model_world.specs.GivenOrder.{is_done}
@@ -11,17 +12,27 @@ use Rattle.std.proofs.lemmas.List.Elements.{length_all_zip, AllZip-get_or}
 use Rattle.std.proofs.lemmas.List.Folds.{list_all-append}
 use Rattle.rand_pcg.specs.Lcg.{Lcg}
 use Rattle.rand_pcg.specs.Pcg.{pcg32}
+use Rattle.qfs_base.specs.declared.history.Outcome.{Outcome}
 use Rattle.qfs_base.specs.declared.history.Outcome.TheVariants as Came
 use Rattle.qfs_base.specs.declared.history.Step.{Step}
+use Rattle.qfs_base.specs.declared.request.ChunkRequest.{ChunkRequest}
+use Rattle.qfs_base.specs.declared.request.NodeRequest.{NodeRequest}
+use Rattle.qfs_base.specs.declared.request.NodeRequest.TheVariants as To
+use Rattle.qfs_machine.specs.Askable.{IsAskable, IsAskedOfServer}
+use Rattle.qfs_model_actor.specs.Actor.{Actor, node_of, request_of}
+use Rattle.qfs_model_actor.specs.Work.{node_of_request}
+use Rattle.qfs_model_world.specs.Events.{events}
 use Rattle.qfs_driver.proofs.DrawnOrders.{is_drawn-snoc, generator_behind-snoc}
 use Rattle.qfs_driver.specs.Draws.{generator_behind}
-use Rattle.qfs_driver.specs.Playing.{Continues, IsDrawnSo, StopsAt, TakesDrawnStep}
+use Rattle.qfs_driver.specs.Fails.{FailsLast}
+use Rattle.qfs_driver.specs.Playing.{Continues, IsDrawnSo, FailsAt, StopsAt, StopsAtServer, StopsStep, StopsDrawnStep, TakesDrawnStep}
 use Rattle.qfs_model_world.specs.Drawn.{generator_of, drawn_of, is_by, drawn_from, is_drawn}
 use Rattle.qfs_model_world.specs.Fits.{turn}
-use Rattle.qfs_model_world.specs.World.{World, numbered, after as after_order}
+use Rattle.qfs_model_world.specs.World.{World, numbered, node_turn, after as after_order}
 use Rattle.qfs_store.specs.Stored.{Stored}
 use Rattle.qfs_world.specs.Calls.{FaultsRise, HasRisen, Steps}
 use Rattle.qfs_world.proofs.Faults.{goes-on-at}
+use Rattle.qfs_world.proofs.Simulation.{event as event_of, events-after}
 use Rattle.qfs_world.specs.Turns.{GoesOn}
 use Rattle.qfs_world.specs.Follows.{Follows, IsAfter}
 use Rattle.qfs_world.specs.Running.{Running, AllTell, turn_of}
@@ -140,6 +151,30 @@ all_tell_behind before behind go_on tell = λ k d below.
     let below_too : k < length before = omega arith in
     (AllZip-get_or GoesOn before behind k d d go_on below_too).tells ∙ tell k d below_too
 
+-- ---- requests to servers
+
+record AsksServer (request : NodeRequest) (server : ℕ) : Type 0 where
+  pub chunk : ChunkRequest
+  pub is : request ≡ To.Chunk server chunk
+  pub askable : IsAskedOfServer chunk
+
+asks_server : (request : NodeRequest) (server : ℕ) → node_of_request request ≡ server → (server ≡ 0 → ⊥) → IsAskable request → AsksServer request server
+unfolding node_of_request
+asks_server (To.Meta request) server to apart askable = absurd (apart (sym to))
+asks_server (To.Chunk number request) server to apart askable =
+    record { chunk = request; is = ap (λ n. To.Chunk n request) to; askable = askable }
+
+node_of_asked : (actor : Actor) (request : NodeRequest) (node : ℕ) → request_of actor ≡ Some request → node_of actor ≡ Some node
+    → node_of_request request ≡ node
+unfolding node_of
+node_of_asked actor request node asked to = some_is (ap (option_map node_of_request) (sym asked) ∙ to)
+
+-- no server has the number 0
+not_first : {X : Type 0} (xs : List X) (server : ℕ) (x : X) → numbered xs server ≡ Some x → server ≡ 0 → ⊥
+unfolding numbered
+not_first xs zero x is first = let none : None ≡ Some x = is in cc
+not_first xs (suc k) x is first = absurd (omega (arith, first))
+
 module _ {D L : Type 0} where
   risen_further : (a b c : Running D L) (server : ℕ) → Continues a b → HasRisen b c server → HasRisen a c server
   risen_further a b c server continues risen =
@@ -151,17 +186,6 @@ module _ {D L : Type 0} where
         behind_is = risen.behind_is;
         rose = rose_further at.old.faults risen.old.faults risen.new.faults at.goes_on.never_falls risen.rose;
       }
-
-  -- why a run stops holds from further back too
-  pub stops_further : (a b c : Running D L) (status : Status) → Continues a b → StopsAt b c status → StopsAt a c status
-  stops_further a b c Ended.NoMemory continues stops = tt
-  stops_further a b c (Ended.DeviceFault server) continues stops = risen_further a b c server continues stops
-  stops_further a b c Ended.Ok continues stops = absurd stops
-  stops_further a b c Ended.Usage continues stops = absurd stops
-  stops_further a b c (Ended.BadScript line cause) continues stops = absurd stops
-  stops_further a b c (Ended.TooFewDevices servers devices) continues stops = absurd stops
-  stops_further a b c Ended.ReadFault continues stops = absurd stops
-  stops_further a b c Ended.WriteFault continues stops = absurd stops
 
   -- no step was taken yet
   pub drawn_at_start : (number : ℕ) (world : Running D L) → world.order ≡ [] → IsDrawnSo number world
@@ -224,23 +248,30 @@ module _ {D L : Type 0} where
   unfolding turn
   turn_after world follows = ap (λ (w : World). turn world.script w) follows.world
 
+  drawn_more : (number actor : ℕ) (outcome : Outcome) (before behind : Running D L) (turns : List ℕ)
+      → IsAfter before → turns ≡ turn_of before.script before.actors
+      → drawn_of turns (pcg32 (generator_behind (generator_of number) before.order)).0 ≡ Some actor
+      → Steps before actor outcome behind → IsDrawnSo number before → AllTell behind.stores
+      → IsTrue (is_drawn number behind.script behind.order)
+  drawn_more number actor outcome before behind turns after turns_are drawn steps is tell =
+      let told : AllTell before.stores = all_told_before before.stores behind.stores steps.goes_on tell in
+      let step : Step = record { actor = actor; outcome = outcome } in
+      let word : ℕ = (pcg32 (generator_behind (generator_of number) before.order)).0 in
+      let turns_after : turn before.script (after_order before.script before.order) ≡ turns =
+      turn_after before (after told) ∙ sym turns_are in
+      let by : is_by actor (drawn_of (turn before.script (after_order before.script before.order)) word) ≡ true =
+      ap (λ t. is_by actor (drawn_of t word)) turns_after ∙ drawn_by actor word turns drawn in
+      let grown : is_drawn number before.script (before.order ++ step ∷ []) ≡ true =
+      is_drawn-snoc number before.script before.order step ∙ and_true _ _ (is.drawn told) by in
+      rw (steps.script_is, steps.order) grown
+
   -- the loop of a run: a drawn step more
   pub drawn_further : (number actor : ℕ) (before behind : Running D L) (turns : List ℕ)
       → IsAfter before → turns ≡ turn_of before.script before.actors
       → drawn_of turns (pcg32 (generator_behind (generator_of number) before.order)).0 ≡ Some actor
       → Steps before actor Came.Done behind → IsDrawnSo number before → IsDrawnSo number behind
   drawn_further number actor before behind turns after turns_are drawn steps is = record {
-    drawn = λ tell.
-        let told : AllTell before.stores = all_told_before before.stores behind.stores steps.goes_on tell in
-        let step : Step = record { actor = actor; outcome = Came.Done } in
-        let word : ℕ = (pcg32 (generator_behind (generator_of number) before.order)).0 in
-        let turns_after : turn before.script (after_order before.script before.order) ≡ turns =
-        turn_after before (after told) ∙ sym turns_are in
-        let by : is_by actor (drawn_of (turn before.script (after_order before.script before.order)) word) ≡ true =
-        ap (λ t. is_by actor (drawn_of t word)) turns_after ∙ drawn_by actor word turns drawn in
-        let grown : is_drawn number before.script (before.order ++ step ∷ []) ≡ true =
-        is_drawn-snoc number before.script before.order step ∙ and_true _ _ (is.drawn told) by in
-        rw (steps.script_is, steps.order) grown;
+    drawn = drawn_more number actor Came.Done before behind turns after turns_are drawn steps is;
     done = rw steps.order (done-snoc before.order actor is.done);
   }
 
@@ -260,3 +291,77 @@ module _ {D L : Type 0} where
       ap (λ g. (pcg32 g).1) words
       ∙ sym (generator_behind-snoc (generator_of number) before.order (record { actor = taken.actor; outcome = Came.Done }))
       ∙ ap (λ order. generator_behind (generator_of number) order) (sym taken.steps.order)
+
+  -- ---- a step that failed
+
+  -- an actor that goes to a server steps there
+  pub goes_there : (before behind : Running D L) (actor server : ℕ) (outcome : Outcome) (steps : Steps before actor outcome behind)
+      → Some server ≡ option_and_then node_of (numbered before.actors actor) → steps.node ≡ server
+  goes_there before behind actor server outcome steps goes =
+      let there : option_and_then node_of (numbered before.actors actor) ≡ Some steps.node = ap (option_and_then node_of) steps.of ∙ steps.to in
+      some_is (sym there ∙ sym goes)
+
+  fails_last : (actor server : ℕ) (before behind : Running D L)
+      → Follows before.script before.order before.meta before.stores before.actors
+      → FailsAt before actor server behind → HasRisen before behind server → IsTrue (list_all is_done before.order)
+      → FailsLast behind.script behind.order server
+  fails_last actor server before behind follows fails risen done =
+      let steps = fails.steps in
+      let turn = steps.turns.turns in
+      let world : World = record { layout = before.script.layout; meta = before.meta; servers = follows.servers; actors = before.actors } in
+      let turned = node_turn world actor Came.Failed turn.request in
+      let asks = asks_server turn.request server (node_of_asked steps.actor turn.request steps.node turn.asked steps.to ∙ fails.at)
+      (not_first before.stores server risen.old risen.before_is) turn.askable in
+      let more : events before.script (before.order ++ record { actor = actor; outcome = Came.Failed } ∷ [])
+      ≡ events before.script before.order
+      ++ event_of before.script before.order world actor steps.actor turn.request follows.world steps.of turn.asked Came.Failed turned.world turned.reply refl ∷ [] =
+      events-after before.script before.order world actor steps.actor turn.request follows.world steps.of turn.asked Came.Failed turned.world turned.reply refl in
+      record {
+        done = before.order;
+        actor = actor;
+        order_is = steps.order;
+        all_done = done;
+        event = event_of before.script before.order world actor steps.actor turn.request follows.world steps.of turn.asked Came.Failed turned.world turned.reply refl;
+        events_are = rw (steps.script_is, steps.order) more;
+        request = asks.chunk;
+        asked = asks.is;
+        put_or_fetch = asks.askable;
+      }
+
+  stops_at_server : (number actor server : ℕ) (start before behind : Running D L) (turns : List ℕ)
+      → Continues start before → IsAfter before → turns ≡ turn_of before.script before.actors
+      → drawn_of turns (pcg32 (generator_behind (generator_of number) before.order)).0 ≡ Some actor
+      → FailsAt before actor server behind → IsDrawnSo number before → StopsAtServer number server start behind
+  stops_at_server number actor server start before behind turns continues after turns_are drawn fails is =
+      let steps = fails.steps in
+      let risen : HasRisen before behind server = subst (HasRisen before behind) fails.at (steps.cause refl) in
+      record {
+        risen = risen_further start before behind server continues risen;
+        drawn = λ tell. record {
+          drawn = drawn_more number actor Came.Failed before behind turns after turns_are drawn steps is tell;
+          fails = fails_last actor server before behind (after (all_told_before before.stores behind.stores steps.goes_on tell)) fails risen is.done;
+        };
+      }
+
+  drawn_stops : (number actor : ℕ) (start before behind : Running D L) (turns : List ℕ) (status : Status)
+      → Continues start before → IsAfter before → turns ≡ turn_of before.script before.actors
+      → drawn_of turns (pcg32 (generator_behind (generator_of number) before.order)).0 ≡ Some actor
+      → StopsStep before actor behind status → IsDrawnSo number before → StopsAt number start behind status
+  drawn_stops number actor start before behind turns Ended.NoMemory continues after turns_are drawn stops is = tt
+  drawn_stops number actor start before behind turns (Ended.DeviceFault server) continues after turns_are drawn stops is =
+      stops_at_server number actor server start before behind turns continues after turns_are drawn stops is
+  drawn_stops number actor start before behind turns Ended.Ok continues after turns_are drawn stops is = absurd stops
+  drawn_stops number actor start before behind turns Ended.Usage continues after turns_are drawn stops is = absurd stops
+  drawn_stops number actor start before behind turns (Ended.BadScript line cause) continues after turns_are drawn stops is = absurd stops
+  drawn_stops number actor start before behind turns (Ended.TooFewDevices servers devices) continues after turns_are drawn stops is = absurd stops
+  drawn_stops number actor start before behind turns Ended.ReadFault continues after turns_are drawn stops is = absurd stops
+  drawn_stops number actor start before behind turns Ended.WriteFault continues after turns_are drawn stops is = absurd stops
+
+  -- the loop of a run: a drawn step that ends it
+  pub drawn_step_stops : (number : ℕ) (generator : Lcg) (start before behind : Running D L) (turns : List ℕ) (status : Status)
+      → Continues start before → IsAfter before → turns ≡ turn_of before.script before.actors
+      → generator ≡ generator_behind (generator_of number) before.order
+      → StopsDrawnStep turns (pcg32 generator).0 before behind status → IsDrawnSo number before → StopsAt number start behind status
+  drawn_step_stops number generator start before behind turns status continues after turns_are words stops is =
+      drawn_stops number stops.actor start before behind turns status continues after turns_are
+      (ap (λ g. drawn_of turns (pcg32 g).0) (sym words) ∙ stops.drawn) stops.stops is

@@ -1,5 +1,5 @@
 -- A run's text, and why a run stops early, from what its world was made of and came to.
-use Rattle.std.proofs.Common.{◌≡◌, ℕ, zero, suc, ◌<◌, ◌≤◌, true, IsTrue, List, [], length, take, map, refl, sym, ◌∙◌, ap, subst, arith, Option, Some, IsSome}
+use Rattle.std.proofs.Common.{◌≡◌, ℕ, zero, suc, ◌<◌, ◌≤◌, true, IsTrue, List, [], length, take, refl, sym, ◌∙◌, ap, subst, arith, Option, Some, IsSome}
 use Rattle.std.specs.Prelude.{slice_get}
 use Rattle.std.specs.List.{list_all}
 use Rattle.std.proofs.lemmas.List.Elements.{All-map}
@@ -8,13 +8,13 @@ use Rattle.qfs_base.specs.declared.script.Script.{Script}
 use Rattle.qfs_device.specs.Held.{Held}
 use Rattle.qfs_device.specs.declared.log_disk.MetaDisks.{MetaDisks}
 use Rattle.qfs_driver.proofs.PlayLaws.{all_tell_behind}
-use Rattle.qfs_driver.specs.Playing.{Continues, IsDrawnSo, HasEnded, StopsAt}
+use Rattle.qfs_driver.specs.Playing.{Continues, IsDrawnSo, IsDrawnToFault, HasEnded, StopsAt}
 use Rattle.qfs_driver.specs.Scripts.{IsReadScript}
 use Rattle.qfs_laws_first.proofs.Fitting.{fitting-done}
-use Rattle.qfs_laws_first.proofs.Laws.{one-file-history, every-get, no-deletion}
+use Rattle.qfs_laws_first.proofs.Laws.{one-file-history, plain-replies, every-get, no-deletion}
 use Rattle.qfs_laws_first.specs.FirstPath.{AllDone}
 use Rattle.qfs_model_world.specs.GivenOrder.{is_done}
-use Rattle.qfs_driver.specs.Run.{IsRunOf, Prints, HasFault, StopsOver, counts_of}
+use Rattle.qfs_driver.specs.Run.{IsRunOf, IsRunTo, Prints, ServersTell, HasFault, StopsOver, counts_of}
 use Rattle.qfs_driver.specs.declared.status.Status.{Status}
 use Rattle.qfs_driver.specs.declared.status.Status.TheVariants as Ended
 use Rattle.qfs_device.specs.Fault.{Rose}
@@ -68,9 +68,17 @@ module _ {D L : Type 0} where
         devices = stand;
         faults_show = show;
         one_history = one-file-history world.script read.commands world.order read.first_path all_done;
+        plain = plain-replies world.script read.commands world.order read.first_path all_done;
         every_get = every-get world.script read.commands world.order read.first_path all_done;
         no_deletion = no-deletion world.script read.commands world.order read.first_path;
       }
+
+  -- the stores of a world tell at its start what its devices do
+  pub tell_first : (told : D → Option Held) (faults : D → ℕ) (script : Script) (came : List D) (disks : MetaDisks L) (started : Running D L)
+      → Starts told faults script came disks started → ServersTell told script.servers came → AllTell started.stores
+  tell_first told faults script came disks started starts tell =
+      subst AllTell (sym starts.stores_are)
+      (All-map (λ (stored : Stored). IsSome stored.told) (stored_over told faults) (take script.servers came) tell)
 
   -- the text of a run: its world was made of the script over these devices, was drawn to its end, and was taken apart
   pub run_prints : (told : D → Option Held) (faults : D → ℕ) (number : ℕ) (script : Script) (came behind : List D) (disks : MetaDisks L)
@@ -82,9 +90,7 @@ module _ {D L : Type 0} where
       → Prints told faults number script came behind written
   run_prints told faults number script came behind disks started ended written enough starts continues are drawn over after_own read is = λ tell.
       let script_is : ended.script ≡ script = continues.script_is ∙ starts.script_is in
-      let tell_first : AllTell (map (stored_over told faults) (take script.servers came)) =
-      All-map (λ (stored : Stored). IsSome stored.told) (stored_over told faults) (take script.servers came) tell in
-      let tell_start : AllTell started.stores = subst AllTell (sym starts.stores_are) tell_first in
+      let tell_start : AllTell started.stores = tell_first told faults script came disks started starts tell in
       let tell_end : AllTell ended.stores = all_tell_behind started.stores ended.stores continues.stores_go_on tell_start in
       subst (λ s. IsRunOf told faults number s came behind written) script_is
       (world_text told faults number ended came behind written (after_own tell_end)
@@ -119,22 +125,49 @@ module _ {D L : Type 0} where
         },
       )
 
+  -- the order of a run that stopped at a fault
+  run_to : (told : D → Option Held) (faults : D → ℕ) (number : ℕ) (script : Script) (server : ℕ) (came behind : List D) (disks : MetaDisks L)
+      → (started ended : Running D L)
+      → script.servers ≤ length came
+      → Starts told faults script came disks started → Continues started ended → AreDevicesOf told faults ended behind → IsAfter ended
+      → (AllTell ended.stores → IsDrawnToFault number server ended)
+      → ServersTell told script.servers came → IsRunTo told faults number script server came behind
+  run_to told faults number script server came behind disks started ended enough starts continues are after_own drawn = λ tell.
+      let script_is : ended.script ≡ script = continues.script_is ∙ starts.script_is in
+      let tell_start : AllTell started.stores = tell_first told faults script came disks started starts tell in
+      let tell_end : AllTell ended.stores = all_tell_behind started.stores ended.stores continues.stores_go_on tell_start in
+      subst (λ s. IsRunTo told faults number s server came behind) script_is
+      (record {
+        order = ended.order;
+        fitting = (after_own tell_end).fits;
+        drawn = (drawn tell_end).drawn;
+        fails = (drawn tell_end).fails;
+        devices = devices_stand told faults script came behind disks started ended enough starts continues are (after_own tell_end);
+        faults_show = faults_show told faults script came behind disks started ended enough starts continues are (continues.faults_rise tell_start);
+      })
+
   -- why the steps of a run stopped, as its devices show it
-  pub run_stops : (told : D → Option Held) (faults : D → ℕ) (script : Script) (before behind : List D) (disks : MetaDisks L)
+  pub run_stops : (told : D → Option Held) (faults : D → ℕ) (number : ℕ) (script : Script) (before behind : List D) (disks : MetaDisks L)
       → (started ended : Running D L) (status : Status)
       → script.servers ≤ length before
-      → Starts told faults script before disks started → Continues started ended → AreDevicesOf told faults ended behind
-      → StopsAt started ended status → StopsOver faults script.servers before behind status
+      → Starts told faults script before disks started → Continues started ended → AreDevicesOf told faults ended behind → IsAfter ended
+      → StopsAt number started ended status → StopsOver told faults number script before behind status
   unfolding numbered
-  run_stops told faults script before behind disks started ended Ended.NoMemory enough starts continues are stops = tt
-  run_stops told faults script before behind disks started ended (Ended.DeviceFault zero) enough starts continues are stops =
-      absurd (some_isnt stops.before_is)
-  run_stops told faults script before behind disks started ended (Ended.DeviceFault (suc k)) enough starts continues are stops =
-      fault_at told faults script before behind disks started ended k stops.old stops.new enough starts continues are
-      stops.before_is stops.behind_is stops.rose
-  run_stops told faults script before behind disks started ended Ended.Ok enough starts continues are stops = absurd stops
-  run_stops told faults script before behind disks started ended Ended.Usage enough starts continues are stops = absurd stops
-  run_stops told faults script before behind disks started ended (Ended.BadScript line cause) enough starts continues are stops = absurd stops
-  run_stops told faults script before behind disks started ended (Ended.TooFewDevices servers devices) enough starts continues are stops = absurd stops
-  run_stops told faults script before behind disks started ended Ended.ReadFault enough starts continues are stops = absurd stops
-  run_stops told faults script before behind disks started ended Ended.WriteFault enough starts continues are stops = absurd stops
+  run_stops told faults number script before behind disks started ended Ended.NoMemory enough starts continues are after_own stops = tt
+  run_stops told faults number script before behind disks started ended (Ended.DeviceFault zero) enough starts continues are after_own stops =
+      absurd (some_isnt stops.risen.before_is)
+  run_stops told faults number script before behind disks started ended (Ended.DeviceFault (suc k)) enough starts continues are after_own stops =
+      let risen = stops.risen in
+      let at = fault_at told faults script before behind disks started ended k risen.old risen.new enough starts continues are
+      risen.before_is risen.behind_is risen.rose in
+      record {
+        one_of_them = at.0;
+        fault = at.1;
+        run = run_to told faults number script (suc k) before behind disks started ended enough starts continues are after_own stops.drawn;
+      }
+  run_stops told faults number script before behind disks started ended Ended.Ok enough starts continues are after_own stops = absurd stops
+  run_stops told faults number script before behind disks started ended Ended.Usage enough starts continues are after_own stops = absurd stops
+  run_stops told faults number script before behind disks started ended (Ended.BadScript line cause) enough starts continues are after_own stops = absurd stops
+  run_stops told faults number script before behind disks started ended (Ended.TooFewDevices servers devices) enough starts continues are after_own stops = absurd stops
+  run_stops told faults number script before behind disks started ended Ended.ReadFault enough starts continues are after_own stops = absurd stops
+  run_stops told faults number script before behind disks started ended Ended.WriteFault enough starts continues are after_own stops = absurd stops

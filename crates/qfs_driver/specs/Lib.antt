@@ -1,4 +1,5 @@
 pub mod Draws
+pub mod Fails
 pub mod Playing
 pub mod Reading
 pub mod Run

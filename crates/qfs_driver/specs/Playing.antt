@@ -2,6 +2,7 @@
 use Rattle.std.specs.Prelude.{ℕ, ◌≡◌, ⊤, List, [], Some, IsTrue}
 use Rattle.std.specs.List.{AllZip, list_all}
 use Rattle.qfs_base.specs.declared.history.Outcome.TheVariants as Came
+use Rattle.qfs_driver.specs.Fails.{FailsLast}
 use Rattle.qfs_driver.specs.declared.status.Status.{Status}
 use Rattle.qfs_driver.specs.declared.status.Status.TheVariants as Ended
 use Rattle.qfs_model_world.specs.Drawn.{drawn_of, is_drawn}
@@ -35,8 +36,35 @@ module _ {D L : Type 0} where
   abbrev pub HasEnded : Running D L → Type 0
   HasEnded world = turn_of world.script world.actors ≡ []
 
+  -- an actor's step failed at a server
+  pub record FailsAt (before : Running D L) (actor server : ℕ) (behind : Running D L) : Type 0 where
+    pub steps : Steps before actor Came.Failed behind
+    pub at : steps.node ≡ server
+
+  -- why the step of an actor ends a run: memory is wanting, or the step failed at a server
+  abbrev pub StopsStep : Running D L → ℕ → Running D L → Status → Type 0
+  StopsStep before actor behind Ended.NoMemory = ⊤
+  StopsStep before actor behind (Ended.DeviceFault server) = FailsAt before actor server behind
+  StopsStep before actor behind status = ⊥
+
+  -- so did the step of the one at a word's place, of those whose turn it may be
+  pub record StopsDrawnStep (turns : List ℕ) (word : ℕ) (before behind : Running D L) (status : Status) : Type 0 where
+    pub actor : ℕ
+    pub drawn : drawn_of turns word ≡ Some actor
+    pub stops : StopsStep before actor behind status
+
+  -- its steps were drawn from a number, and the last of them failed at a server
+  pub record IsDrawnToFault (number server : ℕ) (world : Running D L) : Type 0 where
+    pub drawn : IsTrue (is_drawn number world.script world.order)
+    pub fails : FailsLast world.script world.order server
+
+  -- the device of a server failed, and as far as the devices tell what they hold, in the last of the steps that were drawn
+  pub record StopsAtServer (number server : ℕ) (before behind : Running D L) : Type 0 where
+    pub risen : HasRisen before behind server
+    pub drawn : AllTell behind.stores → IsDrawnToFault number server behind
+
   -- why the steps of a run stop early: memory is wanting, or the device of a server failed
-  abbrev pub StopsAt : Running D L → Running D L → Status → Type 0
-  StopsAt before behind Ended.NoMemory = ⊤
-  StopsAt before behind (Ended.DeviceFault server) = HasRisen before behind server
-  StopsAt before behind status = ⊥
+  abbrev pub StopsAt : ℕ → Running D L → Running D L → Status → Type 0
+  StopsAt number before behind Ended.NoMemory = ⊤
+  StopsAt number before behind (Ended.DeviceFault server) = StopsAtServer number server before behind
+  StopsAt number before behind status = ⊥

@@ -1,16 +1,20 @@
 -- What a run of a script comes to: its order, its text, and where its devices stand.
-use Rattle.std.specs.Prelude.{ℕ, ◌≡◌, ◌≤◌, ⊤, List, length, map, take, drop, All, Option, Some, IsSome, IsTrue}
-use Rattle.std.specs.List.{list_all}
+use Rattle.std.specs.Prelude.{ℕ, ◌≡◌, ◌≤◌, ⊤, List, length, map, take, drop, All, Option, Some, is_some, IsSome, IsTrue}
+use Rattle.std.specs.List.{AllZip, list_all}
 use Rattle.qfs_base.specs.declared.history.Step.{Step}
 use Rattle.qfs_base.specs.declared.script.Script.{Script}
 use Rattle.qfs_device.specs.Fault.{Rose}
 use Rattle.qfs_device.specs.Held.{Held}
 use Rattle.qfs_model_headline.specs.Faults.{Counts, FaultsShow}
 use Rattle.qfs_model_headline.specs.Nodes.{DevicesStand}
+use Rattle.qfs_driver.specs.Fails.{FailsLast}
 use Rattle.qfs_driver.specs.declared.status.Status.{Status}
 use Rattle.qfs_driver.specs.declared.status.Status.TheVariants as Ended
+use Rattle.qfs_laws_first.specs.Replies.{PlainReplies}
 use Rattle.qfs_model_world.specs.Deletion.{NoDeletion}
+use Rattle.qfs_model_world.specs.Drawn.{is_drawn}
 use Rattle.qfs_model_world.specs.EveryGet.{EveryGet}
+use Rattle.qfs_model_world.specs.Fits.{fits}
 use Rattle.qfs_model_world.specs.GivenOrder.{is_done}
 use Rattle.qfs_model_world.specs.Headline.{IsPrintedDrawn}
 use Rattle.qfs_model_world.specs.Reports.{OneFileHistory}
@@ -27,8 +31,8 @@ module _ {D : Type 0} where
 
   -- the text of a script and of an order that fits it, is whole and is drawn from a number, in which every step came out
   -- done; what the run leaves on the devices; and their faults, whatever the counts of the disks, which stay. In this order
-  -- there is one file history, every get that is served well reads the bytes of its path at its place, and no deletion names a
-  -- current copy
+  -- there is one file history, every reply is that of a file stored, of bytes read or of a refusal, every get that is served
+  -- well reads the bytes of its path at its place, and no deletion names a current copy
   pub record IsRunOf (told : D → Option Held) (faults : D → ℕ) (number : ℕ) (script : Script) (came behind : List D) (text : List ℕ) : Type 0 where
     pub order : List Step
     pub printed : IsPrintedDrawn number script order text
@@ -36,6 +40,7 @@ module _ {D : Type 0} where
     pub devices : DevicesStand told script order came behind
     pub faults_show : (left right : ℕ) → FaultsShow script order (counts_of faults came left right) (counts_of faults behind left right)
     pub one_history : OneFileHistory script order
+    pub plain : PlainReplies script order
     pub every_get : EveryGet script order
     pub no_deletion : NoDeletion script order
 
@@ -49,6 +54,15 @@ module _ {D : Type 0} where
     pub as_many : length behind ≡ length before
     pub spare : drop servers behind ≡ drop servers before
 
+  -- a device tells what it holds as it did, and its count of faults hasn't fallen
+  pub record Remains (told : D → Option Held) (faults : D → ℕ) (before behind : D) : Type 0 where
+    pub tells : is_some (told behind) ≡ is_some (told before)
+    pub never_falls : faults before ≤ faults behind
+
+  -- so do all devices, each in its place
+  abbrev pub AllRemain : (D → Option Held) → (D → ℕ) → List D → List D → Type 0
+  AllRemain told faults before behind = AllZip (Remains told faults) before behind
+
   -- the count of faults of a server's device rose
   pub record HasFault (faults : D → ℕ) (server : ℕ) (before behind : List D) : Type 0 where
     pub old : D
@@ -57,8 +71,24 @@ module _ {D : Type 0} where
     pub behind_is : numbered behind server ≡ Some new
     pub rose : Rose (faults old) (faults new)
 
-  -- why a run of a script on so many servers stops early: memory is wanting, or the device of one of them failed
-  abbrev pub StopsOver : (D → ℕ) → ℕ → List D → List D → Status → Type 0
-  StopsOver faults servers before behind Ended.NoMemory = ⊤
-  StopsOver faults servers before behind (Ended.DeviceFault server) = (server ≤ servers) × HasFault faults server before behind
-  StopsOver faults servers before behind status = ⊥
+  -- a run of a script went by an order that fits it and is drawn from a number, until a Put or a Fetch failed at a server. What
+  -- it leaves on the devices, and their faults, whatever the counts of the disks
+  pub record IsRunTo (told : D → Option Held) (faults : D → ℕ) (number : ℕ) (script : Script) (server : ℕ) (came behind : List D) : Type 0 where
+    pub order : List Step
+    pub fitting : IsTrue (fits script order)
+    pub drawn : IsTrue (is_drawn number script order)
+    pub fails : FailsLast script order server
+    pub devices : DevicesStand told script order came behind
+    pub faults_show : (left right : ℕ) → FaultsShow script order (counts_of faults came left right) (counts_of faults behind left right)
+
+  -- the device of a server of a script failed, and as far as the devices told what they held, in a Put or Fetch that ended a run
+  pub record FailsAtServer (told : D → Option Held) (faults : D → ℕ) (number : ℕ) (script : Script) (server : ℕ) (came behind : List D) : Type 0 where
+    pub one_of_them : server ≤ script.servers
+    pub fault : HasFault faults server came behind
+    pub run : ServersTell told script.servers came → IsRunTo told faults number script server came behind
+
+  -- why a run of a script stops early: memory is wanting, or the device of a server failed
+  abbrev pub StopsOver : (D → Option Held) → (D → ℕ) → ℕ → Script → List D → List D → Status → Type 0
+  StopsOver told faults number script came behind Ended.NoMemory = ⊤
+  StopsOver told faults number script came behind (Ended.DeviceFault server) = FailsAtServer told faults number script server came behind
+  StopsOver told faults number script came behind status = ⊥

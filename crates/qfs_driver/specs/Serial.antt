@@ -5,7 +5,7 @@ use Rattle.qfs_device.specs.Fault.{Rose}
 use Rattle.qfs_device.specs.Held.{Held}
 use Rattle.qfs_device.specs.Stream.{Appends}
 use Rattle.qfs_driver.specs.Reading.{ReadsWhole, IsRefused}
-use Rattle.qfs_driver.specs.Run.{Prints, StayInPlace, HasFault}
+use Rattle.qfs_driver.specs.Run.{Prints, StayInPlace, FailsAtServer}
 use Rattle.qfs_driver.specs.declared.one_thread.Plan.{Plan}
 use Rattle.qfs_driver.specs.declared.one_thread.Plan.TheVariants as By
 use Rattle.qfs_driver.specs.declared.status.Status.{Status}
@@ -55,15 +55,20 @@ module _ {D : Type 0} where
     pub fewer : devices < servers
 
   -- a script was read whole, and the device of one of its servers failed in its run
-  pub record StopsAtFault (faults : D → ℕ) (server : ℕ) (came behind : List D) (before after : Streams) : Type 0 where
+  pub record StopsAtFault (told : D → Option Held) (faults : D → ℕ) (number server : ℕ) (came behind : List D) (before after : Streams) : Type 0 where
     pub script : Script
     pub read : ReadsWhole before.left after.left script
     pub enough : script.servers ≤ length came
-    pub one_of_them : server ≤ script.servers
-    pub fault : HasFault faults server came behind
+    pub fails : FailsAtServer told faults number script server came behind
     pub places : StayInPlace script.servers came behind
 
-  -- each status has its cause; want of memory is free
+  -- memory was wanting: the devices above some number of servers, one that a script may have, are as they came
+  pub record LacksMemory (came behind : List D) : Type 0 where
+    pub servers : ℕ
+    pub most : servers ≤ 64
+    pub places : StayInPlace servers came behind
+
+  -- each status has its cause; want of memory may come at any time
   abbrev pub EndsSo : (D → Option Held) → (D → ℕ) → ℕ → List D → List D → Streams → Streams → Status → Type 0
   EndsSo told faults number came behind before after Ended.Ok = WritesWhole told faults number came behind before after
   EndsSo told faults number came behind before after Ended.Usage = ⊥
@@ -71,8 +76,8 @@ module _ {D : Type 0} where
   EndsSo told faults number came behind before after (Ended.TooFewDevices servers devices) = LacksDevices servers devices came before after
   EndsSo told faults number came behind before after Ended.ReadFault = Rose before.source_faults after.source_faults
   EndsSo told faults number came behind before after Ended.WriteFault = WritesPart told faults number came behind before after
-  EndsSo told faults number came behind before after Ended.NoMemory = ⊤
-  EndsSo told faults number came behind before after (Ended.DeviceFault server) = StopsAtFault faults server came behind before after
+  EndsSo told faults number came behind before after Ended.NoMemory = LacksMemory came behind
+  EndsSo told faults number came behind before after (Ended.DeviceFault server) = StopsAtFault told faults number server came behind before after
 
 -- nothing is written but with the statuses Ok and WriteFault
 abbrev pub OnUnwritten : Status → Type 0 → Type 0

@@ -1,5 +1,6 @@
 //! The call that the program makes.
 ghost use Rattle.std.specs.Prelude.{◌≡◌, ◌↔◌, ℕ, All, None, Some, length, map, string_bytes};
+ghost use Rattle.qfs_driver.specs.Run.{AllRemain};
 ghost use Rattle.qfs_driver.specs.Serial.{EndsSo, OnUntouched, OnUnwritten};
 ghost use Rattle.qfs_driver.specs.Words.{seed_of};
 ghost use Rattle.qfs_world.specs.Calls.{IsNew};
@@ -11,7 +12,11 @@ use qfs_device::{ChunkDevice, Gate, LogDisk, MetaDisks, Sink, Source};
 use std::alloc::Global;
 
 /// Does what the words say: `step N` runs the script that the source gives, by the order that is
-/// drawn from N, and writes its text. Other words are answered Usage, and nothing is read.
+/// drawn from N, and writes its text, as `serial` does. Other words are answered Usage, and these
+/// alone; then nothing is read or written, and devices and disks are as they came.
+///
+/// As far as the devices tell what they hold, all are to be new.
+#[tactic(auto, using(crate::proofs::Remaining::same_remain))]
 pub fn top<S: Source, K: Sink, D: ChunkDevice, L: LogDisk, G: Gate>(
     alloc: Global,
     words: &[String],
@@ -25,9 +30,10 @@ pub fn top<S: Source, K: Sink, D: ChunkDevice, L: LogDisk, G: Gate>(
     ensures usage { (result ≡ Status.Usage) ↔ (seed_of (map string_bytes words.now) ≡ None) }
     ensures unread { result ≡ Status.Usage → script.new ≡ script.old }
     ensures ends { (number : ℕ) → seed_of (map string_bytes words.now) ≡ Some number → EndsSo D.told D.faults number devices.old.items devices.new.items (record { left = S.left script.old; source_faults = S.faults script.old; written = K.written out.old; sink_faults = K.faults out.old }) (record { left = S.left script.new; source_faults = S.faults script.new; written = K.written out.new; sink_faults = K.faults out.new }) result }
-    ensures unwritten { OnUnwritten result (K.written out.new ≡ K.written out.old) }
+    ensures unwritten { OnUnwritten result (out.new ≡ out.old) }
     ensures untouched { OnUntouched result (devices.new ≡ devices.old) }
     ensures places { length devices.new.items ≡ length devices.old.items }
+    ensures kept { AllRemain D.told D.faults devices.old.items devices.new.items }
     ensures disks { disks.new ≡ disks.old }
 {
     let _gate = gate;

@@ -14,6 +14,4 @@ mod words;
 
 pub use calls::top;
 pub use one_thread::{Plan, serial};
-pub use reading::read_script;
 pub use status::Status;
-pub use words::seed_from;

@@ -1,5 +1,6 @@
 //! A run on one thread, from the script's bytes to the text that is written.
 ghost use Rattle.std.specs.Prelude.{◌≡◌, All, length};
+ghost use Rattle.qfs_driver.specs.Run.{AllRemain};
 ghost use Rattle.qfs_driver.specs.Serial.{EndsSo, OnUntouched, OnUnwritten, number_of};
 ghost use Rattle.qfs_world.specs.Calls.{IsNew};
 
@@ -17,10 +18,24 @@ pub enum Plan {
 }
 
 /// Runs the script that the source gives over devices and disks, and writes its text. The device
-/// of server s is `devices[s - 1]`; devices and disks stand in their places at every exit.
+/// of server s is `devices[s - 1]`. As far as the devices tell what they hold, all are to be new.
 ///
-/// The statuses are tried in this order: ReadFault, BadScript, TooFewDevices, DeviceFault,
-/// WriteFault, Ok; NoMemory may stand in place of each.
+/// What a status says, where a count that rose may also be one that stands at its last value:
+/// - Ok: the source was read to its end, and the text of its script's run was written whole.
+/// - WriteFault: the same, but the count of the sink's faults rose, and a proper first part of the
+///   text was written.
+/// - DeviceFault: the count of faults of this server's device rose; as far as the servers' devices
+///   tell, in a Put or a Fetch, the last step of an order that fits the script and is drawn.
+/// - TooFewDevices: a script was read whole that has more servers than there are devices.
+/// - BadScript: the source was read to its end, and this line is the first that isn't of the forms
+///   built so far; or, at line 0, it gave more than 16,777,216 bytes.
+/// - ReadFault: the count of the source's faults rose.
+/// - NoMemory: memory was wanting. It may stand in place of each of the others.
+///
+/// Nothing is written but with Ok and WriteFault. With each status every device stands in its
+/// place: it tells what it holds as it did, and its count of faults hasn't fallen. Those above the
+/// script's servers are as they came; with NoMemory, those above a number of servers that is at
+/// most 64; with ReadFault, BadScript and TooFewDevices, all. The disks are always as they came.
 pub fn serial<S: Source, K: Sink, D: ChunkDevice, L: LogDisk>(
     alloc: Global,
     plan: Plan,
@@ -31,9 +46,10 @@ pub fn serial<S: Source, K: Sink, D: ChunkDevice, L: LogDisk>(
 ) -> Status
     requires { All (IsNew D.told) devices.old.items }
     ensures ends { EndsSo D.told D.faults (number_of plan) devices.old.items devices.new.items (record { left = S.left script.old; source_faults = S.faults script.old; written = K.written out.old; sink_faults = K.faults out.old }) (record { left = S.left script.new; source_faults = S.faults script.new; written = K.written out.new; sink_faults = K.faults out.new }) result }
-    ensures unwritten { OnUnwritten result (K.written out.new ≡ K.written out.old) }
+    ensures unwritten { OnUnwritten result (out.new ≡ out.old) }
     ensures untouched { OnUntouched result (devices.new ≡ devices.old) }
     ensures places { length devices.new.items ≡ length devices.old.items }
+    ensures kept { AllRemain D.told D.faults devices.old.items devices.new.items }
     ensures disks { disks.new ≡ disks.old }
 {
     match plan {
@@ -42,6 +58,7 @@ pub fn serial<S: Source, K: Sink, D: ChunkDevice, L: LogDisk>(
 }
 
 /// The same, by the order that is drawn from a number.
+#[tactic(auto, using(crate::proofs::Remaining::same_remain))]
 fn drawn<S: Source, K: Sink, D: ChunkDevice, L: LogDisk>(
     alloc: Global,
     number: u64,
@@ -52,11 +69,13 @@ fn drawn<S: Source, K: Sink, D: ChunkDevice, L: LogDisk>(
 ) -> Status
     requires { All (IsNew D.told) devices.old.items }
     ensures ends { EndsSo D.told D.faults number devices.old.items devices.new.items (record { left = S.left script.old; source_faults = S.faults script.old; written = K.written out.old; sink_faults = K.faults out.old }) (record { left = S.left script.new; source_faults = S.faults script.new; written = K.written out.new; sink_faults = K.faults out.new }) result }
-    ensures unwritten { OnUnwritten result (K.written out.new ≡ K.written out.old) }
+    ensures unwritten { OnUnwritten result (out.new ≡ out.old) }
     ensures untouched { OnUntouched result (devices.new ≡ devices.old) }
     ensures places { length devices.new.items ≡ length devices.old.items }
+    ensures kept { AllRemain D.told D.faults devices.old.items devices.new.items }
     ensures disks { disks.new ≡ disks.old }
 {
+    // Reading comes first, then the count of devices, the run and the writing. No clause says so.
     let script = match read_script(alloc, script) {
         Ok(script) => script,
         Err(status) => return status,

@@ -1,7 +1,7 @@
 //! A world's actors take their turns as they are drawn.
 ghost use Rattle.std.specs.Prelude.{◌≡◌, ◌<◌, [], length, OnOk, OnErr, IfErr};
 ghost use Rattle.rand_pcg.specs.Pcg.{pcg32};
-ghost use Rattle.qfs_driver.specs.Playing.{Continues, IsDrawnSo, HasEnded, StopsAt, TakesDrawnStep};
+ghost use Rattle.qfs_driver.specs.Playing.{Continues, IsDrawnSo, HasEnded, StopsAt, StopsDrawnStep, StopsStep, TakesDrawnStep};
 ghost use Rattle.qfs_world.specs.Calls.{HasTurn, Steps};
 ghost use Rattle.qfs_world.specs.Running.{turn_of};
 
@@ -20,7 +20,7 @@ pub fn play<D: ChunkDevice, L: LogDisk>(world: &mut World<D, L>, number: u64) ->
     ensures continues { Continues world.old world.new }
     ensures drawn { OnOk result (IsDrawnSo number world.new) }
     ensures ended { OnOk result (HasEnded world.new) }
-    ensures err { IfErr result (StopsAt world.old world.new) }
+    ensures err { IfErr result (StopsAt number world.old world.new) }
 {
     let mut generator = generator_of(number);
     loop {
@@ -45,7 +45,7 @@ fn take_drawn_step<D: ChunkDevice, L: LogDisk>(
     ensures done { OnOk result (TakesDrawnStep turns.now (pcg32 generator.old).0 world.old world.new) }
     ensures next { generator.new ≡ (pcg32 generator.old).1 }
     ensures continues { Continues world.old world.new }
-    ensures err { IfErr result (StopsAt world.old world.new) }
+    ensures err { IfErr result (StopsDrawnStep turns.now (pcg32 generator.old).0 world.old world.new) }
 {
     let actor = draw(generator, turns);
     take_step(world, actor)
@@ -59,7 +59,7 @@ fn take_step<D: ChunkDevice, L: LogDisk>(
     requires { HasTurn world.old actor }
     ensures done { OnOk result (Steps world.old actor Outcome.Done world.new) }
     ensures continues { Continues world.old world.new }
-    ensures err { IfErr result (StopsAt world.old world.new) }
+    ensures err { IfErr result (StopsStep world.old actor world.new) }
 {
     let node = world.goes_to(actor);
     match world.step(actor) {

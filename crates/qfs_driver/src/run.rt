@@ -1,6 +1,6 @@
 //! A script is run over devices and disks that are handed in, and its text is made.
 ghost use Rattle.std.specs.Prelude.{◌≡◌, ◌≤◌, length, All, IfOk, IfErr};
-ghost use Rattle.qfs_driver.specs.Run.{Prints, StayInPlace, StopsOver};
+ghost use Rattle.qfs_driver.specs.Run.{AllRemain, Prints, StayInPlace, StopsOver};
 ghost use Rattle.qfs_driver.specs.Scripts.{IsReadScript};
 ghost use Rattle.qfs_world.specs.Calls.{IsNew};
 
@@ -15,6 +15,7 @@ use std::mem;
 
 /// Runs a script by the order that is drawn from a number, and gives its text. The error is why
 /// the run stopped early. In either case the devices stand in their places again.
+#[tactic(auto, using(crate::proofs::Remaining::same_remain))]
 pub fn run<D: ChunkDevice, L: LogDisk>(
     alloc: Global,
     number: u64,
@@ -26,8 +27,9 @@ pub fn run<D: ChunkDevice, L: LogDisk>(
     requires enough { script.now.servers ≤ length devices.old.items }
     requires fresh { All (IsNew D.told) devices.old.items }
     ensures text { IfOk result (λ text. Prints D.told D.faults number script.now devices.old.items devices.new.items text.items) }
-    ensures err { IfErr result (StopsOver D.faults script.now.servers devices.old.items devices.new.items) }
+    ensures err { IfErr result (StopsOver D.told D.faults number script.now devices.old.items devices.new.items) }
     ensures places { StayInPlace script.now.servers devices.old.items devices.new.items }
+    ensures kept { AllRemain D.told D.faults devices.old.items devices.new.items }
     ensures disks { disks.new ≡ disks.old }
 {
     let taken = mem::replace(devices, Vec::new(alloc));

@@ -6,7 +6,6 @@ pub mod Kept
 pub mod Lists
 pub mod Nodes
 pub mod Numbered
-pub mod OneNode
 pub mod Others
 pub mod Simulation
 pub mod Stands

@@ -22,7 +22,7 @@ use Rattle.qfs_model_actor.specs.Actor.{Actor, has_finished, after_reply, node_o
 use Rattle.qfs_model_world.specs.World.{numbered, renumbered}
 use Rattle.qfs_store.specs.Stored.{Stored}
 use Rattle.qfs_world.specs.AtWork.{IsAtWork, TakesTurn, AreNumbered, image_of, stores_of, actors_of}
-use Rattle.qfs_world.specs.Calls.{Steps}
+use Rattle.qfs_world.specs.Calls.{Steps, nodes_of}
 use Rattle.qfs_world.specs.Follows.{Follows}
 use Rattle.qfs_world.specs.Running.{Running, AllTell, turn_of, steps_left}
 use Rattle.qfs_world.specs.Turns.{GoesOn, no_server}
@@ -288,6 +288,10 @@ module _ {D : Type 0} where
             reply = reply;
             of = numbered-is (actors_of actors) place it.actor (actors-at actors place it there);
             to = t.to;
+            turns =
+                let P : List (NodeState D) → Type 0 = λ ns. TakesTurn ns it.actor outcome (nodes_of behind_step) (after_reply it.actor reply) in
+                let Q : List (NodeState D) → Type 0 = λ ns. TakesTurn nodes it.actor outcome ns (after_reply it.actor reply) in
+                subst P work.nodes_are (subst Q works-on.nodes_are (subst (λ a. TakesTurn nodes it.actor outcome behind a) t.is.took turn));
             order = refl;
             actors = all ∙ sym (renumbered-is (actors_of actors) place (after_reply it.actor reply));
             others = record {

@@ -18,8 +18,11 @@ use Rattle.qfs_model_world.specs.Text.{lines_of_actor}
 use Rattle.qfs_model_world.specs.World.{numbered, renumbered, numbered_actors}
 use Rattle.qfs_store.specs.Stands.{no_copies}
 use Rattle.qfs_store.specs.Stored.{Stored}
+use Rattle.qfs_world.specs.AtWork.{TakesTurn}
 use Rattle.qfs_world.specs.Running.{Running, AllTell, commands_by_actor, turn_of, steps_left}
 use Rattle.qfs_world.specs.Turns.{GoesOn}
+use Rattle.qfs_world.specs.declared.node.NodeState.{NodeState}
+use Rattle.qfs_world.specs.declared.node.NodeState.TheVariants as Node
 
 -- ---- a new world
 
@@ -72,14 +75,20 @@ module _ {D L : Type 0} where
     pub elsewhere : (number : ℕ) → numbered before.stores number ≡ None
         → failed_at number (events behind.script behind.order) ≡ failed_at number (events before.script before.order)
 
-  -- an actor took its step, which came out so: the order has one entry more, and nothing else changed but that actor and
-  -- the node that its request went to
+  -- the nodes: the metaserver, and behind it the chunk servers
+  abbrev pub nodes_of : Running D L → List (NodeState D)
+  nodes_of world =
+      Node.Meta (record { layout = world.script.layout; image = world.meta }) ∷ map Node.Store world.stores
+
+  -- an actor took its step, which came out so: its node served its request, and the actor took the reply. The order has one
+  -- entry more, and nothing else changed but that actor and the node that its request went to
   pub record Steps (before : Running D L) (number : ℕ) (outcome : Outcome) (behind : Running D L) : Type 0 where
     pub actor : Actor
     pub node : ℕ
     pub reply : NodeReply
     pub of : numbered before.actors number ≡ Some actor
     pub to : node_of actor ≡ Some node
+    pub turns : TakesTurn (nodes_of before) actor outcome (nodes_of behind) (after_reply actor reply)
     pub order : behind.order ≡ before.order ++ record { actor = number; outcome = outcome } ∷ []
     pub actors : behind.actors ≡ renumbered before.actors number (after_reply actor reply)
     pub others : OthersStay before behind node

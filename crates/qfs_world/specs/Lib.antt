@@ -1,6 +1,5 @@
 pub mod AtWork
 pub mod Calls
 pub mod Follows
-pub mod Frame
 pub mod Running
 pub mod Turns

@@ -2,14 +2,12 @@
 //! actors, one step after another on one thread.
 #![tactic(auto)]
 
-mod frame;
 mod node;
 mod parts;
 mod start;
 mod turns;
 mod world;
 
-pub use frame::a_turn_is_one_nodes;
 pub use node::{MetaNode, NodeState, turn_on};
 pub use parts::{Parts, PartsError, WorldLoadError};
 pub use world::World;

@@ -44,8 +44,9 @@ pub enum NodeState<D: ChunkDevice> {
     Store(Store<D>),
 }
 
-/// Lets a node serve the next request of an actor that is ready, and hands the reply to the
-/// actor. What comes of it depends on these two alone.
+/// Lets a node serve the next request of an actor that is ready and hasn't finished, and hands the
+/// reply to the actor, which isn't ready then. The outcome is the one that the reply shows. What
+/// comes of it depends on these two alone.
 ///
 /// A request to a chunk server that comes to the metaserver is one to a server that isn't there:
 /// it is down. A request to the metaserver that comes to a chunk server is answered `Nothing`.

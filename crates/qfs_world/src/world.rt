@@ -58,8 +58,13 @@ impl<D: ChunkDevice, L: LogDisk> Model for World<D, L> {
 }
 
 impl<D: ChunkDevice, L: LogDisk> World<D, L> {
-    /// The world in which a script starts. Device s - 1 becomes that of server s. An Err says that
-    /// memory is wanting, and hands devices and disks back as they came.
+    /// The world in which a script starts. Device s - 1 becomes that of server s; those above the
+    /// servers are only kept. An Err says that memory is wanting, and hands devices and disks back
+    /// as they came.
+    ///
+    /// The script has 1 to 64 servers, fewer than 65,536 actors, and for each of them fewer than
+    /// 65,536 commands, all of which put or get files. There is a device for each server, and as
+    /// far as the devices tell what they hold, all are new.
     pub fn new(
         alloc: Global,
         script: &Script,
@@ -98,7 +103,11 @@ impl<D: ChunkDevice, L: LogDisk> World<D, L> {
         }
     }
 
-    /// The actor takes its next step. On want of memory the world is as it was.
+    /// An actor whose turn it is takes its next step: its node serves its next request, it takes
+    /// the reply, and the order has one entry more. The outcome is the one that the reply shows:
+    /// Failed says that the node is a server, and that the count of faults of its device rose or
+    /// stands at its last value; NoMemory that the node answered so. An Err says that memory is
+    /// wanting, and then the world is as it was.
     pub fn step(&mut self, actor: ActorId) -> Result<Outcome, AllocError>
         requires turn { HasTurn self.old actor }
         ensures ok { IfOk result (λ outcome. Steps self.old actor outcome self.new) }
@@ -112,7 +121,7 @@ impl<D: ChunkDevice, L: LogDisk> World<D, L> {
     }
 
     /// Whose turn it may be: the unfinished actors of the current phase, by number. None is left
-    /// where all have finished.
+    /// where all have finished. An Err says that memory is wanting.
     pub fn turn(&self) -> Result<TurnList, AllocError>
         ensures turn { IfOk result (λ turn. turn ≡ turn_of self.now.script self.now.actors) }
         ensures after { IsAfter self.now }

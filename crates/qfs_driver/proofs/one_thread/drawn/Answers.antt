@@ -1,6 +1,7 @@
--- A script that was read can be run, and its text is written whole or in part.
+-- A script that was read can be run, and its text is written whole or in part, or its run stops early.
 use Rattle.std.proofs.Common.{rules}
 use Rattle.qfs_script.specs.Lines.{text_lines}
+use Rattle.qfs_driver.proofs.Endings.{ends_over}
 use Rattle.qfs_driver.proofs.ReadScripts.{read_script_is_first}
 use Rattle.qfs_driver.proofs.one_thread.drawn.Goals as goal
 
@@ -36,3 +37,9 @@ returns-in-Ok-run-clause-ends g c = record {
   written = rw (← c.as_slice.ensures.value) c.in-Err-write_all.ensures.err.2;
   rose = c.in-Err-write_all.ensures.cause;
 }
+
+pub returns-clause-ends : goal.returns-clause-ends
+returns-clause-ends g c =
+    let is = read_script_is_first (text_lines c.in-Ok.ensures.ok.bytes) c.in-Ok.script c.in-Ok.ensures.ok.says in
+    ends_over g.D.ChunkDevice.told g.D.ChunkDevice.faults c.args.number c.args.devices.now.items c.run.new.devices.items _ _
+    c.in-Ok.script c.in-Ok.ensures.ok is.first_path.most (search rules) c.run.ensures.places c.in-Err-run.status c.in-Err-run.ensures.err

@@ -1,7 +1,7 @@
 -- Each drawn step adds to the order and takes a word.
 use Rattle.std.proofs.Common.{rules, ◌∙◌}
 use Rattle.std.proofs.lemmas.Result.{err_from_is_err_and}
-use Rattle.qfs_driver.proofs.PlayLaws.{drawn_at_start, words_at_start, continues_itself, continues_further, stops_further, drawn_step_further, words_further}
+use Rattle.qfs_driver.proofs.PlayLaws.{drawn_at_start, words_at_start, continues_itself, continues_further, drawn_step_further, drawn_step_stops, words_further}
 use Rattle.qfs_driver.proofs.play.play.Goals as goal
 
 pub loop-turns-init : goal.loop-turns-init
@@ -29,4 +29,6 @@ pub returns-in_err-take_drawn_step-clause-err : goal.returns-in_err-take_drawn_s
 returns-in_err-take_drawn_step-clause-err g c =
     let p = err_from_is_err_and c.from_residual.result c.from_residual.ensures.1 in
     rw (p.1, p.2)
-    (stops_further c.args.world.now c.loop-turns.world c.take_drawn_step.new.world c.in_err-take_drawn_step.field-0.0 c.loop-turns.invariant.continues c.in_err-take_drawn_step.ensures.err)
+    (drawn_step_stops c.args.number c.loop-turns.generator c.args.world.now c.loop-turns.world c.take_drawn_step.new.world c.as_slice.result.now
+    c.in_err-take_drawn_step.field-0.0 c.loop-turns.invariant.continues c.turn.ensures.after (search rules) c.loop-turns.invariant.words
+    c.in_err-take_drawn_step.ensures.err c.loop-turns.invariant.drawn)

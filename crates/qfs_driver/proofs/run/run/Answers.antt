@@ -2,7 +2,7 @@
 use Rattle.std.proofs.Common.{◌≡◌, refl, ap, ◌∙◌}
 use Rattle.std.proofs.lemmas.Result.{err_from_is_err_and}
 use Rattle.qfs_base.specs.declared.image.MetaImage.{MetaImage}
-use Rattle.qfs_driver.proofs.DeviceLaws.{run_stays}
+use Rattle.qfs_driver.proofs.DeviceLaws.{run_remains, run_stays}
 use Rattle.qfs_driver.proofs.RunLaws.{run_prints, run_stops}
 use Rattle.qfs_world.specs.Calls.{lines_of_actors}
 use Rattle.qfs_driver.proofs.run.run.Goals as goal
@@ -13,8 +13,8 @@ returns-in_err-played-in-Ok-into_parts-clause-err g c =
     let starts = rw c.replace-taken.ensures.value at c.in-Ok.ensures.ok in
     let p = err_from_is_err_and c.from_residual.result c.from_residual.ensures.1 in
     rw (p.1, p.2)
-    (run_stops _ _ _ _ _ _ c.in-Ok.world c.play-played.new.world c.in_err-played-in-Ok-into_parts.field-0.0
-    c.requires.enough starts c.play-played.ensures.continues c.in-Ok-into_parts.ensures.devices
+    (run_stops _ _ _ _ _ _ _ c.in-Ok.world c.play-played.new.world c.in_err-played-in-Ok-into_parts.field-0.0
+    c.requires.enough starts c.play-played.ensures.continues c.in-Ok-into_parts.ensures.devices c.in-Ok-into_parts.ensures.after
     c.in_err-played-in-Ok-into_parts.ensures.err)
 
 pub returns-in_err-played-in-Ok-into_parts-clause-places :
@@ -55,4 +55,28 @@ pub returns-clause-places : goal.returns-clause-places
 returns-clause-places g c =
     let starts = rw c.replace-taken.ensures.value at c.in-Ok.ensures.ok in
     run_stays _ _ _ _ _ _ c.in-Ok.world c.play-played.new.world
+    c.requires.enough starts c.play-played.ensures.continues c.in-Err-into_parts.ensures.err_devices
+
+pub returns-in_err-played-in-Ok-into_parts-clause-kept : goal.returns-in_err-played-in-Ok-into_parts-clause-kept
+returns-in_err-played-in-Ok-into_parts-clause-kept g c =
+    let starts = rw c.replace-taken.ensures.value at c.in-Ok.ensures.ok in
+    run_remains _ _ _ _ _ _ c.in-Ok.world c.play-played.new.world
+    c.requires.enough starts c.play-played.ensures.continues c.in-Ok-into_parts.ensures.devices
+
+pub returns-in-Ok-text_of-clause-kept : goal.returns-in-Ok-text_of-clause-kept
+returns-in-Ok-text_of-clause-kept g c =
+    let starts = rw c.replace-taken.ensures.value at c.in-Ok.ensures.ok in
+    run_remains _ _ _ _ _ _ c.in-Ok.world c.play-played.new.world
+    c.requires.enough starts c.play-played.ensures.continues c.in-Ok-into_parts.ensures.devices
+
+pub returns-in-Ok-into_parts-clause-kept : goal.returns-in-Ok-into_parts-clause-kept
+returns-in-Ok-into_parts-clause-kept g c =
+    let starts = rw c.replace-taken.ensures.value at c.in-Ok.ensures.ok in
+    run_remains _ _ _ _ _ _ c.in-Ok.world c.play-played.new.world
+    c.requires.enough starts c.play-played.ensures.continues c.in-Ok-into_parts.ensures.devices
+
+pub returns-clause-kept : goal.returns-clause-kept
+returns-clause-kept g c =
+    let starts = rw c.replace-taken.ensures.value at c.in-Ok.ensures.ok in
+    run_remains _ _ _ _ _ _ c.in-Ok.world c.play-played.new.world
     c.requires.enough starts c.play-played.ensures.continues c.in-Err-into_parts.ensures.err_devices
