@@ -54,7 +54,7 @@ module _ {D : Type 0} where
     pub as_many : length behind ≡ length before
     pub spare : drop servers behind ≡ drop servers before
 
-  -- a device tells what it holds as it did, and its count of faults hasn't fallen
+  -- a device tells what it holds exactly where it told it before, and its count of faults hasn't fallen
   pub record Remains (told : D → Option Held) (faults : D → ℕ) (before behind : D) : Type 0 where
     pub tells : is_some (told behind) ≡ is_some (told before)
     pub never_falls : faults before ≤ faults behind

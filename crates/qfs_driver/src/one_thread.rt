@@ -33,9 +33,10 @@ pub enum Plan {
 /// - NoMemory: memory was wanting. It may stand in place of each of the others.
 ///
 /// Nothing is written but with Ok and WriteFault. With each status every device stands in its
-/// place: it tells what it holds as it did, and its count of faults hasn't fallen. Those above the
-/// script's servers are as they came; with NoMemory, those above a number of servers that is at
-/// most 64; with ReadFault, BadScript and TooFewDevices, all. The disks are always as they came.
+/// place: it tells what it holds exactly where it told it before, and its count of faults hasn't
+/// fallen. Those above the script's servers are as they came; with NoMemory, those above a number
+/// of servers that is at most 64; with ReadFault, BadScript and TooFewDevices, all. The disks are
+/// always as they came.
 pub fn serial<S: Source, K: Sink, D: ChunkDevice, L: LogDisk>(
     alloc: Global,
     plan: Plan,
