@@ -1,7 +1,7 @@
 -- One new device more.
 use Rattle.std.proofs.lemmas.List.Elements.{All-push}
-use Rattle.qfs_tests.proofs.top.memory_devices.Invariants.{IsFresh}
-use Rattle.qfs_tests.proofs.top.memory_devices.Goals as goal
+use Rattle.qfs_run_tests.proofs.top.memory_devices.Invariants.{IsFresh}
+use Rattle.qfs_run_tests.proofs.top.memory_devices.Goals as goal
 
 pub loop-number-preserved : goal.loop-number-preserved
 loop-number-preserved c =

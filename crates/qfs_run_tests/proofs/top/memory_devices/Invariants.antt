@@ -2,7 +2,7 @@
 use Rattle.std.specs.Prelude.{All, Some}
 use Rattle.qfs_device.specs.declared.memory_device.MapDevice.{MapDevice}
 use Rattle.qfs_world.specs.Calls.{IsNew}
-use Rattle.qfs_tests.proofs.top.memory_devices.Given as goal
+use Rattle.qfs_run_tests.proofs.top.memory_devices.Given as goal
 
 -- a device in memory that tells that it is new
 abbrev pub IsFresh : {F : Type 0} → MapDevice F → Type 0
