@@ -9,8 +9,12 @@ pub mod Mask
 pub mod NameTree
 pub mod NumberSet
 pub mod NumberSetLaws
+pub mod Order
 pub mod Outcome
 pub mod Path
 pub mod Recipe
+pub mod Rules
 pub mod Shape
+pub mod Sizes
 pub mod Table
+pub mod Turns

@@ -40,6 +40,13 @@ place order new (row ∷ rows) = place_before new row rows (place order new rows
 abbrev pub place_all : {X : Type 0} → (X → X → Ordering) → List X → List X → List X
 place_all order new rows = fold (λ table row. place order row table) rows new
 
+-- whether a row has the key of an order, and whether it stands behind that key
+abbrev pub has_key : {X : Type 0} → (X → Ordering) → X → Bool
+has_key order row = is_eq (order row)
+
+abbrev pub is_behind : {X : Type 0} → (X → Ordering) → X → Bool
+is_behind order row = is_lt (order row)
+
 -- the first answer that is one, of the items in order
 abbrev pub first_of : {X Y : Type 0} → (X → Option Y) → List X → Option Y
 first_of answer [] = None

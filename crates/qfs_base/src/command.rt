@@ -50,6 +50,8 @@ pub enum Command {
     Wipe(ServerId),
     /// Takes a server down that is expected back within so many ticks.
     Hibernate(ServerId, u32),
+    /// Lets a server write its chunk records in the second version from now on.
+    Upgrade(ServerId),
     Tick,
     Drop(ActorId),
     Checkpoint,
@@ -193,6 +195,10 @@ pub enum Reply<R> {
         until: u64,
     },
     NotUp,
+    /// A server writes its chunk records in the second version.
+    Upgraded,
+    /// A server that was to be upgraded isn't up.
+    Down,
     Clock {
         now: u64,
     },

@@ -1,4 +1,4 @@
-//! The file history and the order of steps.
+//! The file history, and the steps of a run.
 
 use crate::listing::Listing;
 use crate::lists::{Bytes, Names};
@@ -47,6 +47,3 @@ pub struct Step {
     pub actor: ActorId,
     pub outcome: Outcome,
 }
-
-/// The one order in which all steps were taken.
-pub type Order = Listing<Step>;

@@ -95,6 +95,8 @@ pub struct Lease {
     pub lease: LeaseId,
     pub actor: ActorId,
     pub file: FileId,
+    /// The clock reading at which it ends: 0 where it lasts until it is given back.
+    pub until: u64,
 }
 
 /// The live leases, by number.

@@ -2,6 +2,7 @@
 //! commands, scripts, and the metaserver's state.
 #![tactic(auto)]
 
+pub mod change;
 pub mod chunk;
 pub mod command;
 pub mod history;
@@ -13,9 +14,12 @@ mod listing_compared;
 pub mod lists;
 pub mod mask;
 pub mod numbers;
+pub mod order;
 pub mod path;
 pub mod recipe;
 pub mod reply;
 pub mod request;
+pub mod rules;
 pub mod script;
 pub mod server_set;
+pub mod sizes;

@@ -3,7 +3,8 @@
 ghost use Rattle.std.specs.Prelude.{◌≡◌, ℕ, ◌<◌, ◌≤◌, List, [], length, find, nat_le};
 ghost use Rattle.qfs_base.specs.Mask.{IsMask, has_slot, insert_slot};
 
-use crate::numbers::{SLOTS, Slot};
+use crate::numbers::Slot;
+use crate::sizes::SLOTS;
 use std::marker::Model;
 
 /// A set of slots, each below 9. A contract sees it as their rising list.

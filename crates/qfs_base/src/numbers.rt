@@ -21,9 +21,6 @@ pub type ActorId = u16;
 /// One of a block's nine places: 0 to 5 hold data, 6 to 8 parity.
 pub type Slot = u8;
 
-/// How many slots a block has.
-pub const SLOTS: Slot = 9;
-
 /// Names a lease for good: 1 and up, never used again.
 pub type LeaseId = u64;
 

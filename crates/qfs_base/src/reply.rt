@@ -152,6 +152,7 @@ pub enum ChunkAnswer {
     Started { life: Life },
     Wiped { life: Life },
     Inventory { life: Life, keys: KeyList },
+    Upgraded,
     Down,
     Lost { asked: Life, now: Life },
     Held,

@@ -176,6 +176,8 @@ pub enum ChunkRequest {
     Wipe,
     /// Lists the copies.
     Inventory,
+    /// Makes the server write its chunk records in the second version from now on.
+    Upgrade,
 }
 
 /// A request to a node.

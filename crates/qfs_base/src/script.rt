@@ -1,9 +1,9 @@
 //! A script: what a run is asked to do.
 
 use crate::command::Command;
-use crate::history::Order;
 use crate::layout::Layout;
 use crate::listing::Listing;
+use crate::order::Order;
 
 /// The commands of one actor, in order.
 pub type Commands = Listing<Command>;
@@ -17,6 +17,8 @@ pub struct Script {
     pub layout: Layout,
     /// The number of chunk servers, 1 to 64.
     pub servers: u16,
+    /// The ticks that a lease lives, 1 to 1,000; 0 where leases last until they are given back.
+    pub term: u32,
     /// Whether the output tells of each chunk whether its copy is there.
     pub audit: bool,
     pub phases: Listing<Phase>,
