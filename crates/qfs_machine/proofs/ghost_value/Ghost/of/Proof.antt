@@ -20,9 +20,9 @@ use types.ByLocal.{alloc_all, pass_all, free_all, look_at, get, sets}
 use types.Kit.{‵, raw, ◌⊛◌, ◌$◌, ◌∵◌, !, qed, move, keep, split, join, fjoin, use0, suffices, done}
 use types.Part.{agg}
 use types.Run.{no_more, and_then, returns, enter}
-use Rattle.qfs_machine.specs.contracts.told.Told.of as f
-use Rattle.qfs_machine.proofs.told.Told.of.Statement.{statement}
-use Rattle.qfs_machine.proofs.told.Told.of.Code as code
+use Rattle.qfs_machine.specs.contracts.ghost_value.Ghost.of as f
+use Rattle.qfs_machine.proofs.ghost_value.Ghost.of.Statement.{statement}
+use Rattle.qfs_machine.proofs.ghost_value.Ghost.of.Code as code
 
 module _ (T A B : RattleType) where
   abbrev stayed : Stays (f.ended T A B).signature.params (f.ended T A B).kept

@@ -6,34 +6,34 @@ use std::marker::{Model, PhantomData, Send, Sync};
 
 /// A `T` as clauses see it. It has no bytes and owns nothing, so that an actor can say what it
 /// was told without keeping it.
-pub struct Told<T> {
+pub struct Ghost<T> {
     marker: PhantomData<T>,
     pub ghost value: { T },
 }
 
-impl<T> Model for Told<T> {
+impl<T> Model for Ghost<T> {
     ghost also_owns = { λ _. ftrue };
 }
 
-impl<T> Told<T> {
+impl<T> Ghost<T> {
     /// The value that the caller's proof picks, of what these two show.
-    pub fn of<A, B>(first: &A, second: &B) -> Told<T>
+    pub fn of<A, B>(first: &A, second: &B) -> Ghost<T>
         ghost next: { T }
         ensures { result.value ≡ next }
     {
         let _ = first;
         let _ = second;
-        Told {
+        Ghost {
             marker: PhantomData,
         }
     }
 }
 
-unsafe impl<T> Send for Told<T> {}
+unsafe impl<T> Send for Ghost<T> {}
 
-unsafe impl<T> Sync for Told<T> {}
+unsafe impl<T> Sync for Ghost<T> {}
 
-impl<T> Drop for Told<T> {
+impl<T> Drop for Ghost<T> {
     fn drop(self) {
         let Self { marker: _ } = self;
     }
