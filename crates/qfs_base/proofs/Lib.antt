@@ -1,2 +1,3 @@
 pub mod MaskLemmas
+pub mod OrderLaws
 pub mod PathTexts

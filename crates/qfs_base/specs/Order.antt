@@ -1,5 +1,5 @@
 -- An order of steps, as the list that its runs of equal steps stand for.
-use Rattle.std.specs.Prelude.{◌≡◌, ◌⊎◌, ℕ, List, [], ◌∷◌, ◌++◌, replicate, flat_map, Option, option_to_list}
+use Rattle.std.specs.Prelude.{◌≡◌, ◌⊎◌, ℕ, ◌+◌, ◌-◌, List, [], ◌∷◌, ◌++◌, length, replicate, flat_map, slice_get, Option, Some, option_to_list}
 use Rattle.qfs_base.specs.declared.history.Step.{Step}
 use Rattle.qfs_base.specs.declared.order.StepRun.{StepRun}
 
@@ -18,3 +18,10 @@ all_steps runs last = steps_of_runs runs ++ option_to_list last
 -- at most one step came behind the others
 abbrev pub IsFront : List Step → Step → List Step → Type 0
 IsFront steps step now = (now ≡ steps) ⊎ (now ≡ steps ++ step ∷ [])
+
+-- a step goes on the last of these runs, which is so long with it
+pub record LengthensLast (runs : List StepRun) (step : Step) (count : ℕ) : Type 0 where
+  pub run : StepRun
+  pub last : slice_get runs (length runs - 1) ≡ Some run
+  pub alike : run.step ≡ step
+  pub longer : count ≡ run.count + 1

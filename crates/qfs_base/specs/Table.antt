@@ -3,6 +3,7 @@
 -- counted by `count_by`.
 use Rattle.std.specs.Prelude.{⊤, ◌≡◌, Bool, true, false, not, List, [], ◌∷◌, fold, filter, find, unwrap_or, Option, None}
 use Rattle.std.specs.Option.{option_or}
+use Rattle.std.specs.Ordering.{is_eq, is_lt}
 use Rattle.std.specs.declared.cmp.Ordering.{Ordering}
 use Rattle.std.specs.declared.cmp.Ordering.TheVariants.{Less, Equal, Greater}
 

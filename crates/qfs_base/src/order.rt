@@ -1,7 +1,7 @@
 //! The one order in which the steps of a run were taken.
 
-ghost use Rattle.std.specs.Prelude.{◌≡◌, ◌<◌, ◌≤◌, ◌-◌, [], ◌∷◌, ◌++◌, length, take, replicate, IsTrue, ◌↔◌, OnOk, OnErr};
-ghost use Rattle.qfs_base.specs.Order.{all_steps, steps_of_runs, IsFront};
+ghost use Rattle.std.specs.Prelude.{◌≡◌, ◌<◌, ◌≤◌, ◌-◌, [], ◌∷◌, ◌++◌, length, take, replicate, IsTrue, ◌↔◌, IfSome, OnOk, OnErr};
+ghost use Rattle.qfs_base.specs.Order.{all_steps, steps_of_runs, IsFront, LengthensLast};
 
 use crate::history::Step;
 use crate::listing::Listing;
@@ -70,10 +70,7 @@ impl Order {
         ensures ok { OnOk result (self.new ≡ self.old ++ step ∷ []) }
         ensures err { OnErr result (self.new ≡ self.old) }
     {
-        match self.last {
-            Some(last) => push_behind(&mut self.runs, last)?,
-            None => {}
-        }
+        settle(&mut self.runs, self.last)?;
         self.last = Some(step);
         Ok(())
     }
@@ -85,14 +82,9 @@ impl Order {
         ensures ok { OnOk result (self.new ≡ self.old ++ replicate count step) }
         ensures err { OnErr result (IsFront self.old step self.new) }
     {
-        self.push(step)?;
-        if count == 1 {
-            return Ok(());
-        }
-        self.runs.push(StepRun {
-            step,
-            count: count - 1,
-        })
+        settle(&mut self.runs, self.last)?;
+        self.last = Some(step);
+        push_others(&mut self.runs, step, count)
     }
 
     /// Writes another step in place of the last one. It takes no memory.
@@ -105,16 +97,49 @@ impl Order {
     }
 }
 
+/// Puts the last step behind the runs of the others, if there is one. On want of memory they stay.
+fn settle(runs: &mut Listing<StepRun>, last: Option<Step>) -> Result<(), AllocError>
+    ensures ok { OnOk result (steps_of_runs runs.new ≡ all_steps runs.old last) }
+    ensures err { OnErr result (runs.new ≡ runs.old) }
+{
+    match last {
+        Some(step) => push_behind(runs, step),
+        None => Ok(()),
+    }
+}
+
+/// Puts all but the last of `count` steps behind these runs. On want of memory they stay.
+fn push_others(runs: &mut Listing<StepRun>, step: Step, count: u32) -> Result<(), AllocError>
+    requires { 1 ≤ count }
+    ensures ok { OnOk result (steps_of_runs runs.new ++ step ∷ [] ≡ steps_of_runs runs.old ++ replicate count step) }
+    ensures err { OnErr result (runs.new ≡ runs.old) }
+{
+    if count == 1 {
+        return Ok(());
+    }
+    runs.push(StepRun {
+        step,
+        count: count - 1,
+    })
+}
+
+/// How long the last of these runs is with this step behind it, or None where the step doesn't go
+/// on that run.
+fn longer(runs: &Listing<StepRun>, step: Step) -> Option<u32>
+    ensures { IfSome result (LengthensLast runs.now step) }
+{
+    match runs.last() {
+        Some(run) if run.step == step && run.count < LONGEST_RUN => Some(run.count + 1),
+        _ => None,
+    }
+}
+
 /// Puts a step behind these runs. On want of memory they stay.
 fn push_behind(runs: &mut Listing<StepRun>, step: Step) -> Result<(), AllocError>
     ensures ok { OnOk result (steps_of_runs runs.new ≡ steps_of_runs runs.old ++ step ∷ []) }
     ensures err { OnErr result (runs.new ≡ runs.old) }
 {
-    let longer = match runs.last() {
-        Some(run) if run.step == step && run.count < LONGEST_RUN => Some(run.count + 1),
-        _ => None,
-    };
-    match longer {
+    match longer(runs, step) {
         Some(count) => {
             runs.set_last(StepRun { step, count });
             Ok(())
