@@ -6,6 +6,7 @@ use Rattle.qfs_base.specs.Layout.{blocks_of, rows_of}
 use Rattle.qfs_base.specs.Path.{IsPath}
 use Rattle.qfs_base.specs.Recipe.{IsRecipe, bytes_of}
 use Rattle.qfs_base.specs.Shape.{Shape, IsStripe, IsRowCount}
+use Rattle.qfs_base.specs.Sizes.{SLOTS, MOST_FILE_BYTES, MOST_SERVERS}
 use Rattle.qfs_base.specs.Table.{Each}
 use Rattle.qfs_base.specs.declared.command.Command.{Command}
 use Rattle.qfs_base.specs.declared.command.Command.TheVariants as Does
@@ -27,7 +28,7 @@ abbrev pub IsIndex : ℕ → Type 0
 IsIndex index = index ≤ 65535
 
 abbrev pub IsSlot : ℕ → Type 0
-IsSlot slot = slot < 9
+IsSlot slot = slot < SLOTS
 
 -- how often a heal, rebalance, evacuation or sweep goes on at most, how long a server hibernates, and an actor's number
 abbrev pub IsBudget : ℕ → Type 0
@@ -41,7 +42,7 @@ IsActorNumber actor = IsFromOne 64 actor
 
 -- a range of a file's bytes
 abbrev pub IsRange : Range → Type 0
-IsRange range = (range.from ≤ 268435456) × (range.count ≤ 268435456)
+IsRange range = (range.from ≤ MOST_FILE_BYTES) × (range.count ≤ MOST_FILE_BYTES)
 
 -- the bytes and numbers of a recipe
 abbrev pub IsByte : ℕ → Type 0
@@ -77,6 +78,7 @@ IsCommand servers (Does.Stop server) = IsFromOne servers server
 IsCommand servers (Does.Start server) = IsFromOne servers server
 IsCommand servers (Does.Wipe server) = IsFromOne servers server
 IsCommand servers (Does.Hibernate server ticks) = IsFromOne servers server × IsTicks ticks
+IsCommand servers (Does.Upgrade server) = IsFromOne servers server
 IsCommand servers Does.Tick = ⊤
 IsCommand servers (Does.Drop actor) = IsActorNumber actor
 IsCommand servers Does.Checkpoint = ⊤
@@ -102,17 +104,19 @@ abbrev pub blocks_in : Shape → ℕ → ℕ
 blocks_in layout len = blocks_of layout.s layout.r len
 
 abbrev pub chunk_bytes_of_block : Shape → ℕ → ℕ → ℕ
-chunk_bytes_of_block layout len index = 9 * (rows_of layout.s layout.r len index * layout.s)
+chunk_bytes_of_block layout len index = SLOTS * (rows_of layout.s layout.r len index * layout.s)
 
 abbrev pub chunk_bytes_in : Shape → ℕ → ℕ
 chunk_bytes_in layout len = sum_by (chunk_bytes_of_block layout len) (range_with_len 0 (blocks_in layout len))
 
 -- ---- scripts
 
+-- a term of 0 ticks says that leases last
 pub record IsScript (script : Script) : Type 0 where
   pub stripe : IsStripe script.layout.s
   pub rows : IsRowCount script.layout.r
-  pub servers : IsFromOne 64 script.servers
+  pub servers : IsFromOne MOST_SERVERS script.servers
+  pub term : script.term ≤ 1000
   pub phases : IsFromOne 16 (length script.phases)
   pub few_actors : length (actors_of script) ≤ 64
   pub few_commands : Each (λ commands. length commands ≤ 4096) (actors_of script)
