@@ -16,6 +16,7 @@ use Rattle.qfs_base.specs.declared.command.Range.{Range}
 use Rattle.qfs_base.specs.declared.history.Step.{Step}
 use Rattle.qfs_base.specs.declared.recipe.Form.{Form}
 use Rattle.qfs_base.specs.declared.script.Script.{Script}
+use Rattle.qfs_model_script.specs.Limits.{MOST_PHASES, MOST_ACTORS, MOST_COMMANDS, MOST_BLOCKS_OF_PUT, MOST_BLOCKS, MOST_BYTES_OF_CHUNKS, LAST_INDEX, MOST_BUDGET, MOST_TICKS}
 
 -- ---- the numbers of a command
 
@@ -25,20 +26,20 @@ IsFromOne last number = (1 ≤ number) × (number ≤ last)
 
 -- the index of a block, and a slot of it
 abbrev pub IsIndex : ℕ → Type 0
-IsIndex index = index ≤ 65535
+IsIndex index = index ≤ LAST_INDEX
 
 abbrev pub IsSlot : ℕ → Type 0
 IsSlot slot = slot < SLOTS
 
 -- how often a heal, rebalance, evacuation or sweep goes on at most, how long a server hibernates, and an actor's number
 abbrev pub IsBudget : ℕ → Type 0
-IsBudget budget = IsFromOne 100000 budget
+IsBudget budget = IsFromOne MOST_BUDGET budget
 
 abbrev pub IsTicks : ℕ → Type 0
-IsTicks ticks = IsFromOne 1000 ticks
+IsTicks ticks = IsFromOne MOST_TICKS ticks
 
 abbrev pub IsActorNumber : ℕ → Type 0
-IsActorNumber actor = IsFromOne 64 actor
+IsActorNumber actor = IsFromOne MOST_ACTORS actor
 
 -- a range of a file's bytes
 abbrev pub IsRange : Range → Type 0
@@ -116,12 +117,12 @@ pub record IsScript (script : Script) : Type 0 where
   pub stripe : IsStripe script.layout.s
   pub rows : IsRowCount script.layout.r
   pub servers : IsFromOne MOST_SERVERS script.servers
-  pub term : script.term ≤ 1000
-  pub phases : IsFromOne 16 (length script.phases)
-  pub few_actors : length (actors_of script) ≤ 64
-  pub few_commands : Each (λ commands. length commands ≤ 4096) (actors_of script)
+  pub term : script.term ≤ MOST_TICKS
+  pub phases : IsFromOne MOST_PHASES (length script.phases)
+  pub few_actors : length (actors_of script) ≤ MOST_ACTORS
+  pub few_commands : Each (λ commands. length commands ≤ MOST_COMMANDS) (actors_of script)
   pub commands : Each (Each (IsCommand script.servers)) (actors_of script)
-  pub blocks_of_put : Each (λ len. blocks_in script.layout len ≤ 65536) (lens_put script)
-  pub blocks : sum_by (blocks_in script.layout) (lens_put script) ≤ 262144
-  pub chunk_bytes : sum_by (chunk_bytes_in script.layout) (lens_put script) ≤ 3221225472
+  pub blocks_of_put : Each (λ len. blocks_in script.layout len ≤ MOST_BLOCKS_OF_PUT) (lens_put script)
+  pub blocks : sum_by (blocks_in script.layout) (lens_put script) ≤ MOST_BLOCKS
+  pub chunk_bytes : sum_by (chunk_bytes_in script.layout) (lens_put script) ≤ MOST_BYTES_OF_CHUNKS
   pub order : IfSome script.order (Each (λ (step : Step). IsActorNumber step.actor))
