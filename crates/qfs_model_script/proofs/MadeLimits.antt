@@ -218,6 +218,7 @@ module _ (words : List ℕ) (each : Each IsWord words) where
         stripe = (omega arith, omega arith, refl);
         rows = (omega arith, omega arith);
         servers = (omega arith, omega arith);
+        term = omega arith;
         phases = (omega arith, omega arith);
         few_actors = omega (arith, length-actors);
         few_commands = each_then AreFew (λ commands. length commands ≤ 4096) (λ commands is. omega (arith, is.few)) actors few;

@@ -3,11 +3,8 @@ use Rattle.std.specs.Prelude.{ℕ, ◌+◌, ◌==◌, ◌&&◌, nat_lt, Bool, tr
 use Rattle.qfs_base.specs.declared.history.Step.{Step}
 use Rattle.qfs_base.specs.declared.history.Outcome.{Outcome}
 use Rattle.qfs_base.specs.declared.history.Outcome.TheVariants as Ended
+use Rattle.qfs_base.specs.Sizes.{LONGEST_RUN}
 use Rattle.qfs_model_text.specs.Line.{Words, line}
-
--- the largest count of a run
-abbrev pub longest_run : ℕ
-longest_run = 4294967295
 
 -- whether two steps ended alike
 unfoldable pub same_outcome : Outcome → Outcome → Bool
@@ -24,7 +21,7 @@ same_outcome Ended.NoMemory Ended.NoMemory = true
 -- whether a step goes on a run of so many like this one
 abbrev pub goes_on_run : Step → ℕ → Step → Bool
 goes_on_run of_run count step =
-    step.actor == of_run.actor && same_outcome step.outcome of_run.outcome && nat_lt count longest_run
+    step.actor == of_run.actor && same_outcome step.outcome of_run.outcome && nat_lt count LONGEST_RUN
 
 -- how a step that didn't come out done is marked: f where a device failed, m where memory was wanting
 unfoldable pub outcome_mark : Outcome → List ℕ
