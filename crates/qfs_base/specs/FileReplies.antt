@@ -1,5 +1,5 @@
 -- What a file command answers, given the files at its place of the history.
-use Rattle.std.specs.Prelude.{ℕ, List, [], ◌∷◌, take, drop, find, Option, Some, None}
+use Rattle.std.specs.Prelude.{ℕ, List, [], take, drop, find, Option, Some, None}
 use Rattle.std.specs.Option.{option_map_or}
 use Rattle.qfs_base.specs.declared.command.FileCommand.{FileCommand}
 use Rattle.qfs_base.specs.declared.command.FileCommand.TheVariants as To

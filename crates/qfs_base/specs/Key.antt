@@ -1,5 +1,4 @@
 -- The orders of blocks and of chunk keys: by their fields in turn.
-use Rattle.std.specs.Prelude.{ℕ}
 use Rattle.std.specs.Ordering.{nat_cmp, ordering_then}
 use Rattle.std.specs.declared.cmp.Ordering.{Ordering}
 use Rattle.qfs_base.specs.declared.chunk.BlockId.{BlockId}

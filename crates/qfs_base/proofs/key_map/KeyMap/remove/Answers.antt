@@ -1,5 +1,4 @@
 -- Among rising keys the first entry of a key is the only one.
-use Rattle.std.proofs.Common.{◌≡◌}
 use Rattle.qfs_base.specs.KeyMapLaws.{without_key-rising}
 use Rattle.qfs_base.proofs.key_map.KeyMap.remove.Goals as goal
 

@@ -1,0 +1,5 @@
+use Rattle.qfs_base.proofs.OrderLaws.{another_last}
+use Rattle.qfs_base.proofs.order.Order.set_last.Goals as goal
+
+pub returns : goal.returns
+returns c = another_last c.self.inside.runs c.self.inside.last c.args.self.now c.args.step c.self.invariant c.self.view_is c.requires
