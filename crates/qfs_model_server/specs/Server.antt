@@ -1,7 +1,8 @@
 -- A chunk server and its step.
-use Rattle.std.specs.Prelude.{ℕ, ◌+◌, ◌*◌, ◌==◌, ◌&&◌, nat_lt, nat_le, min, Bool, true, false, if◌then◌else◌, not, List, [], ◌∷◌, length, take, drop, map, replicate, Option, Some, None, is_some, unwrap_or}
+use Rattle.std.specs.Prelude.{ℕ, ◌+◌, ◌==◌, ◌&&◌, nat_le, min, Bool, true, false, if◌then◌else◌, not, List, [], length, take, drop, map, sum, replicate, Option, Some, None}
 use Rattle.qfs_base.specs.KeyMap.{value_at, has_key, with_entry, without_key}
 use Rattle.qfs_base.specs.Key.{key_cmp}
+use Rattle.qfs_base.specs.Sizes.{LAST_U32}
 use Rattle.qfs_base.specs.declared.chunk.ChunkKey.{ChunkKey}
 use Rattle.qfs_base.specs.declared.history.Outcome.{Outcome}
 use Rattle.qfs_base.specs.declared.history.Outcome.TheVariants as Ended
@@ -10,38 +11,42 @@ use Rattle.qfs_base.specs.declared.reply.ChunkAnswer.TheVariants as Answer
 use Rattle.qfs_base.specs.declared.reply.ChunkReply.{ChunkReply}
 use Rattle.qfs_base.specs.declared.request.ChunkRequest.{ChunkRequest}
 use Rattle.qfs_base.specs.declared.request.ChunkRequest.TheVariants as Ask
+use Rattle.qfs_model_server.specs.Chunk.{Chunk, head_bytes}
 
 -- the copies on a server, by key
 abbrev pub Copies : Type 0
-Copies = List (ChunkKey × List ℕ)
+Copies = List (ChunkKey × Chunk)
 
--- a chunk server: whether it is up, its life, its copies, and how many bytes it has handed out
+-- a chunk server: whether it is up, its life, the form in which it writes chunk records, its copies, and how many
+-- bytes it has handed out
 pub record Server : Type 0 where
   pub up : Bool
   pub life : ℕ
+  pub form : ℕ
   pub copies : Copies
   pub handed_out : ℕ
 
 -- a server as every run begins
 abbrev pub fresh_server : Server
-fresh_server = record { up = true; life = 1; copies = []; handed_out = 0 }
+fresh_server = record { up = true; life = 1; form = 1; copies = []; handed_out = 0 }
 
 -- a server after a step, and what it answered
 pub record Answered : Type 0 where
   pub server : Server
   pub reply : ChunkReply
 
--- the bytes of a chunk record before those of the copy: mark, file, index, slot, version and length
-abbrev pub header_bytes : ℕ
-header_bytes = 21
-
 -- the life after a wipe: the next one, or the last that a life can be
 abbrev pub next_life : ℕ → ℕ
-next_life life = min (life + 1) 4294967295
+next_life life = min (life + 1) LAST_U32
+
+-- the bytes of a copy, if there is one
+abbrev pub bytes_in : Option Chunk → List ℕ
+bytes_in None = []
+bytes_in (Some copy) = copy.bytes
 
 -- the bytes of a copy, or none where there is no such copy
 abbrev pub copy_bytes : Copies → ChunkKey → List ℕ
-copy_bytes copies key = unwrap_or (value_at key_cmp copies key) []
+copy_bytes copies key = bytes_in (value_at key_cmp copies key)
 
 -- whether so many bytes from this offset on lie in a copy that is there
 unfoldable pub has_range : Copies → ChunkKey → ℕ → ℕ → Bool
@@ -70,6 +75,7 @@ chunk_refusal server Ask.Stop = None
 chunk_refusal server Ask.Start = None
 chunk_refusal server Ask.Wipe = None
 chunk_refusal server Ask.Inventory = refuse (not server.up) Answer.Down None
+chunk_refusal server Ask.Upgrade = refuse (not server.up) Answer.Down None
 
 -- the room that a request hands over, which comes back with the answer
 unfoldable pub room_of : ChunkRequest → List ℕ
@@ -80,19 +86,25 @@ room_of Ask.Stop = []
 room_of Ask.Start = []
 room_of Ask.Wipe = []
 room_of Ask.Inventory = []
+room_of Ask.Upgrade = []
 
 -- an answer with an empty room
 abbrev pub without_room : ChunkAnswer → ChunkReply
 without_room answer = record { answer = answer; room = [] }
 
--- the bytes that a start reads on a stopped server: the header of each copy
+-- the bytes that a start reads on a stopped server: the head of each copy's record
 unfoldable pub start_reads : Server → ℕ
-start_reads server = if server.up then 0 else header_bytes * length server.copies
+start_reads server =
+    if server.up then 0 else sum (map (λ (copy : ChunkKey × Chunk). head_bytes copy.1.form) server.copies)
+
+-- a copy as a server writes it
+abbrev pub written : Server → List ℕ → Chunk
+written server bytes = record { form = server.form; bytes = bytes }
 
 -- what a request that succeeds does
 unfoldable pub chunk_served : Server → ChunkRequest → Answered
 chunk_served server (Ask.Put key life bytes) = record {
-  server = record server { copies = with_entry key_cmp server.copies key bytes };
+  server = record server { copies = with_entry key_cmp server.copies key (written server bytes) };
   reply = without_room Answer.Stored;
 }
 chunk_served server (Ask.Fetch key life from room) = record {
@@ -118,6 +130,10 @@ chunk_served server Ask.Wipe = record {
 chunk_served server Ask.Inventory = record {
   server = server;
   reply = without_room (Answer.Inventory server.life (map (λ copy. copy.0) server.copies));
+}
+chunk_served server Ask.Upgrade = record {
+  server = record server { form = 2 };
+  reply = without_room Answer.Upgraded;
 }
 
 -- a server that stays as it was, with this answer and this room

@@ -3,7 +3,9 @@
 #![tactic(auto)]
 
 mod chunk;
+mod head;
 mod reading;
 mod writing;
 
 pub use chunk::{ChunkRead, chunk_records_are_apart, read_chunk, write_chunk};
+pub use head::Head;

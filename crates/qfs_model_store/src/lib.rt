@@ -1,0 +1,2 @@
+//! When a device stands for a chunk server, as definitions.
+#![tactic(auto)]
