@@ -1,15 +1,13 @@
 -- What stands in the log of the metaserver's disks at the end of a run, and how much a restart reads of them.
-use Rattle.std.specs.Prelude.{◌≡◌, ℕ, ◌+◌, ◌<◌, ◌≤◌, ◌==◌, ◌&&◌, not, Bool, true, false, List, [], ◌∷◌, sum_by, fold, IsTrue}
+use Rattle.std.specs.Prelude.{◌≡◌, ℕ, ◌+◌, ◌<◌, ◌≤◌, Bool, true, false, List, [], ◌∷◌, sum_by, fold, IsTrue}
 use Rattle.std.specs.List.{list_all}
-use Rattle.qfs_base.specs.declared.history.Outcome.TheVariants as Ended
 use Rattle.qfs_base.specs.declared.history.Step.{Step}
 use Rattle.qfs_base.specs.declared.image.MetaImage.{MetaImage}
 use Rattle.qfs_base.specs.declared.script.Script.{Script}
 use Rattle.qfs_device.specs.Fault.{last_count}
-use Rattle.qfs_model_actor.specs.Work.{node_of_request}
 use Rattle.qfs_model_meta.specs.Step.{opening}
-use Rattle.qfs_model_text.specs.Order.{same_outcome}
 use Rattle.qfs_model_world.specs.Events.{Event, events, world_behind}
+use Rattle.qfs_model_world.specs.Headline.{is_sure}
 use Rattle.qfs_model_world.specs.Replayed.{Logged, requests_in, was_logged, has_saved, has_restarted, logged_since_checkpoint}
 
 -- how long the image of a metaserver is on a disk, and the record of a request with its actor
@@ -43,10 +41,6 @@ module _ (image_length : MetaImage → ℕ) (record_length : Logged → ℕ) whe
   unfoldable pub restarts_read : Script → List Event → ℕ
   restarts_read script steps =
       (fold reading_after (record { load = image_length (opening script.servers); total = 0 }) steps).total
-
--- whether every step at the metaserver came out done
-unfoldable pub is_sure : Event → Bool
-is_sure event = not ((node_of_request event.request == 0) && not (same_outcome event.outcome Ended.Done))
 
 -- how many bytes each of the two disks handed out
 pub record BytesRead : Type 0 where

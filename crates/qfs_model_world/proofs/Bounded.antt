@@ -1,11 +1,13 @@
 -- The actors of a script start with a bounded number of steps.
 use Rattle.std.proofs.Common.{ℕ, zero, suc, ◌+◌, ◌<◌, ◌≤◌, ◌^◌, List, [], ◌∷◌, length, arith, All}
-use Rattle.qfs_base.specs.Shape.{Shape, IsRowCount}
+use Rattle.qfs_base.specs.Rules.{rules_of}
+use Rattle.qfs_base.specs.Shape.{IsRowCount}
 use Rattle.qfs_base.specs.Table.{Each}
 use Rattle.qfs_base.specs.declared.command.Command.{Command}
 use Rattle.qfs_base.specs.declared.command.Command.TheVariants as Does
 use Rattle.qfs_base.specs.declared.command.FileCommand.{FileCommand}
 use Rattle.qfs_base.specs.declared.command.FileCommand.TheVariants as File
+use Rattle.qfs_base.specs.declared.rules.Rules.{Rules}
 use Rattle.qfs_base.specs.declared.script.Script.{Script}
 use Rattle.qfs_model_actor.specs.Actor.{Actor}
 use Rattle.qfs_model_actor.specs.Steps.{IsFileInRange, IsInRange, left}
@@ -41,6 +43,7 @@ in_range servers (Does.Stop server) is = tt
 in_range servers (Does.Start server) is = tt
 in_range servers (Does.Wipe server) is = tt
 in_range servers (Does.Hibernate server ticks) is = tt
+in_range servers (Does.Upgrade server) is = tt
 in_range servers Does.Tick is = tt
 in_range servers (Does.Drop actor) is = tt
 in_range servers Does.Checkpoint is = tt
@@ -53,16 +56,16 @@ all_in_range servers commands each k d inside = in_range servers _ (each_all (Is
 abbrev pub IsBounded : Actor → Type 0
 IsBounded actor = left actor < 2 ^ 56
 
-actors_bounded : (layout : Shape) (servers number : ℕ) (actors : List (List Command)) → IsRowCount layout.r
+actors_bounded : (rules : Rules) (servers number : ℕ) (actors : List (List Command)) → IsRowCount rules.layout.r
     → Each (λ commands. length commands ≤ 4096) actors → Each (Each (IsCommand servers)) actors
-    → Each IsBounded (numbered_actors layout number actors)
+    → Each IsBounded (numbered_actors rules number actors)
 unfolding numbered_actors
-actors_bounded layout servers number [] rows short each = tt
-actors_bounded layout servers number (commands ∷ more) rows short each = (
-  left-starting layout number commands rows short.0 (all_in_range servers commands each.0),
-  actors_bounded layout servers (number + 1) more rows short.1 each.1,
+actors_bounded rules servers number [] rows short each = tt
+actors_bounded rules servers number (commands ∷ more) rows short each = (
+  left-starting rules number commands rows short.0 (all_in_range servers commands each.0),
+  actors_bounded rules servers (number + 1) more rows short.1 each.1,
 )
 
 pub start_bounded : (script : Script) → IsScript script → Each IsBounded (start script).actors
 unfolding start
-start_bounded script is = actors_bounded script.layout script.servers 1 (actors_of script) is.rows is.few_commands is.commands
+start_bounded script is = actors_bounded (rules_of script) script.servers 1 (actors_of script) is.rows is.few_commands is.commands

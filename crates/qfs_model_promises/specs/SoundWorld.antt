@@ -1,5 +1,6 @@
 -- The sound world: what is to hold after every run, in nine parts. What the metaserver alone can tell of each part is
--- a fact of its own; here stand what ties it to the chunk servers and to the actors.
+-- a fact of its own; here stands what ties it to the chunk servers and to the actors. Each part speaks of the steps so far
+-- and of the world behind them; the bytes of files may be those of a longer run.
 use Rattle.std.specs.Prelude.{◌≡◌, ℕ, ⊤, ◌<◌, ◌≤◌, ◌⊎◌, ◌==◌, ◌&&◌, Bool, false, List, map, flat_map, length, take, drop, Option, Some, None, IfSome, is_some, IsTrue}
 use Rattle.std.specs.List.{list_any, IsDistinct, enumerate_from}
 use Rattle.qfs_base.specs.Files.{same_pair}
@@ -15,7 +16,6 @@ use Rattle.qfs_base.specs.declared.history.Entry.{Entry}
 use Rattle.qfs_base.specs.declared.history.Entry.TheVariants as Wrote
 use Rattle.qfs_base.specs.declared.history.Step.{Step}
 use Rattle.qfs_base.specs.declared.image.MetaImage.{MetaImage}
-use Rattle.qfs_base.specs.declared.image.SlotRow.{SlotRow}
 use Rattle.qfs_base.specs.declared.image.TreeRow.{TreeRow}
 use Rattle.qfs_base.specs.declared.reply.ChunkAnswer.{ChunkAnswer}
 use Rattle.qfs_base.specs.declared.reply.ChunkAnswer.TheVariants as Did
@@ -34,19 +34,22 @@ use Rattle.qfs_model_actor.specs.Actor.{Actor}
 use Rattle.qfs_model_meta.specs.Asked.{WasGrantedOn}
 use Rattle.qfs_model_meta.specs.Dropped.{dropped_at}
 use Rattle.qfs_model_meta.specs.Grammar.{IsImage}
-use Rattle.qfs_model_meta.specs.Past.{Past, SlotCopy, ListedCopy}
+use Rattle.qfs_model_meta.specs.Leases.{is_live_lease}
+use Rattle.qfs_model_meta.specs.Past.{Past, SlotCopy, ListedCopy, GivenLease}
 use Rattle.qfs_model_meta.specs.Servers.{server_at, is_live}
 use Rattle.qfs_model_meta.specs.Slots.{slot_at, same_block, granted_copy}
-use Rattle.qfs_model_meta.specs.Sound.{GrantedOnce, LivesRise, LeasesHold, IsLetGo, OneServerEach, TreeIsHistory, is_live_lease, same_lease}
+use Rattle.qfs_model_meta.specs.Sound.{GrantedOnce, LivesRise, LeasesHold, IsLetGo, OneServerEach, TreeIsHistory}
 use Rattle.qfs_model_meta.specs.TreeRows.{file_stands, unclosed_file}
+use Rattle.qfs_model_server.specs.Chunk.{Chunk}
 use Rattle.qfs_model_server.specs.Server.{Server}
 use Rattle.qfs_model_world.specs.Audit.{key_at}
 use Rattle.qfs_model_world.specs.Events.{Event, events, past_of}
 use Rattle.qfs_model_world.specs.FileHistory.{IsHistoryOf}
-use Rattle.qfs_model_world.specs.Heard.{Exchange, Holding, Inventoried, exchanges_of, holding_of, inventories_of}
 use Rattle.qfs_model_world.specs.Made.{Creation, creations, creation_of, made, right_bytes}
 use Rattle.qfs_model_world.specs.Puts.{put_path, puts_of}
 use Rattle.qfs_model_world.specs.World.{World, numbered, after}
+use Rattle.qfs_model_promises.specs.Heard.{Exchange, Holding, Inventoried, exchanges_of, holding_of, inventories_of}
+use Rattle.qfs_model_promises.specs.TickedLeases.{was_ended_by_tick}
 
 -- the servers with their numbers, and all that actors were told in their present commands
 abbrev pub numbered_servers : World → List (ℕ × Server)
@@ -82,12 +85,15 @@ abbrev pub ToldLengths : Shape → (ℕ → List ℕ) → NodeReply → Type 0
 ToldLengths layout bytes (From.Meta reply) = TellsLengths layout bytes reply
 ToldLengths layout bytes reply = ⊤
 
+-- a copy on a server has the right bytes
+abbrev pub IsRightChunk : Shape → (ℕ → List ℕ) → ChunkKey × Chunk → Type 0
+IsRightChunk layout bytes copy = copy.1.bytes ≡ right_bytes layout bytes copy.0
+
 -- every copy on a server is right, and so is what actors read of them; they are told the lengths of the files' bytes
 pub record RightCopies (world : World) (bytes : ℕ → List ℕ) : Type 0 where
-  pub stored : Each (λ (server : Server).
-      Each (λ (copy : ChunkKey × List ℕ). copy.1 ≡ right_bytes world.layout bytes copy.0) server.copies) world.servers
-  pub fetched : Each (λ (e : Exchange). FetchedRight world.layout bytes e.1 e.0) (all_exchanges world)
-  pub lengths : Each (λ (e : Exchange). ToldLengths world.layout bytes e.1) (all_exchanges world)
+  pub stored : Each (λ (server : Server). Each (IsRightChunk world.rules.layout bytes) server.copies) world.servers
+  pub fetched : Each (λ (e : Exchange). FetchedRight world.rules.layout bytes e.1 e.0) (all_exchanges world)
+  pub lengths : Each (λ (e : Exchange). ToldLengths world.rules.layout bytes e.1) (all_exchanges world)
 
 -- ---- granted once
 
@@ -96,7 +102,7 @@ pub record RightCopies (world : World) (bytes : ℕ → List ℕ) : Type 0 where
 pub record GrantedOnceIn (world : World) (past : Past) : Type 0 where
   pub granted : GrantedOnce past world.meta
   pub stored : Each (λ (s : ℕ × Server).
-      Each (λ (copy : ChunkKey × List ℕ). WasGrantedOn past s.0 s.1.life copy.0) s.1.copies) (numbered_servers world)
+      Each (λ (copy : ChunkKey × Chunk). WasGrantedOn past s.0 s.1.life copy.0) s.1.copies) (numbered_servers world)
   pub told : Each (λ (i : Inventoried). Each (WasGrantedOn past i.server i.life) i.keys) (all_inventories world)
 
 -- ---- lives
@@ -123,11 +129,6 @@ IsStored world c =
     IfSome (numbered world.servers c.copy.server) (λ (server : Server).
     server.life ≡ c.copy.life → IsTrue (has_key key_cmp server.copies (key_at c.block c.slot c.copy)))
 
--- a slot's current copy, or its pending grant
-abbrev pub IsStoredOf : World → BlockId → ℕ → Option Copy → Type 0
-IsStoredOf world block slot copy =
-    IfSome copy (λ copy. IsStored world (record { block = block; slot = slot; copy = copy }))
-
 -- whether a step stored a copy
 unfoldable pub is_key : ChunkKey → ChunkKey → Bool
 is_key a b = same_block a.block b.block && (a.slot == b.slot) && (a.version == b.version)
@@ -149,12 +150,19 @@ stores_copy c (From.Meta reply) request = false
 unfoldable pub was_stored : List Event → SlotCopy → Bool
 was_stored steps c = list_any (λ (event : Event). stores_copy c event.reply event.request) steps
 
--- a current copy is on its server, and so is that of a pending grant once its Put was answered Stored
+-- a copy of a slot
+abbrev pub copy_of : BlockId → ℕ → Copy → SlotCopy
+copy_of block slot copy = record { block = block; slot = slot; copy = copy }
+
+-- a slot's current copy is on its server, and so is that of its pending grant once its Put was answered Stored
 pub record CopiesStored (world : World) (steps : List Event) : Type 0 where
-  pub current : Each (λ (row : SlotRow). IsStoredOf world row.block row.slot row.state.current) world.meta.slots
-  pub granted : Each (λ (row : SlotRow). IfSome (granted_copy row.state.grant) (λ copy.
-      IsTrue (was_stored steps (record { block = row.block; slot = row.slot; copy = copy }))
-      → IsStored world (record { block = row.block; slot = row.slot; copy = copy }))) world.meta.slots
+  pub current : (block : BlockId) (slot : ℕ) (copy : Copy)
+      → (slot_at world.meta.slots block slot).current ≡ Some copy
+      → IsStored world (copy_of block slot copy)
+  pub granted : (block : BlockId) (slot : ℕ) (copy : Copy)
+      → granted_copy (slot_at world.meta.slots block slot).grant ≡ Some copy
+      → IsTrue (was_stored steps (copy_of block slot copy))
+      → IsStored world (copy_of block slot copy)
 
 -- ---- leases
 
@@ -186,16 +194,24 @@ KeepsGrant m actor g =
     HasGrant m actor g
     ⊎ ((0 < g.lease) × (file_stands g.block.file m.tree ≡ false))
 
+-- a lease was given so, and is live unless a Tick ended it since
+unfoldable pub is_given : GivenLease → GivenLease → Bool
+is_given a b = (a.lease == b.lease) && (a.actor == b.actor) && (a.file == b.file)
+
+pub record KeepsLease (m : MetaImage) (steps : List Event) (lease : GivenLease) : Type 0 where
+  pub given : IsTrue (list_any (is_given lease) (past_of steps).leases)
+  pub live : IsTrue (is_live_lease lease.lease m.leases) ⊎ IsTrue (was_ended_by_tick lease.lease steps)
+
 -- what a command got and hasn't given back is there and its actor's own
-pub record KeepsHolding (m : MetaImage) (actor : ℕ) (holding : Holding) : Type 0 where
+pub record KeepsHolding (m : MetaImage) (steps : List Event) (actor : ℕ) (holding : Holding) : Type 0 where
   pub file : IfSome holding.file (λ file. IsTrue (is_some (unclosed_file actor file m.tree)))
-  pub lease : IfSome holding.lease (λ lease. IsTrue (list_any (same_lease lease) m.leases))
+  pub lease : IfSome holding.lease (KeepsLease m steps)
   pub grants : Each (KeepsGrant m actor) holding.grants
 
-abbrev pub HeldByActors : World → Type 0
-HeldByActors world =
+abbrev pub HeldByActors : World → List Event → Type 0
+HeldByActors world steps =
     Each (λ (actor : Actor). dropped_at actor.number world.meta.dropped ≡ None
-    → KeepsHolding world.meta actor.number (holding_of actor)) world.actors
+    → KeepsHolding world.meta steps actor.number (holding_of actor)) world.actors
 
 -- ---- the tree is the history
 
@@ -224,15 +240,21 @@ pub record TreeTellsHistory (script : Script) (world : World) (steps : List Even
 
 -- ---- all parts
 
--- the world after an order is sound. The first line is the grammar of the metaserver's state, on which the parts rest
-pub record IsSoundWorld (script : Script) (order : List Step) : Type 0 where
-  pub image : IsImage (after script order).meta
-  pub right_copies : RightCopies (after script order) (made script (events script order))
-  pub granted_once : GrantedOnceIn (after script order) (past_of (events script order))
-  pub lives : LivesAgree (after script order) (past_of (events script order))
-  pub copies_stored : CopiesStored (after script order) (events script order)
-  pub leases : LeasesKeep (after script order) (past_of (events script order))
-  pub ordered : Each (IsLetGo (past_of (events script order)) (after script order).meta) (past_of (events script order)).ordered
-  pub one_server : OneServerEach (after script order).meta
-  pub held_by_actors : HeldByActors (after script order)
-  pub tree : TreeTellsHistory script (after script order) (events script order)
+-- the world behind these steps of a script is sound, where files have these bytes. The first line is the grammar of the
+-- metaserver's state, on which the parts rest
+pub record IsSoundAt (script : Script) (bytes : ℕ → List ℕ) (steps : List Event) (world : World) : Type 0 where
+  pub image : IsImage world.meta
+  pub right_copies : RightCopies world bytes
+  pub granted_once : GrantedOnceIn world (past_of steps)
+  pub lives : LivesAgree world (past_of steps)
+  pub copies_stored : CopiesStored world steps
+  pub leases : LeasesKeep world (past_of steps)
+  pub ordered : Each (IsLetGo (past_of steps) world.meta) (past_of steps).ordered
+  pub one_server : OneServerEach world.meta
+  pub held_by_actors : HeldByActors world steps
+  pub tree : TreeTellsHistory script world steps
+
+-- the world after an order is sound, where each file has the bytes that it was made of
+abbrev pub IsSoundWorld : Script → List Step → Type 0
+IsSoundWorld script order =
+    IsSoundAt script (made script (events script order)) (events script order) (after script order)

@@ -1,9 +1,8 @@
 -- What an actor was told in its present command, and what it holds there.
-use Rattle.std.specs.Prelude.{ℕ, zero, suc, ◌==◌, ◌&&◌, Bool, true, false, not, List, [], ◌∷◌, ◌++◌, filter, filter_map, fold, Option, Some, None}
+use Rattle.std.specs.Prelude.{ℕ, ◌==◌, ◌&&◌, Bool, true, false, not, List, [], ◌∷◌, ◌++◌, filter, filter_map, fold, Option, Some, None}
 use Rattle.std.specs.List.{zip}
 use Rattle.qfs_base.specs.declared.chunk.ChunkKey.{ChunkKey}
 use Rattle.qfs_base.specs.declared.command.Command.{Command}
-use Rattle.qfs_base.specs.declared.image.Lease.{Lease}
 use Rattle.qfs_base.specs.declared.reply.ChunkAnswer.{ChunkAnswer}
 use Rattle.qfs_base.specs.declared.reply.ChunkAnswer.TheVariants as Did
 use Rattle.qfs_base.specs.declared.reply.Granted.{Granted}
@@ -18,6 +17,7 @@ use Rattle.qfs_base.specs.declared.request.NodeRequest.TheVariants as To
 use Rattle.qfs_model_actor.specs.Actor.{Actor, command_number, present_command}
 use Rattle.qfs_model_actor.specs.Command.{work_of}
 use Rattle.qfs_model_actor.specs.Work.{asked}
+use Rattle.qfs_model_meta.specs.Past.{GivenLease, is_of_put}
 use Rattle.qfs_model_meta.specs.Slots.{same_block}
 
 -- a request of the present command with its reply
@@ -28,7 +28,7 @@ Exchange = NodeRequest × NodeReply
 unfoldable pub exchanges_in : Actor → Option Command → List Exchange
 exchanges_in actor None = []
 exchanges_in actor (Some command) =
-    zip (asked (work_of actor.layout (command_number actor) command) actor.heard) actor.heard
+    zip (asked (work_of actor.rules (command_number actor) command) actor.heard) actor.heard
 
 unfoldable pub exchanges_of : Actor → List Exchange
 exchanges_of actor = exchanges_in actor (present_command actor)
@@ -36,7 +36,7 @@ exchanges_of actor = exchanges_in actor (present_command actor)
 -- what a command holds: the file that it writes, the lease that it has, and its pending grants
 pub record Holding : Type 0 where
   pub file : Option ℕ
-  pub lease : Option Lease
+  pub lease : Option GivenLease
   pub grants : List Granted
 
 abbrev pub holds_nothing : Holding
@@ -51,25 +51,31 @@ unfoldable pub with_grant_held : Granted → Holding → Holding
 with_grant_held g holding =
     record holding { grants = filter (λ (other : Granted). not (is_grant_of g other)) holding.grants ++ g ∷ [] }
 
--- the lease of a grant, where it has one: lease 0 is none
-unfoldable pub with_lease_held : ℕ → ℕ → Holding → ℕ → Holding
-with_lease_held actor file holding zero = holding
-with_lease_held actor file holding (suc n) =
-    record holding { lease = Some (record { lease = suc n; actor = actor; file = file }) }
+-- a lease takes the place of the one before
+abbrev pub with_lease : ℕ → ℕ → ℕ → Holding → Holding
+with_lease lease actor file holding =
+    record holding { lease = Some (record { lease = lease; actor = actor; file = file }) }
+
+-- the lease of a grant, unless it is one of a put, which has none
+unfoldable pub with_lease_of : ℕ → Granted → Holding → Bool → Holding
+with_lease_of actor g holding true = holding
+with_lease_of actor g holding false = with_lease g.lease actor g.block.file holding
 
 -- what is held after a reply of the metaserver that gives something
 unfoldable pub taken_up : ℕ → Holding → MetaReply → Holding
 taken_up actor holding (Told.Created file place) = record holding { file = Some file }
-taken_up actor holding (Told.Granted g) =
-    with_lease_held actor g.block.file (with_grant_held g holding) g.lease
-taken_up actor holding (Told.Opened o) =
-    record holding { lease = Some (record { lease = o.lease; actor = actor; file = o.file }) }
+taken_up actor holding (Told.Granted g) = with_lease_of actor g (with_grant_held g holding) (is_of_put g)
+taken_up actor holding (Told.Opened o) = with_lease o.lease actor o.file holding
 taken_up actor holding reply = holding
 
--- whether a reply says that it is done, or that a grant was settled
+-- whether a reply says that it is done, that a lease is no more, or that a grant was settled
 unfoldable pub says_done : MetaReply → Bool
 says_done (Told.Done place) = true
 says_done reply = false
+
+unfoldable pub says_released : MetaReply → Bool
+says_released Told.Gone = true
+says_released reply = says_done reply
 
 unfoldable pub says_settled : MetaReply → Bool
 says_settled Told.Confirmed = true
@@ -80,7 +86,7 @@ says_settled reply = false
 unfoldable pub gives_back : MetaReply → MetaRequest → Bool
 gives_back reply (Ask.Close file) = says_done reply
 gives_back reply (Ask.Abort file) = says_done reply
-gives_back reply (Ask.Release lease) = says_done reply
+gives_back reply (Ask.Release lease) = says_released reply
 gives_back reply (Ask.Confirm block slot version lease) = says_settled reply
 gives_back reply (Ask.Abandon block slot version lease) = says_done reply
 gives_back reply request = false
