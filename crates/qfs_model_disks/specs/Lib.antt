@@ -1,0 +1,6 @@
+pub mod Examples
+pub mod Image
+pub mod LogRecord
+pub mod Spelled
+pub mod Tests
+pub mod Values
