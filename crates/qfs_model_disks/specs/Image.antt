@@ -1,6 +1,5 @@
 -- The image of a metaserver's state, as a checkpoint holds it: its counters and its eight lists, in this order.
-use Rattle.std.specs.Prelude.{ℕ, ⊤, ◌&&◌, ◌<◌, ◌^◌, zero, suc, Bool, List, [], ◌∷◌, length, slice_get, Option, Some, None, if◌then◌else◌}
-use Rattle.std.specs.List.{AllByRecursion}
+use Rattle.std.specs.Prelude.{ℕ, zero, suc, List, [], ◌∷◌, slice_get, Option, Some, None}
 use Rattle.std.specs.Option.{option_map}
 use Rattle.std.specs.Int.{w16, w32, w64}
 use Rattle.qfs_base.specs.declared.history.Entry.{Entry}
@@ -15,7 +14,7 @@ use Rattle.qfs_base.specs.declared.image.SlotRow.{SlotRow}
 use Rattle.qfs_base.specs.declared.image.TreeRow.{TreeRow}
 use Rattle.qfs_base.specs.declared.reply.Condemned.{Condemned}
 use Rattle.qfs_model_disks.specs.Tests.{is_image}
-use Rattle.qfs_model_disks.specs.Values.{copy, from_one, path, slot_id}
+use Rattle.qfs_model_disks.specs.Values.{copy, from_one, path}
 use Rattle.qfs_record.specs.ChunkRecord.{block, slot}
 use Rattle.qfs_record.specs.Part.{Part, flag, listed, number, optional, pair, shaped, such}
 
@@ -161,9 +160,10 @@ state =
       dropped = v.1.1.1.1.1.1.0;
       history = v.1.1.1.1.1.1.1;
     })
-    (λ (m : MetaImage).
-    ((m.turn, (m.clock, (m.next_file, (m.next_lease, m.next_condemned)))),
-    (m.servers, (m.tree, (m.slots, (m.leases, (m.condemned, (m.dropped, m.history))))))))
+    (λ (m : MetaImage). (
+      (m.turn, (m.clock, (m.next_file, (m.next_lease, m.next_condemned)))),
+      (m.servers, (m.tree, (m.slots, (m.leases, (m.condemned, (m.dropped, m.history)))))),
+    ))
     (pair counters
     (pair (listed server_view)
     (pair (listed tree_row)

@@ -4,3 +4,4 @@ pub mod LogRecord
 pub mod Spelled
 pub mod Tests
 pub mod Values
+pub mod Whole

@@ -1,7 +1,9 @@
 -- The record of a request in the log: its length, who asked, which request it was, and the request's fields in order.
-use Rattle.std.specs.Prelude.{ℕ, ⊤, ⊥, ◌<◌, ◌≤◌, ◌-◌, ◌^◌, zero, suc, List, [], ◌∷◌, ◌++◌, length, slice_get, Option, Some, None, Unit}
+use Rattle.std.specs.Prelude.{ℕ, ⊤, ◌<◌, ◌^◌, zero, suc, Bool, List, [], ◌∷◌, length, slice_get, Option, Some, None}
 use Rattle.std.specs.Option.{option_and_then, option_map}
-use Rattle.std.specs.Int.{w16, w32, w64, w8, to_be_bytes}
+use Rattle.std.specs.Int.{w16, w32, w64}
+use Rattle.qfs_base.specs.declared.chunk.BlockId.{BlockId}
+use Rattle.qfs_base.specs.declared.chunk.ChunkKey.{ChunkKey}
 use Rattle.qfs_base.specs.declared.request.MetaRequest.{MetaRequest}
 use Rattle.qfs_base.specs.declared.request.MetaRequest.TheVariants as Ask
 use Rattle.qfs_model_disks.specs.Values.{file_length, from_one, path, slot_id}
@@ -19,22 +21,22 @@ abbrev pub creating : Part (List (List ℕ) × (ℕ × ℕ))
 creating = pair path (pair (number w16) file_length)
 
 -- file, index, slot and whether it is asked again
-abbrev pub granting : Part _
+abbrev pub granting : Part (BlockId × (ℕ × Bool))
 granting = pair block (pair slot flag)
 
 -- path, index and slot of a recovery; of a move the server too
-abbrev pub recovering : Part _
+abbrev pub recovering : Part (List (List ℕ) × (ℕ × ℕ))
 recovering = pair path (pair (number w32) slot)
 
-abbrev pub moving : Part _
+abbrev pub moving : Part (List (List ℕ) × (ℕ × (ℕ × ℕ)))
 moving = pair path (pair (number w32) (pair slot from_one))
 
 -- block, slot, version and lease of what ends a recovery or move
-abbrev pub settling : Part _
+abbrev pub settling : Part (BlockId × (ℕ × (ℕ × ℕ)))
 settling = pair block (pair slot (pair (number w32) (number w64)))
 
 -- a server, its life and its keys
-abbrev pub greeting : Part _
+abbrev pub greeting : Part (ℕ × (ℕ × List ChunkKey))
 greeting = pair from_one (pair (number w32) (listed chunk_key))
 
 -- ---- writing

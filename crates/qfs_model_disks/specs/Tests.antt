@@ -1,12 +1,10 @@
 -- The rules of an image as tests that compute.
-use Rattle.std.specs.Prelude.{ℕ, ◌≤◌, ◌&&◌, ◌==◌, not, nat_le, nat_lt, nat_eq, Bool, true, false, List, [], ◌∷◌, length, map, filter, Option, Some, None, is_some, is_none}
+use Rattle.std.specs.Prelude.{ℕ, ◌&&◌, ◌==◌, not, nat_le, nat_lt, nat_eq, Bool, true, false, List, [], ◌∷◌, length, Option, Some, None, is_some}
 use Rattle.std.specs.List.{list_all, list_any}
-use Rattle.std.specs.Option.{option_map_or}
 use Rattle.std.specs.Ordering.{is_lt, nat_cmp}
-use Rattle.std.specs.Cmp.Lexicographic.{pointwise}
 use Rattle.std.specs.declared.cmp.Ordering.{Ordering}
 use Rattle.qfs_base.specs.NameTree.{Standing, kind_at, parents_of, row_cmp}
-use Rattle.qfs_base.specs.Sizes.{LAST_U16, LAST_U32, MOST_FILE_BYTES, MOST_SERVERS, SLOTS}
+use Rattle.qfs_base.specs.Sizes.{MOST_FILE_BYTES, MOST_SERVERS, SLOTS}
 use Rattle.qfs_base.specs.declared.chunk.Copy.{Copy}
 use Rattle.qfs_base.specs.declared.history.Entry.{Entry}
 use Rattle.qfs_base.specs.declared.history.Entry.TheVariants as Wrote

@@ -1,18 +1,16 @@
 -- The small values that log records and images are made of.
-use Rattle.std.specs.Prelude.{ℕ, ◌≤◌, ◌×◌, ◌&&◌, ◌==◌, not, nat_le, nat_lt, Bool, true, false, if◌then◌else◌, List, [], ◌∷◌, ◌++◌, length, codes, Option, Some, None}
+use Rattle.std.specs.Prelude.{ℕ, ◌&&◌, ◌==◌, not, nat_le, Bool, if◌then◌else◌, List, [], ◌∷◌, length, codes, Option, Some, None}
 use Rattle.std.specs.List.{list_all}
 use Rattle.std.specs.Option.{option_and_then, option_map}
-use Rattle.std.specs.Int.{w8, w16, w32, w64}
+use Rattle.std.specs.Int.{w16, w32}
 use Rattle.std.specs.Str.{bytes_eq}
 use Rattle.qfs_base.specs.NameTree.{PathNames}
 use Rattle.qfs_base.specs.Path.{IsPath, path_text, slash, split_names}
-use Rattle.qfs_base.specs.Sizes.{MOST_FILE_BYTES, SLOTS}
-use Rattle.qfs_base.specs.declared.chunk.BlockId.{BlockId}
-use Rattle.qfs_base.specs.declared.chunk.ChunkKey.{ChunkKey}
+use Rattle.qfs_base.specs.Sizes.{MOST_FILE_BYTES}
 use Rattle.qfs_base.specs.declared.chunk.Copy.{Copy}
 use Rattle.qfs_base.specs.declared.request.SlotId.{SlotId}
-use Rattle.qfs_record.specs.ChunkRecord.{block, chunk_key, slot}
-use Rattle.qfs_record.specs.Part.{Part, counted, flag, listed, number, optional, pair, shaped, such}
+use Rattle.qfs_record.specs.ChunkRecord.{block, slot}
+use Rattle.qfs_record.specs.Part.{Part, counted, number, pair, shaped, such}
 
 -- ---- numbers
 
