@@ -7,7 +7,7 @@ ghost use Rattle.qfs_model_actor.specs.Shown.{excerpt_of, shown_if_few, most_sho
 use qfs_base::command::{Excerpt, Shown};
 use qfs_base::listing::Listing;
 use qfs_base::lists::Bytes;
-use qfs_machine::Told;
+use qfs_machine::Ghost;
 use sha2::{Digest, Sha256};
 use std::alloc::{AllocError, Global};
 use std::marker::Model;
@@ -18,33 +18,33 @@ const MOST_SHOWN: usize = 32;
 /// The bytes that a get has read so far. Contracts see all of them. What is kept is how many they
 /// are, the bytes themselves as long as they are at most 32, and a hasher that has taken them.
 #[derive(Drop)]
-pub struct Got {
+pub struct ReadSoFar {
     len: u32,
     first: [u8; 32],
     hasher: Sha256,
-    read: Told<Bytes>,
+    read: Ghost<Bytes>,
 }
 
-impl Model for Got {
+impl Model for ReadSoFar {
     ghost use Rattle.std.specs.Prelude.{List, ℕ};
 
     ghost Value = { List ℕ };
 
-    ghost use Rattle.qfs_reader.specs.Got.{IsGot};
+    ghost use Rattle.qfs_reader.specs.ReadSoFar.{IsReadSoFar};
 
     ghost view = { λ got. got.read.value };
 
-    ghost invariant = { λ got. IsGot got.len got.first got.hasher got.read.value };
+    ghost invariant = { λ got. IsReadSoFar got.len got.first got.hasher got.read.value };
 }
 
-impl Got {
+impl ReadSoFar {
     /// No bytes yet. Takes no memory.
-    pub fn nothing() -> Got
+    pub fn nothing() -> ReadSoFar
         ensures { result ≡ [] }
     {
         let hasher = Sha256::new();
-        let read = Told::of(&(), &());
-        Got {
+        let read = Ghost::of(&(), &());
+        ReadSoFar {
             len: 0,
             first: [0; 32],
             hasher,
@@ -64,7 +64,7 @@ impl Got {
         }
         self.hasher.update(bytes);
         self.len = end as u32;
-        self.read = Told::of(&self.read, &bytes);
+        self.read = Ghost::of(&self.read, &bytes);
     }
 
     /// What is shown of the bytes: all of them or, of more than 32, their SHA-256.
