@@ -1,0 +1,11 @@
+pub mod Lines
+pub mod Read
+pub mod Kinds
+pub mod CommandWord
+pub mod FirstWord
+pub mod FirstWords
+pub mod Place
+pub mod Counts
+pub mod CommandLines
+pub mod SoFar
+pub mod ReadScript
