@@ -9,3 +9,8 @@ pub mod Counts
 pub mod CommandLines
 pub mod SoFar
 pub mod ReadScript
+pub mod Examples
+pub mod BadWords
+pub mod BadCounts
+pub mod BadNumbers
+pub mod BadOthers
