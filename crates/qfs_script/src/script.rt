@@ -29,6 +29,7 @@ fn one_actor(
     Ok(Script {
         layout,
         servers,
+        term: 0,
         audit: false,
         phases,
         order: None,
