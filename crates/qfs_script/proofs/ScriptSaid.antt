@@ -1,6 +1,6 @@
 -- What the lines of the first forms say keeps all ranges and limits of scripts.
 use Rattle.std.proofs.Common.{◌≡◌, ◌≢◌, ℕ, zero, suc, ◌+◌, ◌*◌, ◌-◌, ◌%◌, ◌<◌, ◌≤◌, Bool, true, false, not, cond, List, [], ◌∷◌, length, get_or, refl, sym, ap, subst, arith, Option, Some, None, Result, Ok, Err, inl, inr, All}
-use Rattle.std.specs.Prelude.{◌&&◌, ◌==◌, nat_le, nat_lt, codes, decimal, ◌⊎◌, flat_map, filter_map, min, sum_by, IfSome}
+use Rattle.std.specs.Prelude.{◌&&◌, ◌==◌, nat_le, nat_lt, codes, decimal, ◌⊎◌, flat_map, min}
 use Rattle.std.specs.Int.{div_ceil}
 use Rattle.std.specs.List.{list_all, range_with_len}
 use Rattle.std.specs.Str.Parse.{digits_value}
@@ -24,7 +24,7 @@ use Rattle.qfs_base.specs.Table.{Each}
 use Rattle.qfs_base.specs.declared.command.Command.{Command}
 use Rattle.qfs_base.specs.declared.script.Script.{Script}
 use Rattle.qfs_model_script.specs.InScript.{IsByte, IsCommand, IsScript, len_put, lens_put, actors_of, blocks_in, chunk_bytes_of_block, chunk_bytes_in}
-use Rattle.qfs_model_script.proofs.SmallPuts.{each_all, each_then, each_append, IsSmall, lens_small, length-lens}
+use Rattle.qfs_model_script.proofs.SmallPuts.{each_all, each_then, IsSmall, lens_small, length-lens}
 use Rattle.qfs_script.proofs.HexBytes.{pairs_said}
 use Rattle.qfs_script.specs.Commands.{is_name_byte, is_name, one_name_path, few_bytes, hex_bytes, put_of, get_of, put_words, get_words, command_words, command_form}
 use Rattle.qfs_script.specs.Head.{fixed_form, is_shape, shape_of, shape_in, layout_words, layout_form, enough_servers, servers_words, servers_form}

@@ -70,8 +70,6 @@ pub fn read(alloc: Global, bytes: &[u8]) -> Result<Script, ScriptError>
     ensures bad { IfErr result (TellsBadLine (read_lines (text_lines bytes.now))) }
     ensures script { IfOk result IsScript }
 {
-    match read_forms(alloc, bytes) {
-        Ok(script) => Ok(script),
-        Err(error) => Err(error),
-    }
+    let script = read_forms(alloc, bytes)?;
+    Ok(script)
 }
