@@ -11,3 +11,6 @@ pub mod Meanings
 pub mod Leases
 pub mod Attempts
 pub mod Upgrades
+pub mod DrawnFiles
+pub mod DrawnServers
+pub mod DrawnRules

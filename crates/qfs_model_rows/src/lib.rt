@@ -5,6 +5,9 @@
 
 mod attempts;
 mod audits;
+mod drawn_files;
+mod drawn_rules;
+mod drawn_servers;
 mod failures;
 mod given_orders;
 mod leases;
