@@ -3,9 +3,9 @@ use Rattle.std.specs.Prelude.{ℕ, ◌≡◌, ◌+◌, ◌<◌, ◌≤◌, min, 
 use Rattle.std.specs.Option.{option_map}
 use Rattle.qfs_base.specs.Key.{key_cmp}
 use Rattle.qfs_base.specs.KeyMap.{value_at, has_key, with_entry, without_key}
+use Rattle.qfs_base.specs.Sizes.{LAST_U64}
 use Rattle.qfs_base.specs.declared.chunk.ChunkKey.{ChunkKey}
 use Rattle.qfs_model_server.specs.Server.{next_life}
-use Rattle.qfs_device.specs.Fault.{last_count}
 use Rattle.qfs_device.specs.declared.chunk_device.KeySize.{KeySize}
 use Rattle.qfs_device.specs.declared.errors.DeviceError.{DeviceError}
 use Rattle.qfs_device.specs.declared.errors.DeviceError.TheVariants.{Failed, NoMemory}
@@ -51,7 +51,7 @@ lacking key held = record held { contents = without_key key_cmp held.contents ke
 
 -- so many more bytes handed out; a count in 64 bits stays at its last value
 abbrev pub handing : ℕ → Held → Held
-handing count held = record held { handed_out = min (held.handed_out + count) last_count }
+handing count held = record held { handed_out = min (held.handed_out + count) LAST_U64 }
 
 -- no chunks, in the next life
 abbrev pub emptied : Held → Held

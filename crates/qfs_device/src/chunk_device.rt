@@ -1,9 +1,9 @@
 //! The devices that keep the chunks of a server.
-ghost use Rattle.std.specs.Prelude.{◌≡◌, ℕ, ◌≤◌, Option, length, take, drop, map, IfSome, IfOk};
+ghost use Rattle.std.specs.Prelude.{◌≡◌, ℕ, Option, length, take, drop, map, IfSome, IfOk};
 ghost use Rattle.std.specs.Option.{ForSome};
 ghost use Rattle.std.specs.List.Sorted.{IsStrictlySortedBy};
 ghost use Rattle.qfs_base.specs.Key.{key_cmp};
-ghost use Rattle.qfs_device.specs.Fault.{HasCause, TakesNoMemory, OnNoMemory};
+ghost use Rattle.qfs_device.specs.Fault.{Counts, TakesNoMemory};
 ghost use Rattle.qfs_device.specs.Held.{Held, LiesIn, Writes, Does, bytes_at, handing, lacking, emptied, sizes_of};
 
 use crate::errors::DeviceError;
@@ -24,8 +24,8 @@ pub type KeySizes = Listing<KeySize>;
 /// Keeps the chunks of one server: for each key its bytes, and the server's life.
 ///
 /// A device may tell clauses what it holds. Whether it does stays the same through every call.
-/// It counts its faults: a call answers `Failed` only where the count rose in it. Of a count
-/// that is kept in 64 bits, "rose" also means that it stands at its last value.
+/// It counts its faults: a call that answers `Failed` raises the count by one, or leaves it at the
+/// last value of 64 bits, and every other call leaves it as it was. So it retries nothing unsaid.
 pub trait ChunkDevice: Drop + Send + Sync {
     /// What the device holds, if it tells that.
     ghost told: { Self → Option Held };
@@ -37,9 +37,7 @@ pub trait ChunkDevice: Drop + Send + Sync {
     /// prefix of the bytes; one that finds no memory changes nothing. Other keys stay.
     fn write(&mut self, key: ChunkKey, bytes: &[u8]) -> Result<(), DeviceError>
         ensures written { Writes key bytes.now (told self.old) (told self.new) result }
-        ensures never_falls { faults self.old ≤ faults self.new }
-        ensures cause { HasCause (faults self.old) (faults self.new) result }
-        ensures no_memory { OnNoMemory result (faults self.new ≡ faults self.old) };
+        ensures counts { Counts (faults self.old) (faults self.new) result };
 
     /// Fills `out` from offset `at` of the key's bytes, and hands that many bytes out. After a
     /// failure `out` holds any bytes, and nothing else changed.
@@ -47,15 +45,13 @@ pub trait ChunkDevice: Drop + Send + Sync {
         requires { ForSome (told self.old) (λ held. LiesIn held key at (length out.old)) }
         ensures handed { Does (handing (length out.old)) (told self.old) (told self.new) result }
         ensures bytes { IfOk result (λ _. IfSome (told self.old) (λ held. out.new ≡ take (length out.old) (drop at (bytes_at held key)))) }
-        ensures never_falls { faults self.old ≤ faults self.new }
-        ensures cause { HasCause (faults self.old) (faults self.new) result }
+        ensures counts { Counts (faults self.old) (faults self.new) result }
         ensures no_memory { TakesNoMemory result };
 
     /// Takes a key away, or does nothing where it isn't there. After a failure nothing changed.
     fn remove(&mut self, key: ChunkKey) -> Result<(), DeviceError>
         ensures removed { Does (lacking key) (told self.old) (told self.new) result }
-        ensures never_falls { faults self.old ≤ faults self.new }
-        ensures cause { HasCause (faults self.old) (faults self.new) result }
+        ensures counts { Counts (faults self.old) (faults self.new) result }
         ensures no_memory { TakesNoMemory result };
 
     /// Lists each key with the length of its bytes, rising by key. It changes nothing but the
@@ -64,16 +60,13 @@ pub trait ChunkDevice: Drop + Send + Sync {
         ensures same { told self.new ≡ told self.old }
         ensures sizes { IfOk result (λ sizes. IfSome (told self.old) (λ held. sizes ≡ sizes_of held.contents)) }
         ensures rising { IfOk result (λ sizes. IfSome (told self.old) (λ _. IsStrictlySortedBy key_cmp (map (λ chunk. chunk.key) sizes))) }
-        ensures never_falls { faults self.old ≤ faults self.new }
-        ensures cause { HasCause (faults self.old) (faults self.new) result }
-        ensures no_memory { OnNoMemory result (faults self.new ≡ faults self.old) };
+        ensures counts { Counts (faults self.old) (faults self.new) result };
 
     /// Takes every key away and begins the next life; the last value of a life stays. After a
     /// failure nothing changed.
     fn wipe(&mut self) -> Result<(), DeviceError>
         ensures emptied { Does emptied (told self.old) (told self.new) result }
-        ensures never_falls { faults self.old ≤ faults self.new }
-        ensures cause { HasCause (faults self.old) (faults self.new) result }
+        ensures counts { Counts (faults self.old) (faults self.new) result }
         ensures no_memory { TakesNoMemory result };
 
     /// How often the server was emptied, plus one.

@@ -1,7 +1,8 @@
 //! Which calls of a thing in memory fail.
-ghost use Rattle.std.specs.Prelude.{◌≡◌, ℕ, ◌↔◌, ◌≤◌, ◌+◌, min, IsTrue, Some, slice_get};
+ghost use Rattle.std.specs.Prelude.{◌≡◌, ℕ, ◌↔◌, ◌+◌, min, IsTrue, Some, slice_get};
 ghost use Rattle.std.specs.Bool.{OnTrue, OnFalse};
-ghost use Rattle.qfs_device.specs.Fault.{Rose, last_count};
+ghost use Rattle.qfs_base.specs.Sizes.{LAST_U64};
+ghost use Rattle.qfs_device.specs.Fault.{RoseOnce};
 
 /// Says of each call, in turn, whether it fails, and counts those that did.
 pub trait Faults: Drop + Send + Sync {
@@ -10,8 +11,7 @@ pub trait Faults: Drop + Send + Sync {
 
     /// Whether the next call fails.
     fn next_fails(&mut self) -> bool
-        ensures never_falls { count self.old ≤ count self.new }
-        ensures cause { OnTrue result (Rose (count self.old) (count self.new)) }
+        ensures fault { OnTrue result (RoseOnce (count self.old) (count self.new)) }
         ensures no_fault { OnFalse result (count self.new ≡ count self.old) };
 }
 
@@ -58,12 +58,11 @@ impl Faults for FailList {
     ghost count = { λ list. list.faults };
 
     fn next_fails(&mut self) -> bool
-        ensures never_falls { self.old.faults ≤ self.new.faults }
-        ensures cause { OnTrue result (Rose self.old.faults self.new.faults) }
+        ensures fault { OnTrue result (RoseOnce self.old.faults self.new.faults) }
         ensures no_fault { OnFalse result (self.new.faults ≡ self.old.faults) }
 
         // A call fails exactly where its number is the next on the list.
-        ensures call { self.new.calls ≡ min (self.old.calls + 1) last_count }
+        ensures call { self.new.calls ≡ min (self.old.calls + 1) LAST_U64 }
         ensures listed { IsTrue result ↔ (slice_get self.old.fails.items self.old.passed ≡ Some self.new.calls) }
     {
         self.calls = self.calls.saturating_add(1);

@@ -1,5 +1,5 @@
 -- An answer of a node ends a command, or the command goes on with it.
-use Rattle.std.proofs.Common.{◌≡◌, refl}
+use Rattle.std.proofs.Common.{◌≡◌, ◌∙◌, refl, ap, Some, None}
 use Rattle.qfs_base.specs.declared.reply.ChunkAnswer.{ChunkAnswer}
 use Rattle.qfs_base.specs.declared.reply.ChunkAnswer.TheVariants as Did
 use Rattle.qfs_base.specs.declared.reply.MetaReply.{MetaReply}
@@ -32,3 +32,27 @@ unfolding ended report_of
 ended-ends (By.Dropped turn) = refl
 ended-ends By.Unnamed = refl
 ended-ends ending = refl
+
+-- what becomes of an answer that ends a command with nothing to give back, and of one that ends none
+pub on_answer-some : (next : MetaReply → Work) (answer : MetaReply) (ending : Ending) → ending_of_meta answer ≡ Some ending
+    → on_answer ends next answer ≡ ends (report_of ending)
+unfolding ended_or
+on_answer-some next answer ending is =
+    on_answer-ends ends next answer ∙ ap (ended_or ends (next answer)) is ∙ ended-ends ending
+
+pub on_answer-none : (give_up : Report → Work) (next : MetaReply → Work) (answer : MetaReply) → ending_of_meta answer ≡ None
+    → on_answer give_up next answer ≡ next answer
+unfolding ended_or
+on_answer-none give_up next answer is = on_answer-ends give_up next answer ∙ ap (ended_or give_up (next answer)) is
+
+-- a chunk server's answer ends a command for want of memory alone
+pub on_served-some : (hold : Hold) (next : ChunkAnswer → Work) (answer : ChunkAnswer) (ending : Ending) → ending_of_chunk answer ≡ Some ending
+    → on_served hold next answer ≡ end_with hold (report_of ending)
+unfolding on_served ending_of_chunk report_of
+on_served-some hold next Did.NoMemory ending is = let same : By.NoMemory ≡ ending = cc in ap (λ e. end_with hold (report_of e)) same
+on_served-some hold next answer ending is = absurd (cc)
+
+pub on_served-none : (hold : Hold) (next : ChunkAnswer → Work) (answer : ChunkAnswer) → ending_of_chunk answer ≡ None
+    → on_served hold next answer ≡ next answer
+unfolding ended_or
+on_served-none hold next answer is = on_served-ends hold next answer ∙ ap (ended_or (end_with hold) (next answer)) is

@@ -7,6 +7,7 @@ use Rattle.qfs_base.specs.declared.change.Change.TheVariants.{AddFile, GrantSlot
 use Rattle.qfs_base.specs.declared.chunk.BlockId.{BlockId}
 use Rattle.qfs_base.specs.declared.image.Grant.{Grant}
 use Rattle.qfs_base.specs.declared.image.MetaImage.{MetaImage}
+use Rattle.qfs_base.specs.declared.image.ServerView.{ServerView}
 use Rattle.qfs_base.specs.declared.image.SlotRecord.{SlotRecord}
 use Rattle.qfs_base.specs.declared.image.SlotRow.{SlotRow}
 use Rattle.qfs_base.specs.declared.image.TreeRow.{TreeRow}
@@ -47,11 +48,11 @@ failed_with failed (Some grant) = with_member failed grant.copy.server
 
 -- the server that a put of a slot is granted: a grant of it that is pending counts as failed, and no
 -- more as one of the block's
-unfoldable pub chosen_for_put : BlockId → ℕ → MetaImage → SlotRecord → Option ℕ
-chosen_for_put block slot m state =
-    let others : List SlotRow = without_grant block slot m.slots state.grant in
-    choose (census m.servers others)
-    (barred_for_put m.servers others block (failed_with state.failed state.grant))
+unfoldable pub chosen_for_put : BlockId → ℕ → List ServerView → List SlotRow → SlotRecord → Option ℕ
+chosen_for_put block slot servers slots state =
+    let others : List SlotRow = without_grant block slot slots state.grant in
+    choose (census servers others)
+    (barred_for_put servers others block (failed_with state.failed state.grant))
 
 -- what a put is told of its grant
 unfoldable pub put_granted : Shape → ℕ → BlockId → ℕ → MetaImage → ℕ → MetaReply
@@ -70,7 +71,7 @@ grant_in layout actor block slot again m state row =
     unless (nat_lt block.index (block_count layout row.len)) Told.NoBlock
     (refuse (taken_refusal again state.grant)
     (need (Told.NoServer block slot) (grant_for_put layout actor row.len block slot m state.grant)
-    (chosen_for_put block slot m state)))
+    (chosen_for_put block slot m.servers m.slots state)))
 
 -- a server for a slot of a file that the actor hasn't closed yet
 unfoldable pub decide_grant : Shape → ℕ → BlockId → ℕ → Bool → MetaImage → Decision

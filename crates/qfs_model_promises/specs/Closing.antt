@@ -1,6 +1,6 @@
 -- How a command closes: a request behind its failure gives back what it holds. Where that request finds no memory, no log or
 -- a dropped actor, its answer is the reply of the command.
-use Rattle.std.specs.Prelude.{◌≡◌, ℕ, ◌-◌, Bool, true, false, List, length, slice_get, Some}
+use Rattle.std.specs.Prelude.{◌≡◌, ◌-◌, Bool, true, false, List, length, slice_get, Some}
 use Rattle.qfs_base.specs.declared.reply.MetaReply.{MetaReply}
 use Rattle.qfs_base.specs.declared.reply.MetaReply.TheVariants as Told
 use Rattle.qfs_base.specs.declared.reply.NodeReply.{NodeReply}

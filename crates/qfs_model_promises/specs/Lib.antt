@@ -1,3 +1,4 @@
+pub mod Requests
 pub mod Heard
 pub mod HeardSteps
 pub mod TickedLeases

@@ -10,8 +10,6 @@ use Rattle.qfs_base.specs.declared.reply.MetaReply.{MetaReply}
 use Rattle.qfs_base.specs.declared.reply.MetaReply.TheVariants as Told
 use Rattle.qfs_base.specs.declared.reply.NodeReply.{NodeReply}
 use Rattle.qfs_base.specs.declared.reply.NodeReply.TheVariants as From
-use Rattle.qfs_base.specs.declared.request.ChunkRequest.{ChunkRequest}
-use Rattle.qfs_base.specs.declared.request.ChunkRequest.TheVariants as Serve
 use Rattle.qfs_base.specs.declared.request.MetaRequest.TheVariants as Ask
 use Rattle.qfs_base.specs.declared.request.NodeRequest.{NodeRequest}
 use Rattle.qfs_base.specs.declared.request.NodeRequest.TheVariants as To
@@ -25,24 +23,12 @@ use Rattle.qfs_model_world.specs.Openings.{is_release}
 use Rattle.qfs_model_world.specs.Reports.{EachReport}
 use Rattle.qfs_model_world.specs.World.{numbered, after}
 use Rattle.qfs_model_promises.specs.Heard.{holding_of}
+use Rattle.qfs_model_promises.specs.Requests.{is_fetch, is_grant, asks_meta, asks_chunk}
 use Rattle.qfs_model_promises.specs.TickedLeases.{was_ended_by_tick}
 
 -- whether the actor of a step had been dropped before it
 unfoldable pub was_dropped : Event → Bool
 was_dropped event = is_some (dropped_at event.actor event.before.meta.dropped)
-
--- whether a request is a Fetch, and whether it asks for the grant of a slot that is written
-unfoldable pub is_fetch : ChunkRequest → Bool
-is_fetch (Serve.Fetch key life from room) = true
-is_fetch request = false
-
-unfoldable pub asks_fetch : NodeRequest → Bool
-asks_fetch (To.Chunk server request) = is_fetch request
-asks_fetch (To.Meta request) = false
-
-unfoldable pub asks_grant : NodeRequest → Bool
-asks_grant (To.Meta (Ask.Grant file index slot again)) = true
-asks_grant request = false
 
 -- the lease that the actor of a step holds before it, in its present command
 unfoldable pub lease_held : Event → Option GivenLease
@@ -60,7 +46,7 @@ pub record LostItsLease (script : Script) (before : List Event) (event : Event) 
 abbrev pub NeverAnswered : Script → List Event → Event → ChunkAnswer → Type 0
 NeverAnswered script before event Did.Held = ⊥
 NeverAnswered script before event Did.Absent =
-    asks_fetch event.request ≡ true → was_dropped event ≡ false → LostItsLease script before event
+    asks_chunk is_fetch event.request ≡ true → was_dropped event ≡ false → LostItsLease script before event
 NeverAnswered script before event answer = ⊤
 
 -- what a command got is its own until it gives it back, or its lease has run out; and what it writes has no other grants. A
@@ -69,8 +55,8 @@ abbrev pub NeverTold : Script → List Event → Event → MetaReply → Type 0
 NeverTold script before event (Told.Stale held given) = ⊥
 NeverTold script before event (Told.Incomplete index slot) = ⊥
 NeverTold script before event Told.Gone = (is_release event.request ≡ true) × LostItsLease script before event
-NeverTold script before event Told.NoBlock = asks_grant event.request ≡ false
-NeverTold script before event (Told.Taken version) = asks_grant event.request ≡ false
+NeverTold script before event Told.NoBlock = asks_meta is_grant event.request ≡ false
+NeverTold script before event (Told.Taken version) = asks_meta is_grant event.request ≡ false
 NeverTold script before event reply = ⊤
 
 abbrev pub NeverReplied : Script → List Event → Event → NodeReply → Type 0

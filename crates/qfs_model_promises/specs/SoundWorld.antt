@@ -1,7 +1,7 @@
 -- The sound world: what is to hold after every run, in nine parts. What the metaserver alone can tell of each part is
 -- a fact of its own; here stands what ties it to the chunk servers and to the actors. Each part speaks of the steps so far
 -- and of the world behind them; the bytes of files may be those of a longer run.
-use Rattle.std.specs.Prelude.{◌≡◌, ℕ, ⊤, ◌<◌, ◌≤◌, ◌⊎◌, ◌==◌, ◌&&◌, Bool, false, List, map, flat_map, length, take, drop, Option, Some, None, IfSome, is_some, IsTrue}
+use Rattle.std.specs.Prelude.{◌≡◌, ℕ, ⊤, ◌<◌, ◌≤◌, ◌⊎◌, ◌==◌, ◌&&◌, Bool, false, List, map, flat_map, length, take, drop, Some, None, IfSome, is_some, IsTrue}
 use Rattle.std.specs.List.{list_any, IsDistinct, enumerate_from}
 use Rattle.qfs_base.specs.Files.{same_pair}
 use Rattle.qfs_base.specs.Key.{key_cmp}

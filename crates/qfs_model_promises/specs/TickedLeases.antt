@@ -1,21 +1,14 @@
 -- Leases whose term a Tick ended.
-use Rattle.std.specs.Prelude.{ℕ, ◌&&◌, not, Bool, true, false, List}
+use Rattle.std.specs.Prelude.{ℕ, ◌&&◌, not, Bool, List}
 use Rattle.std.specs.List.{list_any}
-use Rattle.qfs_base.specs.declared.request.MetaRequest.TheVariants as Ask
-use Rattle.qfs_base.specs.declared.request.NodeRequest.{NodeRequest}
-use Rattle.qfs_base.specs.declared.request.NodeRequest.TheVariants as To
 use Rattle.qfs_model_meta.specs.Leases.{is_live_lease}
 use Rattle.qfs_model_world.specs.Events.{Event, world_behind}
-
--- whether a request lets the clock go on
-unfoldable pub asks_tick : NodeRequest → Bool
-asks_tick (To.Meta Ask.Tick) = true
-asks_tick request = false
+use Rattle.qfs_model_promises.specs.Requests.{is_tick, asks_meta}
 
 -- whether a step is a Tick before which a lease was live, and behind which it isn't
 unfoldable pub ends_at_tick : ℕ → Event → Bool
 ends_at_tick lease event =
-    asks_tick event.request
+    asks_meta is_tick event.request
     && is_live_lease lease event.before.meta.leases
     && not (is_live_lease lease (world_behind event).meta.leases)
 

@@ -1,12 +1,11 @@
 -- Why a get or a recovery found too few copies of a block: each of the slots that it couldn't read has its cause in the
 -- command's own steps.
-use Rattle.std.specs.Prelude.{◌≡◌, ℕ, ◌<◌, ◌-◌, nat_lt, ◌==◌, Bool, true, false, List, [], filter_map, length, count_by, slice_get, Option, Some, None, IsTrue, unwrap_or}
+use Rattle.std.specs.Prelude.{◌≡◌, ℕ, ◌<◌, ◌-◌, nat_lt, ◌==◌, Bool, true, false, List, filter_map, length, count_by, slice_get, Option, Some, None, IsTrue, unwrap_or}
 use Rattle.std.specs.Option.{option_map}
 use Rattle.std.specs.List.{list_any}
 use Rattle.qfs_base.specs.Mask.{all_slots}
 use Rattle.qfs_base.specs.NameTree.{PathNames}
 use Rattle.qfs_base.specs.Rules.{tries_of}
-use Rattle.qfs_base.specs.Shape.{Shape}
 use Rattle.qfs_base.specs.Sizes.{SLOTS, DATA_SLOTS}
 use Rattle.qfs_base.specs.Table.{Each, first_of}
 use Rattle.qfs_base.specs.declared.chunk.BlockId.{BlockId}

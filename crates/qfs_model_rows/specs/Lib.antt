@@ -8,3 +8,6 @@ pub mod Restarts
 pub mod Audits
 pub mod GivenOrders
 pub mod Meanings
+pub mod Leases
+pub mod Attempts
+pub mod Upgrades

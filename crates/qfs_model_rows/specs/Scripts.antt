@@ -57,6 +57,7 @@ abbrev pub script_of : Shape → ℕ → List (List Command) → Script
 script_of layout servers actors = record {
   layout = layout;
   servers = servers;
+  term = 0;
   audit = false;
   phases = actors ∷ [];
   order = None;

@@ -3,11 +3,14 @@
 //! script and is whole, and what the run prints.
 #![tactic(auto)]
 
+mod attempts;
 mod audits;
 mod failures;
 mod given_orders;
+mod leases;
 mod meanings;
 mod plain_paths;
 mod refusals;
 mod repairs;
 mod restarts;
+mod upgrades;

@@ -1,7 +1,8 @@
 -- The actors of a script start with a bounded number of steps.
-use Rattle.std.proofs.Common.{ℕ, zero, suc, ◌+◌, ◌*◌, ◌<◌, ◌≤◌, ◌^◌, List, [], ◌∷◌, length, flat_map, arith, All}
-use Rattle.std.proofs.lemmas.List.{length-append}
-use Rattle.std.proofs.lemmas.List.Sums.{count_by-le-length}
+use Rattle.std.proofs.Common.{ℕ, zero, suc, ◌+◌, ◌<◌, ◌≤◌, ◌^◌, List, [], ◌∷◌, length, arith, All}
+use Rattle.std.specs.Prelude.{flat_map}
+use Rattle.std.proofs.lemmas.List.Concat.{length-flat_map}
+use Rattle.std.proofs.lemmas.List.Sums.{count_by-le-length, sum_by-le}
 use Rattle.qfs_base.specs.Rules.{all_commands, may_take_away, tries_of, rules_of}
 use Rattle.qfs_base.specs.Shape.{IsStripe, IsRowCount}
 use Rattle.qfs_base.specs.Table.{Each}
@@ -58,32 +59,32 @@ all_in_range servers commands each k d inside = in_range servers _ (each_all (Is
 abbrev pub IsBounded : Actor → Type 0
 IsBounded actor = left actor < 2 ^ 56
 
-actors_bounded : (rules : Rules) (servers number : ℕ) (actors : List (List Command)) → IsStripe rules.layout.s
-    → IsRowCount rules.layout.r → rules.tries < 2 ^ 19 → Each (λ commands. length commands ≤ 4096) actors
-    → Each (Each (IsCommand servers)) actors → Each IsBounded (numbered_actors rules number actors)
-unfolding numbered_actors
-actors_bounded rules servers number [] stripe rows tries short each = tt
-actors_bounded rules servers number (commands ∷ more) stripe rows tries short each = (
-  left-starting rules number commands stripe rows tries short.0 (all_in_range servers commands each.0),
-  actors_bounded rules servers (number + 1) more stripe rows tries short.1 each.1,
-)
-
--- so many actors have few commands together
-few_together : (actors : List (List Command)) → Each (λ commands. length commands ≤ 4096) actors
-    → length (flat_map (λ commands. commands) actors) ≤ 4096 * length actors
-few_together [] short = omega arith
-few_together (commands ∷ more) short =
-    let long = length-append commands (flat_map (λ commands. commands) more) in
-    omega (arith, long, short.0, few_together more short.1)
-
+-- a get of a script has few attempts, since a script has few commands
 few_tries : (script : Script) → IsScript script → tries_of script < 2 ^ 19
 unfolding tries_of all_commands
 few_tries script is =
-    let counted = count_by-le-length may_take_away (flat_map (λ commands. commands) (actors_of script)) in
-    omega (arith, counted, few_together (actors_of script) is.few_commands, is.few_actors)
+    let actors : List (List Command) = actors_of script in
+    omega (
+      arith,
+      count_by-le-length may_take_away (flat_map (λ commands. commands) actors),
+      length-flat_map (λ (commands : List Command). commands) actors,
+      sum_by-le (λ (commands : List Command). length commands) 4096 actors (each_all _ actors is.few_commands),
+      is.few_actors,
+    )
+
+actors_bounded : (rules : Rules) (servers number : ℕ) (actors : List (List Command))
+    → IsStripe rules.layout.s → IsRowCount rules.layout.r → rules.tries < 2 ^ 19
+    → Each (λ commands. length commands ≤ 4096) actors → Each (Each (IsCommand servers)) actors
+    → Each IsBounded (numbered_actors rules number actors)
+unfolding numbered_actors
+actors_bounded rules servers number [] stripe rows few short each = tt
+actors_bounded rules servers number (commands ∷ more) stripe rows few short each = (
+  left-starting rules number commands stripe rows few short.0 (all_in_range servers commands each.0),
+  actors_bounded rules servers (number + 1) more stripe rows few short.1 each.1,
+)
 
 pub start_bounded : (script : Script) → IsScript script → Each IsBounded (start script).actors
 unfolding start rules_of
 start_bounded script is =
-    actors_bounded (rules_of script) script.servers 1 (actors_of script) is.stripe is.rows (few_tries script is)
-    is.few_commands is.commands
+    actors_bounded (rules_of script) script.servers 1 (actors_of script)
+    is.stripe is.rows (few_tries script is) is.few_commands is.commands

@@ -3,12 +3,12 @@
 
 mod block;
 mod fetch;
-mod got;
+mod cutting;
 mod meta;
 mod parts;
 mod reader;
 mod request;
-mod rows;
+mod read_so_far;
 mod sources;
 mod stage;
 mod supply;

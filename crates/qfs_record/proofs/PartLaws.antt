@@ -30,7 +30,7 @@ then_some : {A B : Type 0} (read : Option A) (f : A → Option B) (y : B) → op
 then_some None f y e = absurd cc
 then_some (Some x) f y e = (x, refl, e)
 
-map_some : {A B : Type 0} (read : Option A) (f : A → B) (y : B) → option_map f read ≡ Some y → (x : A) × (read ≡ Some x) × (f x ≡ y)
+pub map_some : {A B : Type 0} (read : Option A) (f : A → B) (y : B) → option_map f read ≡ Some y → (x : A) × (read ≡ Some x) × (f x ≡ y)
 map_some None f y e = absurd cc
 map_some (Some x) f y e = (x, refl, cc)
 

@@ -1,158 +1,115 @@
 //! The record that a chunk server keeps of a chunk.
 
-ghost use Rattle.std.specs.Prelude.{◌≡◌, ℕ, ◌+◌, ◌-◌, ◌<◌, ◌≤◌, List, ◌++◌, length, take, drop, IfSome, Some, OnOk, OnErr};
-ghost use Rattle.std.specs.Option.{option_map};
+ghost use Rattle.std.specs.Prelude.{◌≡◌, ℕ, ◌-◌, ◌<◌, ◌≤◌, List, ◌++◌, length, take, drop, IfSome, Some, OnOk, OnErr};
 ghost use Rattle.qfs_base.specs.declared.chunk.ChunkKey.{ChunkKey};
-ghost use Rattle.qfs_record.specs.ChunkRecord.{block, slot, chunk_key, chunk_bytes, chunk, IsChunk, chunk_record};
+ghost use Rattle.qfs_model_server.specs.Chunk.{Chunk};
+ghost use Rattle.qfs_record.specs.ChunkRecord.{IsNamed, head_text, named_stripe, IsChunk, chunk_record};
 
-use crate::reading::{counted_u32_at, u8_at, u32_at};
-use crate::writing::{put_counted_u32, put_u8, put_u32};
-use qfs_base::chunk::{BlockId, ChunkKey};
-use qfs_base::numbers::Slot;
+use crate::head::{Head, head_at, put_head};
+use qfs_base::chunk::ChunkKey;
+use qfs_base::sizes::SECOND_HEAD_BYTES;
 use std::alloc::AllocError;
-
-/// The bytes that each chunk record begins with.
-const MARK: [u8; 4] = *b"QFC1";
-
-/// The slots of a block: six of data, and three of parity beside them.
-const SLOTS: Slot = 9;
-
-/// The most bytes of a chunk.
-const MOST_CHUNK_BYTES: usize = 67_108_864;
-
-/// The bytes of a record before those of its chunk.
-const HEAD_BYTES: usize = 21;
 
 /// A chunk record at the front of some bytes. The chunk's bytes are the last `len` of the first
 /// `length`.
 #[derive(Clone, Copy, PartialEq, Eq)]
 pub struct ChunkRead {
     pub key: ChunkKey,
+    /// The version of the record: 1 or 2.
+    pub form: u8,
+    /// The stripe of the layout, in bytes, which the second version names; 0 in the first.
+    pub stripe: u32,
     /// How many bytes the chunk has: at most 67,108,864.
     pub len: u32,
     /// How many bytes the record takes.
     pub length: usize,
 }
 
-/// Puts the record of a chunk at the end of `out`: `QFC1`, the file, the block's index, the slot,
-/// the version and the number of bytes, each big-endian, and the bytes. The slot is below 9, and the
-/// chunk has at most 67,108,864 bytes. On want of memory `out` stays as it was.
-pub fn write_chunk(key: ChunkKey, bytes: &[u8], out: &mut Vec<u8>) -> Result<(), AllocError>
+/// Puts the record of a chunk at the end of `out`, in the version `form`: its head, and the bytes.
+/// The slot is below 9, the chunk has at most 67,108,864 bytes, and `form` is 1, with stripe 0, or 2,
+/// with the stripe of a layout. On want of memory `out` stays as it was.
+pub fn write_chunk(
+    key: ChunkKey,
+    bytes: &[u8],
+    form: u8,
+    stripe: u32,
+    out: &mut Vec<u8>,
+) -> Result<(), AllocError>
     requires slot { key.slot < 9 }
     requires size { length bytes.now ≤ 67108864 }
-    ensures ok { OnOk result (out.new.items ≡ out.old.items ++ chunk_record key bytes.now) }
+    requires form { IsNamed form stripe }
+    ensures ok { OnOk result (out.new.items ≡ out.old.items ++ chunk_record stripe key (record { form = form; bytes = bytes.now })) }
     ensures err { OnErr result (out.new.items ≡ out.old.items) }
 {
+    let head = Head {
+        key,
+        form,
+        stripe,
+        len: bytes.len() as u32,
+    };
     let start = out.len();
-    let written = write_parts(key, bytes, out);
+    let written = write_parts(head, bytes, out);
     if written.is_err() {
         out.truncate(start);
     }
     written
 }
 
-/// Puts the parts of a chunk record at the end of `out`. On want of memory only a front of them
+/// Puts a head and the bytes of a chunk at the end of `out`. On want of memory only a front of them
 /// stands there.
-fn write_parts(key: ChunkKey, bytes: &[u8], out: &mut Vec<u8>) -> Result<(), AllocError>
+fn write_parts(head: Head, bytes: &[u8], out: &mut Vec<u8>) -> Result<(), AllocError>
     requires { length bytes.now ≤ 67108864 }
-    ensures ok { OnOk result (out.new.items ≡ out.old.items ++ chunk_record key bytes.now) }
+    ensures ok { OnOk result (out.new.items ≡ out.old.items ++ (head_text head ++ bytes.now)) }
     ensures err { OnErr result ((front : List ℕ) × (out.new.items ≡ out.old.items ++ front)) }
 {
-    out.reserve(HEAD_BYTES + bytes.len())?;
-    out.extend_from_slice(&MARK)?;
-    put_key(key, out)?;
-    put_counted_u32(bytes, out)
+    out.reserve(SECOND_HEAD_BYTES as usize + bytes.len())?;
+    put_head(head, out)?;
+    out.extend_from_slice(bytes)
 }
 
-/// Puts a chunk's key at the end of `out`: file, index, slot and version.
-fn put_key(key: ChunkKey, out: &mut Vec<u8>) -> Result<(), AllocError>
-    ensures ok { OnOk result (out.new.items ≡ out.old.items ++ chunk_key.text key) }
-    ensures err { OnErr result ((front : List ℕ) × (out.new.items ≡ out.old.items ++ front)) }
-{
-    put_u32(key.block.file, out)?;
-    put_u32(key.block.index, out)?;
-    put_u8(key.slot, out)?;
-    put_u32(key.version, out)
-}
-
-/// Reads the chunk record at the front of the input. None says that no front of it is one.
+/// Reads the chunk record at the front of the input, in either version. None says that no front of
+/// it is one.
 pub fn read_chunk(input: &[u8]) -> Option<ChunkRead>
     ensures within { IfSome result (λ found. (found.length ≤ length input.now) × (found.len ≤ found.length)) }
     ensures found { IfSome result (λ found.
         let record_bytes = take found.length input.now in
-        let bytes = drop (found.length - found.len) record_bytes in
-        IsChunk found.key bytes × (record_bytes ≡ chunk_record found.key bytes)) }
-    ensures only { (key : ChunkKey) (bytes rest : List ℕ) → IsChunk key bytes → input.now ≡ chunk_record key bytes ++ rest →
-        result ≡ Some (record { key = key; len = length bytes; length = length (chunk_record key bytes) }) }
+        let chunk : Chunk = record { form = found.form; bytes = drop (found.length - found.len) record_bytes } in
+        IsChunk found.stripe found.key chunk × (record_bytes ≡ chunk_record found.stripe found.key chunk)) }
+    ensures stripe { IfSome result (λ found. found.stripe ≡ named_stripe found.form found.stripe) }
+    ensures only { (stripe : ℕ) (key : ChunkKey) (chunk : Chunk) (rest : List ℕ) → IsChunk stripe key chunk →
+        input.now ≡ chunk_record stripe key chunk ++ rest →
+        result ≡ Some (record {
+          key = key;
+          form = chunk.form;
+          stripe = named_stripe chunk.form stripe;
+          len = length chunk.bytes;
+          length = length (chunk_record stripe key chunk);
+        }) }
 {
-    let ((key, bytes), rest) = chunk_at(input)?;
+    let (head, rest) = head_at(input)?;
+    if rest.len() < head.len as usize {
+        return None;
+    }
+    let Head {
+        key,
+        form,
+        stripe,
+        len,
+    } = head;
     Some(ChunkRead {
         key,
-        len: bytes.len() as u32,
-        length: input.len() - rest.len(),
+        form,
+        stripe,
+        len,
+        length: input.len() - rest.len() + len as usize,
     })
 }
 
-/// No chunk record is the front of another's, so what was written is read again, whatever follows.
+/// No chunk record is the front of another's, in whichever versions, so what was written is read
+/// again, whatever follows.
 pub fn chunk_records_are_apart()
-    ensures { (key other : ChunkKey) (bytes more rest after : List ℕ) → IsChunk key bytes → IsChunk other more →
-        chunk_record key bytes ++ rest ≡ chunk_record other more ++ after → (key ≡ other) × (bytes ≡ more) × (rest ≡ after) }
+    ensures { (stripe named : ℕ) (key other : ChunkKey) (chunk more : Chunk) (rest after : List ℕ) →
+        IsChunk stripe key chunk → IsChunk named other more →
+        chunk_record stripe key chunk ++ rest ≡ chunk_record named other more ++ after →
+        (key ≡ other) × (chunk ≡ more) × (named_stripe chunk.form stripe ≡ named_stripe more.form named) × (rest ≡ after) }
 {}
-
-/// The key and the bytes of the chunk record at the front.
-fn chunk_at(bytes: &[u8]) -> Option<((ChunkKey, &[u8]), &[u8])>
-    ensures { option_map (λ front. ((front.0.0, front.0.1.now), front.1.now)) result ≡ chunk.read bytes.now }
-{
-    let rest = bytes.strip_prefix(&MARK)?;
-    let (key, rest) = key_at(rest)?;
-    let (bytes, rest) = chunk_bytes_at(rest)?;
-    Some(((key, bytes), rest))
-}
-
-/// The key at the front: file, index, slot and version.
-fn key_at(bytes: &[u8]) -> Option<(ChunkKey, &[u8])>
-    ensures { option_map (λ front. (front.0, front.1.now)) result ≡ chunk_key.read bytes.now }
-{
-    let (block, rest) = block_at(bytes)?;
-    let (slot, rest) = slot_at(rest)?;
-    let (version, rest) = u32_at(rest)?;
-    let key = ChunkKey {
-        block,
-        slot,
-        version,
-    };
-    Some((key, rest))
-}
-
-/// The file and index at the front.
-fn block_at(bytes: &[u8]) -> Option<(BlockId, &[u8])>
-    ensures { option_map (λ front. (front.0, front.1.now)) result ≡ block.read bytes.now }
-{
-    let (file, rest) = u32_at(bytes)?;
-    let (index, rest) = u32_at(rest)?;
-    Some((BlockId { file, index }, rest))
-}
-
-/// The slot at the front.
-fn slot_at(bytes: &[u8]) -> Option<(Slot, &[u8])>
-    ensures { option_map (λ front. (front.0, front.1.now)) result ≡ slot.read bytes.now }
-{
-    let (slot, rest) = u8_at(bytes)?;
-    if slot < SLOTS {
-        Some((slot, rest))
-    } else {
-        None
-    }
-}
-
-/// The bytes of a chunk at the front, behind their count.
-fn chunk_bytes_at(bytes: &[u8]) -> Option<(&[u8], &[u8])>
-    ensures { option_map (λ front. (front.0.now, front.1.now)) result ≡ chunk_bytes.read bytes.now }
-{
-    let (bytes, rest) = counted_u32_at(bytes)?;
-    if bytes.len() <= MOST_CHUNK_BYTES {
-        Some((bytes, rest))
-    } else {
-        None
-    }
-}

@@ -8,4 +8,4 @@ mod reading;
 mod writing;
 
 pub use chunk::{ChunkRead, chunk_records_are_apart, read_chunk, write_chunk};
-pub use head::Head;
+pub use head::{Head, is_second, read_head};

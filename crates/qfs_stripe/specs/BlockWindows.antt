@@ -16,3 +16,4 @@ pub record IsInBlock (w : Inside) : Type 0 where
   pub some : w.first < w.past
   pub most : w.past ≤ MOST_ROWS
   pub reached : w.first / WINDOW_ROWS ≤ w.group
+  pub upto : w.group ≤ div_ceil w.past WINDOW_ROWS

@@ -1,5 +1,5 @@
 -- The windows of a range that an iterator has left.
-use Rattle.std.specs.Prelude.{◌-◌, ◌<◌, ◌++◌, List, flat_map}
+use Rattle.std.specs.Prelude.{◌-◌, ◌++◌, List, flat_map}
 use Rattle.std.specs.List.{range_with_len}
 use Rattle.qfs_base.specs.Layout.{windows_touched}
 use Rattle.qfs_base.specs.declared.layout.Window.{Window}

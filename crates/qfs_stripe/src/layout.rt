@@ -4,7 +4,7 @@ ghost use Rattle.std.specs.Prelude.{◌≡◌, ℕ, ◌+◌, ◌-◌, ◌*◌, �
 ghost use Rattle.std.specs.List.{range_with_len};
 ghost use Rattle.qfs_base.specs.Shape.{IsStripe, IsRowCount};
 ghost use Rattle.qfs_base.specs.Layout.{row_bytes, block_bytes, blocks_of, rows_of, place_of, offset_of, blocks_touched, windows_touched, windows_of};
-ghost use Rattle.qfs_base.specs.Sizes.{DATA_SLOTS, MOST_FILE_BYTES};
+ghost use Rattle.qfs_base.specs.Sizes.{MOST_FILE_BYTES};
 ghost use Rattle.qfs_stripe.specs.Touched.{offset_at, spot_at, first_touched, IsTouched, AreTouched, AreInOrder};
 
 use crate::block_windows::BlockWindows;
@@ -19,6 +19,7 @@ const ROW_STRIPES: u32 = DATA_SLOTS as u32;
 
 /// The bytes of the shortest stripe, and of the longest.
 const LEAST_STRIPE: u32 = 16;
+
 const MOST_STRIPE: u32 = 65_536;
 
 /// The calls on a layout. None of them takes memory.
@@ -71,23 +72,17 @@ pub trait LayoutCalls: Sized {
         requires slot { slot < DATA_SLOTS }
         requires at { at < stripe self.now * rows self.now }
         ensures value { result ≡ offset_of (stripe self.now) (rows self.now) index slot at }
-        ensures back {
-            place_of (stripe self.now) (rows self.now) result ≡ spot_at (stripe self.now) index slot at
-        };
+        ensures back { place_of (stripe self.now) (rows self.now) result ≡ spot_at (stripe self.now) index slot at };
 
     /// The blocks that the bytes from `from` up to `to` touch, the last of which is the last one of a
     /// file of `to` bytes.
     fn blocks_touched(&self, from: u32, to: u32) -> Range<u32>
-        ensures value {
-            range_with_len result.start (result.end - result.start)
-            ≡ blocks_touched (stripe self.now) (rows self.now) from to
-        }
+        ensures value { range_with_len result.start (result.end - result.start)
+            ≡ blocks_touched (stripe self.now) (rows self.now) from to }
         ensures first { result.start ≡ from / block_bytes (stripe self.now) (rows self.now) }
         ensures past { result.end ≡ blocks_of (stripe self.now) (rows self.now) to }
-        ensures touched {
-            from < to →
-            AreTouched (stripe self.now) (rows self.now) from to result.start result.end
-        };
+        ensures touched { from < to →
+            AreTouched (stripe self.now) (rows self.now) from to result.start result.end };
 
     /// The windows in which the bytes from `from` up to `to` are read in block `index`, which they
     /// touch: of each aligned group of 16 rows that they touch, the rows from the first to the last
@@ -97,10 +92,8 @@ pub trait LayoutCalls: Sized {
         ensures value { result ≡ windows_touched (stripe self.now) (rows self.now) from to index }
         ensures some { 0 < length result }
         // They stand behind each other, from the first row that is touched on, in their block.
-        ensures order {
-            AreInOrder index (first_touched (stripe self.now) (rows self.now) from index)
-            (rows self.now) result
-        };
+        ensures order { AreInOrder index (first_touched (stripe self.now) (rows self.now) from index)
+            (rows self.now) result };
 
     /// The windows in which `count` bytes from byte `from` on are read, of a file of `len` bytes,
     /// block by block. A range is cut at the file's end. Each of the three is at most 268,435,456.
@@ -168,6 +161,7 @@ impl LayoutCalls for Layout {
     }
 
     fn windows_in(&self, index: u32, from: u32, to: u32) -> BlockWindows {
+        prove!(self.r <= MOST_ROWS);
         let start = index * self.block_bytes();
         let first = from.saturating_sub(start) / self.row_bytes();
         BlockWindows::of_rows(index, first, self.rows_of(to, index))

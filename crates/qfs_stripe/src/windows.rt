@@ -55,16 +55,6 @@ impl Windows {
             past: blocks.end,
         }
     }
-
-    /// The first window behind the present block.
-    fn next_in_blocks(&mut self) -> Option<Window> {
-        if self.block >= self.past {
-            return None;
-        }
-        self.present = self.layout.windows_in(self.block, self.from, self.to);
-        self.block += 1;
-        self.present.next()
-    }
 }
 
 impl Iterator for Windows {
@@ -75,9 +65,14 @@ impl Iterator for Windows {
     ghost remaining = { item_count (λ rest. rest) };
 
     fn next(&mut self) -> Option<Window> {
-        match self.present.next() {
-            Some(window) => Some(window),
-            None => self.next_in_blocks(),
+        if let Some(window) = self.present.next() {
+            return Some(window);
         }
+        if self.block >= self.past {
+            return None;
+        }
+        self.present = self.layout.windows_in(self.block, self.from, self.to);
+        self.block += 1;
+        self.present.next()
     }
 }
