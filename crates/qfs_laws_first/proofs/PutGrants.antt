@@ -63,7 +63,7 @@ module _ (script : Script) (servers : List Server) (m : MetaImage) (commands : �
   never = p.ungranted slot (omega arith)
 
   -- some server is granted
-  pub grant-chosen : 9 ≤ script.servers → IsChosen script.servers (chosen_for_put (first_block t.file) slot m never_granted)
+  pub grant-chosen : 9 ≤ script.servers → IsChosen script.servers (chosen_for_put (first_block t.file) slot m.servers m.slots never_granted)
   unfolding chosen_for_put barred_for_put never_granted without_grant failed_with
   grant-chosen enough =
       let barred : List ℕ = with_live_servers m.servers [] (grants_of_block (first_block t.file) m.slots) in
@@ -88,7 +88,7 @@ module _ (script : Script) (servers : List Server) (m : MetaImage) (commands : �
   told server first last = rw (known-life server first last, never) refl
 
   grant-decided : (server : ℕ) → IsShort script.layout (length t.bytes) → 1 ≤ server → server ≤ script.servers
-      → chosen_for_put (first_block t.file) slot m never_granted ≡ Some server
+      → chosen_for_put (first_block t.file) slot m.servers m.slots never_granted ≡ Some server
       → decide (rules_of script) 1 m (Ask.Grant t.file 0 slot false)
       ≡ Makes (GrantSlot (first_block t.file) slot server 1 0 ∷ []) (Told.Granted (grant_on script.layout (length t.bytes) t.file slot server))
   unfolding rules_of decide in_range is_slot_number unless decide_request decide_grant need grant_in refuse taken_refusal failed_grant grant_for_put put_granted never_granted file_row
@@ -101,7 +101,7 @@ module _ (script : Script) (servers : List Server) (m : MetaImage) (commands : �
       ap (λ b. unless b Told.Nothing (decide_request (rules_of script) 1 m (Ask.Grant t.file 0 slot false))) in_order
       ∙ ap (need Told.Gone (grant_in layout 1 block slot false m (slot_at m.slots block slot))) p.unclosed
       ∙ ap (λ state. grant_in layout 1 block slot false m state (target_row commands t)) never
-      ∙ ap (λ b. unless b Told.NoBlock (need (Told.NoServer block slot) (grant_for_put layout 1 len block slot m None) (chosen_for_put block slot m never_granted))) some
+      ∙ ap (λ b. unless b Told.NoBlock (need (Told.NoServer block slot) (grant_for_put layout 1 len block slot m None) (chosen_for_put block slot m.servers m.slots never_granted))) some
       ∙ ap (need (Told.NoServer block slot) (grant_for_put layout 1 len block slot m None)) chosen
       ∙ ap (λ g. Makes (GrantSlot block slot server 1 0 ∷ []) (Told.Granted g)) (told server first last)
 
@@ -115,7 +115,7 @@ module _ (script : Script) (servers : List Server) (m : MetaImage) (commands : �
   }
 
   pub grant-served : (server : ℕ) → IsShort script.layout (length t.bytes) → commands ≤ 4096 → 1 ≤ server → server ≤ script.servers
-      → chosen_for_put (first_block t.file) slot m never_granted ≡ Some server
+      → chosen_for_put (first_block t.file) slot m.servers m.slots never_granted ≡ Some server
       → meta_step (rules_of script) 1 (Ask.Grant t.file 0 slot false) Ended.Done m
       ≡ record { meta = granted_state m t.file slot server; reply = Told.Granted (grant_on script.layout (length t.bytes) t.file slot server) }
   grant-served server short few first last chosen =

@@ -187,7 +187,7 @@ module _ (script : Script) (commands : List Command) (steps : List Event) (w : W
     unfolding next_turn apply_all apply grant_slot with_slots
     granted-then server first last = granted-now script w.servers w.meta c g.t g.slot g.puts below server first last
 
-    grants-on : IsChosen script.servers (chosen_for_put (first_block g.t.file) g.slot w.meta never_granted) → Next script commands steps w
+    grants-on : IsChosen script.servers (chosen_for_put (first_block g.t.file) g.slot w.meta.servers w.meta.slots never_granted) → Next script commands steps w
     grants-on chosen =
         let layout : Shape = script.layout in
         let server : ℕ = chosen.server in
