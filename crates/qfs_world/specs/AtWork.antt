@@ -1,7 +1,7 @@
 -- What holds of the parts of a world at work.
 use Rattle.std.specs.Prelude.{ℕ, ◌≡◌, Bool, true, false, ◌+◌, ◌<◌, ◌^◌, List, [], ◌∷◌, length, map, sum_by, take, drop, Option, Some, None, nat_lt, if◌then◌else◌, slice_get, slice_set}
 use Rattle.qfs_actor.specs.Standing.{Standing, at_start}
-use Rattle.qfs_base.specs.Shape.{Shape}
+use Rattle.qfs_base.specs.declared.rules.Rules.{Rules}
 use Rattle.qfs_base.specs.declared.command.Command.{Command}
 use Rattle.qfs_base.specs.declared.history.Outcome.{Outcome}
 use Rattle.qfs_base.specs.declared.history.Step.{Step}
@@ -92,18 +92,22 @@ by_sizes [] actors = []
 by_sizes (size ∷ sizes) actors = take size actors ∷ by_sizes sizes (drop size actors)
 
 -- the actors of these commands at their start, numbered from here on
-abbrev pub starts_from : Shape → ℕ → List (List Command) → List Standing
-starts_from layout number [] = []
-starts_from layout number (commands ∷ more) = at_start layout number commands ∷ starts_from layout (number + 1) more
+abbrev pub starts_from : Rules → ℕ → List (List Command) → List Standing
+starts_from rules number [] = []
+starts_from rules number (commands ∷ more) = at_start rules number commands ∷ starts_from rules (number + 1) more
 
 -- ---- the whole
 
--- the parts of a world at work: the metaserver and behind it the chunk servers, the actors by number, the sizes of
--- the phases, and the order of the steps so far
-pub record IsAtWork {D : Type 0} (script : Script) (nodes : List (NodeState D)) (actors : List Standing) (phases : List ℕ) (order : List Step) : Type 0 where
-  pub nodes_are : nodes ≡ Node.Meta (record { layout = script.layout; image = image_of nodes }) ∷ map Node.Store (stores_of nodes)
+-- the metaserver of a script in this state
+abbrev pub meta_of : Script → MetaImage → Metaserver
+meta_of script image = record { layout = script.layout; term = script.term; image = image }
+
+-- the parts of a world at work: the metaserver and behind it the chunk servers, whose devices had failed so often at the
+-- start; the actors by number, the sizes of the phases, and the order of the steps so far
+pub record IsAtWork {D : Type 0} (script : Script) (counts : List ℕ) (nodes : List (NodeState D)) (actors : List Standing) (phases : List ℕ) (order : List Step) : Type 0 where
+  pub nodes_are : nodes ≡ Node.Meta (meta_of script (image_of nodes)) ∷ map Node.Store (stores_of nodes)
   pub numbered : AreNumbered 1 actors
   pub few : length actors < 2 ^ 16
   pub phases_are : phases ≡ sizes_of script.phases
   pub whole : total phases ≡ length actors
-  pub follows : AllTell (stores_of nodes) → Follows script order (image_of nodes) (stores_of nodes) (actors_of actors)
+  pub follows : AllTell (stores_of nodes) → Follows script counts order (image_of nodes) (stores_of nodes) (actors_of actors)

@@ -1,5 +1,6 @@
 -- A world at work as its callers see it, and the scripts that it can run.
 use Rattle.std.specs.Prelude.{ℕ, ◌<◌, ◌≤◌, ◌^◌, List, length, map, flat_map, sum_by, All, IsSome}
+use Rattle.qfs_base.specs.Sizes.{MOST_SERVERS}
 use Rattle.qfs_base.specs.declared.command.Command.{Command}
 use Rattle.qfs_base.specs.declared.history.Step.{Step}
 use Rattle.qfs_base.specs.declared.image.MetaImage.{MetaImage}
@@ -11,10 +12,11 @@ use Rattle.qfs_model_actor.specs.Steps.{left}
 use Rattle.qfs_model_world.specs.Fits.{unfinished, by_phase, first_filled}
 use Rattle.qfs_store.specs.Stored.{Stored}
 
--- what it was made of, how its nodes and actors stand, the steps so far, and what it only keeps: the devices above the
--- script's servers, and the metaserver's disks
+-- what it was made of and how often its servers' devices had failed then, how its nodes and actors stand, the steps so far,
+-- and what it only keeps: the devices above the script's servers, and the metaserver's disks
 pub record Running (D L : Type 0) : Type 0 where
   pub script : Script
+  pub counts : List ℕ
   pub meta : MetaImage
   pub stores : List Stored
   pub actors : List Actor
@@ -36,7 +38,7 @@ pub record AreBuilt (commands : List Command) : Type 0 where
 -- a script that a world can be made of
 pub record IsRunnable (script : Script) : Type 0 where
   pub some_server : 1 ≤ script.servers
-  pub servers : script.servers ≤ 64
+  pub servers : script.servers ≤ MOST_SERVERS
   pub actors : length (commands_by_actor script) < 2 ^ 16
   pub commands : All AreBuilt (commands_by_actor script)
 

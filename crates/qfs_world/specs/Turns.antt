@@ -13,14 +13,11 @@ use Rattle.qfs_base.specs.declared.request.ChunkRequest.{ChunkRequest}
 use Rattle.qfs_base.specs.declared.request.MetaRequest.{MetaRequest}
 use Rattle.qfs_base.specs.declared.request.NodeRequest.{NodeRequest}
 use Rattle.qfs_base.specs.declared.request.NodeRequest.TheVariants as To
-use Rattle.qfs_device.specs.Fault.{Rose}
 use Rattle.qfs_machine.specs.Askable.{IsAskable}
-use Rattle.qfs_meta.specs.Metaserver.{Metaserver}
+use Rattle.qfs_meta.specs.Metaserver.{Metaserver, Steps}
 use Rattle.qfs_model_actor.specs.Actor.{Actor, request_of, after_reply}
-use Rattle.qfs_model_meta.specs.Step.{meta_step}
 use Rattle.qfs_model_server.specs.Server.{without_room}
-use Rattle.qfs_store.specs.Chunks.{LeavesChunks}
-use Rattle.qfs_store.specs.Stands.{IsStep, KnownAfter, OnFault, MemoryFor}
+use Rattle.qfs_store.specs.Serves.{Serves}
 use Rattle.qfs_store.specs.Stored.{Stored}
 use Rattle.qfs_world.specs.declared.node.NodeState.{NodeState}
 use Rattle.qfs_world.specs.declared.node.NodeState.TheVariants as Node
@@ -28,22 +25,9 @@ use Rattle.qfs_world.specs.declared.node.NodeState.TheVariants as Node
 -- the metaserver took its step on an actor's request, with the outcome that its reply shows; it doesn't fail
 pub record MetaServes (number : ℕ) (before : Metaserver) (request : MetaRequest) (answer : MetaReply) (behind : Metaserver) : Type 0 where
   pub layout : behind.layout ≡ before.layout
-  pub step : meta_step before.layout number request (meta_outcome answer) before.image ≡ record { meta = behind.image; reply = answer }
+  pub term : behind.term ≡ before.term
+  pub steps : Steps number before request answer behind
   pub sure : meta_outcome answer ≡ Ended.Failed → ⊥
-
--- a server's device tells what it holds as it did, and it has failed no less often
-pub record GoesOn (before behind : Stored) : Type 0 where
-  pub tells : is_some behind.told ≡ is_some before.told
-  pub never_falls : before.faults ≤ behind.faults
-
--- a chunk server took its step on a request, with the outcome that its reply shows, and left its device's keys so
-pub record StoreServes (before : Stored) (request : ChunkRequest) (answer : ChunkReply) (behind : Stored) : Type 0 where
-  pub step : IsStep request before.told before.known answer behind.told behind.known
-  pub chunks : LeavesChunks request before.told before.known answer.answer behind.told
-  pub known : KnownAfter request answer.answer before.known behind.known
-  pub goes_on : GoesOn before behind
-  pub cause : OnFault answer.answer (Rose before.faults behind.faults)
-  pub memory : MemoryFor request answer.answer
 
 -- a chunk server that isn't there is down
 abbrev pub no_server : NodeReply
@@ -64,26 +48,26 @@ module _ {D : Type 0} where
     pub answer : ChunkReply
     pub node_is : node ≡ Node.Store behind
     pub reply_is : reply ≡ From.Chunk answer
-    pub serves : StoreServes before request answer behind
+    pub serves : Serves request answer before behind
 
   -- the request isn't one to this node: it stays as it was
   pub record Passes (before : NodeState D) (answer reply : NodeReply) (node : NodeState D) : Type 0 where
     pub node_is : node ≡ before
     pub reply_is : reply ≡ answer
 
-  -- how a node serves a request
-  abbrev pub Serves : ℕ → NodeState D → NodeRequest → NodeReply → NodeState D → Type 0
-  Serves number (Node.Meta before) (To.Meta request) reply node = MetaTurns number before request reply node
-  Serves number (Node.Meta before) (To.Chunk server request) reply node = Passes (Node.Meta before) no_server reply node
-  Serves number (Node.Store before) (To.Meta request) reply node = Passes (Node.Store before) (From.Meta Told.Nothing) reply node
-  Serves number (Node.Store before) (To.Chunk server request) reply node = StoreTurns before request reply node
+  -- how a node takes a request
+  abbrev pub Takes : ℕ → NodeState D → NodeRequest → NodeReply → NodeState D → Type 0
+  Takes number (Node.Meta before) (To.Meta request) reply node = MetaTurns number before request reply node
+  Takes number (Node.Meta before) (To.Chunk server request) reply node = Passes (Node.Meta before) no_server reply node
+  Takes number (Node.Store before) (To.Meta request) reply node = Passes (Node.Store before) (From.Meta Told.Nothing) reply node
+  Takes number (Node.Store before) (To.Chunk server request) reply node = StoreTurns before request reply node
 
-  -- a node served an actor's next request, and the actor took the reply. The outcome is the one that the reply shows
+  -- a node took an actor's next request, and the actor took the reply. The outcome is the one that the reply shows
   pub record Turns (before : NodeState D) (actor : Actor) (outcome : Outcome) (node : NodeState D) (behind : Actor) : Type 0 where
     pub request : NodeRequest
     pub reply : NodeReply
     pub asked : request_of actor ≡ Some request
     pub askable : IsAskable request
-    pub serves : Serves actor.number before request reply node
+    pub takes : Takes actor.number before request reply node
     pub took : behind ≡ after_reply actor reply
     pub outcome_is : outcome ≡ outcome_of reply
