@@ -136,6 +136,11 @@ impl Meta {
         reply
     }
 
+    /// The allocator that it keeps.
+    pub fn allocator(&self) -> Global {
+        self.alloc
+    }
+
     /// The state.
     pub fn image(&self) -> &MetaImage
         ensures { result.now ≡ self.now.image }

@@ -7,16 +7,6 @@ use Rattle.qfs_machine.specs.Askable.{IsAskedOfMeta}
 use Rattle.qfs_meta.specs.Metaserver.{is_built}
 use Rattle.qfs_model_actor.specs.Actor.{Actor, request_of, has_finished}
 
--- the metaserver serves what machines ask it
-pub asked-built : (request : MetaRequest) → IsAskedOfMeta request → is_built request ≡ true
-asked-built (Ask.Create path command len) asked = refl
-asked-built (Ask.Grant file index slot again) asked = refl
-asked-built (Ask.Close file) asked = refl
-asked-built (Ask.Abort file) asked = refl
-asked-built (Ask.OpenFile path) asked = refl
-asked-built (Ask.Release lease) asked = refl
-asked-built other asked = absurd asked
-
 -- an actor without a request has finished
 pub none-finished : (actor : Actor) → request_of actor ≡ None → has_finished actor ≡ true
 unfolding has_finished

@@ -19,7 +19,7 @@ use Rattle.qfs_model_actor.specs.Work.{node_of_request}
 use Rattle.qfs_model_world.specs.World.{numbered}
 use Rattle.qfs_store.specs.Stored.{Stored}
 use Rattle.qfs_world.specs.AtWork.{stores_of, place_in, TakesTurn}
-use Rattle.qfs_world.specs.Turns.{MetaServes, StoreServes, MetaTurns, StoreTurns, Passes, Serves, no_server}
+use Rattle.qfs_world.specs.Turns.{MetaServes, MetaTurns, StoreTurns, Passes, Serves, no_server}
 use Rattle.qfs_world.specs.declared.node.NodeState.{NodeState}
 use Rattle.qfs_world.specs.declared.node.NodeState.TheVariants as Node
 use Rattle.qfs_world.proofs.Lists.{map-set}
@@ -70,7 +70,7 @@ module _ {D : Type 0} where
     pub answer : MetaReply
     pub next : Metaserver
     pub asked : request_of actor ≡ Some (To.Meta request)
-    pub serves : MetaServes actor.number meta request answer next
+    pub serves : MetaTakes actor.number meta request answer next
     pub took : moved ≡ after_reply actor (From.Meta answer)
     pub outcome_is : outcome ≡ outcome_of (From.Meta answer)
     pub nodes_are : behind ≡ nodes_with next stores
@@ -85,7 +85,7 @@ module _ {D : Type 0} where
     pub asked : request_of actor ≡ Some (To.Chunk (suc place) request)
     pub askable : IsAskedOfServer request
     pub there : slice_get stores place ≡ Some stored
-    pub serves : StoreServes stored request answer next
+    pub serves : Serves request answer stored next
     pub took : moved ≡ after_reply actor (From.Chunk answer)
     pub outcome_is : outcome ≡ outcome_of (From.Chunk answer)
     pub nodes_are : behind ≡ nodes_with meta (slice_set stores place next)
@@ -109,12 +109,12 @@ module _ {D : Type 0} where
       (turn : TakesTurn (nodes_with meta stores) actor outcome behind moved) where
     at-place : (place : ℕ) (node : NodeState D) → place_in (length (nodes_with {D = D} meta stores)) (node_of actor) ≡ place
         → slice_get (nodes_with meta stores) place ≡ Some node
-        → (Serves actor.number node turn.turns.request turn.turns.reply turn.next) × (behind ≡ slice_set (nodes_with meta stores) place turn.next)
+        → (Takes actor.number node turn.turns.request turn.turns.reply turn.next) × (behind ≡ slice_set (nodes_with meta stores) place turn.next)
     at-place place node at there =
         let same : node ≡ turn.node =
         same_some node turn.node (sym there ∙ (ap (slice_get (nodes_with meta stores)) (sym at) ∙ turn.there)) in
-        let P : NodeState D → Type 0 = λ n. Serves actor.number n turn.turns.request turn.turns.reply turn.next in
-        (subst P (sym same) turn.turns.serves, turn.changed ∙ ap (λ p. slice_set (nodes_with meta stores) p turn.next) at)
+        let P : NodeState D → Type 0 = λ n. Takes actor.number n turn.turns.request turn.turns.reply turn.next in
+        (subst P (sym same) turn.turns.takes, turn.changed ∙ ap (λ p. slice_set (nodes_with meta stores) p turn.next) at)
       where
         same_some : (x y : NodeState D) → Some x ≡ Some y → x ≡ y
         same_some x y e = cc
@@ -183,7 +183,7 @@ module _ {D : Type 0} where
         let found : slice_get (map {A = Stored} {B = NodeState D} Node.Store stores) place ≡ Some (Node.Store stored) =
         slice_get-map Node.Store stores place ∙ ap (option_map Node.Store) there in
         let t = at-place (suc place) (Node.Store stored) at found in
-        let P : NodeRequest → Type 0 = λ r. Serves actor.number (Node.Store stored) r turn.turns.reply turn.next in
+        let P : NodeRequest → Type 0 = λ r. Takes actor.number (Node.Store stored) r turn.turns.reply turn.next in
         inr (inl (of-store place stored request is askable there (subst P is t.0) t.1))
     by-place place request is askable None there =
         let long : length (map {A = Stored} {B = NodeState D} Node.Store stores) ≡ length stores = length-map stores Node.Store in
@@ -192,7 +192,7 @@ module _ {D : Type 0} where
         ap (place_in (length (nodes_with {D = D} meta stores))) (node-chunk actor (suc place) request (asked-is _ is))
         ∙ place-past (length (nodes_with {D = D} meta stores)) (suc place) (omega arith) in
         let t = at-place 0 (Node.Meta meta) at refl in
-        let P : NodeRequest → Type 0 = λ r. Serves actor.number (Node.Meta meta) r turn.turns.reply turn.next in
+        let P : NodeRequest → Type 0 = λ r. Takes actor.number (Node.Meta meta) r turn.turns.reply turn.next in
         inr (inr (of-none (suc place) request is there (subst P is t.0) t.1))
       where
         past_end : (xs : List Stored) (k : ℕ) → slice_get xs k ≡ None → length xs ≤ k
@@ -207,13 +207,13 @@ module _ {D : Type 0} where
         let at : place_in (length (nodes_with {D = D} meta stores)) (node_of actor) ≡ 0 =
         ap (place_in (length (nodes_with {D = D} meta stores))) (node-meta actor request (asked-is _ is)) ∙ place-none _ in
         let t = at-place 0 (Node.Meta meta) at refl in
-        let P : NodeRequest → Type 0 = λ r. Serves actor.number (Node.Meta meta) r turn.turns.reply turn.next in
+        let P : NodeRequest → Type 0 = λ r. Takes actor.number (Node.Meta meta) r turn.turns.reply turn.next in
         inl (of-meta request is (subst P is t.0) t.1)
     by-request (To.Chunk zero request) is askable =
         let at : place_in (length (nodes_with {D = D} meta stores)) (node_of actor) ≡ 0 =
         ap (place_in (length (nodes_with {D = D} meta stores))) (node-chunk actor 0 request (asked-is _ is)) ∙ place-none _ in
         let t = at-place 0 (Node.Meta meta) at refl in
-        let P : NodeRequest → Type 0 = λ r. Serves actor.number (Node.Meta meta) r turn.turns.reply turn.next in
+        let P : NodeRequest → Type 0 = λ r. Takes actor.number (Node.Meta meta) r turn.turns.reply turn.next in
         inr (inr (of-none 0 request is refl (subst P is t.0) t.1))
     by-request (To.Chunk (suc place) request) is askable =
         by-place place request is askable (slice_get stores place) refl

@@ -9,7 +9,7 @@ use Rattle.std.proofs.lemmas.List.Folds.{length-flat_map-take}
 use Rattle.std.proofs.lemmas.List.Sums.{sum_by-cons, sum_by-drop_more}
 use Rattle.std.proofs.lemmas.List.Elements.{All-from_recursion, recursion_from_All}
 use Rattle.qfs_actor.specs.Standing.{Standing, at_start}
-use Rattle.qfs_base.specs.Shape.{Shape}
+use Rattle.qfs_base.specs.declared.rules.Rules.{Rules}
 use Rattle.qfs_base.specs.declared.command.Command.{Command}
 use Rattle.qfs_base.specs.declared.request.NodeRequest.{NodeRequest}
 use Rattle.qfs_model_actor.specs.Actor.{Actor, has_finished, node_of, request_of, starting}
@@ -23,30 +23,30 @@ use Rattle.qfs_world.specs.Calls.{lines_of_actors}
 
 -- ---- actors at their start
 
-pub starts_append : (layout : Shape) (number : ℕ) (xs ys : List (List Command))
-    → starts_from layout number (xs ++ ys) ≡ starts_from layout number xs ++ starts_from layout (number + length xs) ys
-starts_append layout number [] ys =
-    let none : number ≡ number + 0 = omega arith in ap (λ n. starts_from layout n ys) none
-starts_append layout number (x ∷ xs) ys =
+pub starts_append : (rules : Rules) (number : ℕ) (xs ys : List (List Command))
+    → starts_from rules number (xs ++ ys) ≡ starts_from rules number xs ++ starts_from rules (number + length xs) ys
+starts_append rules number [] ys =
+    let none : number ≡ number + 0 = omega arith in ap (λ n. starts_from rules n ys) none
+starts_append rules number (x ∷ xs) ys =
     let more : number + 1 + length xs ≡ number + length (x ∷ xs) = omega arith in
-    ap (λ rest. at_start layout number x ∷ rest)
-    (starts_append layout (number + 1) xs ys ∙ ap (λ n. starts_from layout (number + 1) xs ++ starts_from layout n ys) more)
+    ap (λ rest. at_start rules number x ∷ rest)
+    (starts_append rules (number + 1) xs ys ∙ ap (λ n. starts_from rules (number + 1) xs ++ starts_from rules n ys) more)
 
-pub starts_push : (layout : Shape) (number : ℕ) (xs : List (List Command)) (x : List Command)
-    → starts_from layout number (xs ++ x ∷ []) ≡ starts_from layout number xs ++ at_start layout (number + length xs) x ∷ []
-starts_push layout number xs x = starts_append layout number xs (x ∷ [])
+pub starts_push : (rules : Rules) (number : ℕ) (xs : List (List Command)) (x : List Command)
+    → starts_from rules number (xs ++ x ∷ []) ≡ starts_from rules number xs ++ at_start rules (number + length xs) x ∷ []
+starts_push rules number xs x = starts_append rules number xs (x ∷ [])
 
-pub length_starts : (layout : Shape) (number : ℕ) (xs : List (List Command)) → length (starts_from layout number xs) ≡ length xs
-length_starts layout number [] = refl
-length_starts layout number (x ∷ xs) = ap (λ n. suc n) (length_starts layout (number + 1) xs)
+pub length_starts : (rules : Rules) (number : ℕ) (xs : List (List Command)) → length (starts_from rules number xs) ≡ length xs
+length_starts rules number [] = refl
+length_starts rules number (x ∷ xs) = ap (λ n. suc n) (length_starts rules (number + 1) xs)
 
 -- one actor more
-pub starts_more : (layout : Shape) (number : ℕ) (xs : List (List Command)) (i : ℕ) (d : List Command) → i < length xs
-    → starts_from layout number (take (i + 1) xs) ≡ starts_from layout number (take i xs) ++ at_start layout (number + i) (slice_index_or xs i d) ∷ []
-starts_more layout number xs i d within =
+pub starts_more : (rules : Rules) (number : ℕ) (xs : List (List Command)) (i : ℕ) (d : List Command) → i < length xs
+    → starts_from rules number (take (i + 1) xs) ≡ starts_from rules number (take i xs) ++ at_start rules (number + i) (slice_index_or xs i d) ∷ []
+starts_more rules number xs i d within =
     let long : length (take i xs) ≡ i = grind (arith, common_steps) in
-    ap (starts_from layout number) (take_more xs i d within) ∙ starts_push layout number (take i xs) (slice_index_or xs i d)
-    ∙ ap (λ n. starts_from layout number (take i xs) ++ at_start layout (number + n) (slice_index_or xs i d) ∷ []) long
+    ap (starts_from rules number) (take_more xs i d within) ∙ starts_push rules number (take i xs) (slice_index_or xs i d)
+    ∙ ap (λ n. starts_from rules number (take i xs) ++ at_start rules (number + n) (slice_index_or xs i d) ∷ []) long
 
 -- ---- sizes of phases
 
@@ -156,55 +156,55 @@ filled-none sizes i actors past =
 
 -- ---- all actors at their start
 
-pub starts-actors : (layout : Shape) (number : ℕ) (xs : List (List Command))
-    → actors_of (starts_from layout number xs) ≡ numbered_actors layout number xs
+pub starts-actors : (rules : Rules) (number : ℕ) (xs : List (List Command))
+    → actors_of (starts_from rules number xs) ≡ numbered_actors rules number xs
 unfolding numbered_actors
-starts-actors layout number [] = refl
-starts-actors layout number (x ∷ xs) = ap (λ rest. starting layout number x ∷ rest) (starts-actors layout (number + 1) xs)
+starts-actors rules number [] = refl
+starts-actors rules number (x ∷ xs) = ap (λ rest. starting rules number x ∷ rest) (starts-actors rules (number + 1) xs)
 
-pub starts-numbered : (layout : Shape) (number : ℕ) (xs : List (List Command)) → AreNumbered number (starts_from layout number xs)
+pub starts-numbered : (rules : Rules) (number : ℕ) (xs : List (List Command)) → AreNumbered number (starts_from rules number xs)
 unfolding starting
-starts-numbered layout number [] = tt
-starts-numbered layout number (x ∷ xs) = (refl, λ out. out, starts-numbered layout (number + 1) xs)
+starts-numbered rules number [] = tt
+starts-numbered rules number (x ∷ xs) = (refl, λ out. out, starts-numbered rules (number + 1) xs)
 
-pub started-long : (layout : Shape) (old all : List Standing) (xs : List (List Command)) (i : ℕ)
-    → all ≡ old ++ starts_from layout (length old + 1) (take i xs) → i < length xs → length all ≡ length old + i
-started-long layout old all xs i so_far within =
+pub started-long : (rules : Rules) (old all : List Standing) (xs : List (List Command)) (i : ℕ)
+    → all ≡ old ++ starts_from rules (length old + 1) (take i xs) → i < length xs → length all ≡ length old + i
+started-long rules old all xs i so_far within =
     let taken : length (take i xs) ≡ i = grind (arith, common_steps) in
     omega (
       arith,
       ap length so_far,
-      length-append old (starts_from layout (length old + 1) (take i xs)),
-      length_starts layout (length old + 1) (take i xs),
+      length-append old (starts_from rules (length old + 1) (take i xs)),
+      length_starts rules (length old + 1) (take i xs),
       taken,
     )
 
-module _ (layout : Shape) (old all new : List Standing) (xs : List (List Command)) (i len : ℕ) (it : Standing) (x copy : List Command)
-    (so_far : all ≡ old ++ starts_from layout (length old + 1) (take i xs)) (within : i < length xs) where
-  pub starts_step : x ≡ slice_index_or xs i x → len ≡ length all → copy ≡ x → it ≡ at_start layout (len + 1) copy → new ≡ all ++ it ∷ []
-      → new ≡ old ++ starts_from layout (length old + 1) (take (i + 1) xs)
+module _ (rules : Rules) (old all new : List Standing) (xs : List (List Command)) (i len : ℕ) (it : Standing) (x copy : List Command)
+    (so_far : all ≡ old ++ starts_from rules (length old + 1) (take i xs)) (within : i < length xs) where
+  pub starts_step : x ≡ slice_index_or xs i x → len ≡ length all → copy ≡ x → it ≡ at_start rules (len + 1) copy → new ≡ all ++ it ∷ []
+      → new ≡ old ++ starts_from rules (length old + 1) (take (i + 1) xs)
   starts_step at l c t n =
-      let number : len + 1 ≡ length old + 1 + i = omega (arith, started-long layout old all xs i so_far within, l) in
-      let item : it ≡ at_start layout (length old + 1 + i) (slice_index_or xs i x) =
-      t ∙ ap (λ k. at_start layout k copy) number ∙ ap (at_start layout (length old + 1 + i)) (c ∙ at) in
+      let number : len + 1 ≡ length old + 1 + i = omega (arith, started-long rules old all xs i so_far within, l) in
+      let item : it ≡ at_start rules (length old + 1 + i) (slice_index_or xs i x) =
+      t ∙ ap (λ k. at_start rules k copy) number ∙ ap (at_start rules (length old + 1 + i)) (c ∙ at) in
       n ∙ ap (λ l. l ++ it ∷ []) so_far
-      ∙ append_assoc old (starts_from layout (length old + 1) (take i xs)) (it ∷ [])
-      ∙ ap (λ y. old ++ (starts_from layout (length old + 1) (take i xs) ++ y ∷ [])) item
-      ∙ ap (λ l. old ++ l) (sym (starts_more layout (length old + 1) xs i x within))
+      ∙ append_assoc old (starts_from rules (length old + 1) (take i xs)) (it ∷ [])
+      ∙ ap (λ y. old ++ (starts_from rules (length old + 1) (take i xs) ++ y ∷ [])) item
+      ∙ ap (λ l. old ++ l) (sym (starts_more rules (length old + 1) xs i x within))
 
-module _ (layout : Shape) (phases : List (List (List Command))) (i : ℕ) (phase : List (List Command)) (all : List Standing)
+module _ (rules : Rules) (phases : List (List (List Command))) (i : ℕ) (phase : List (List Command)) (all : List Standing)
     (within : i < length phases) (at : phase ≡ slice_index_or phases i phase)
-    (so_far : all ≡ starts_from layout 1 (flat_map (λ p. p) (take i phases))) where
+    (so_far : all ≡ starts_from rules 1 (flat_map (λ p. p) (take i phases))) where
   phases-long : length all ≡ length (flat_map (λ (p : List (List Command)). p) (take i phases))
-  phases-long = ap length so_far ∙ length_starts layout 1 (flat_map (λ p. p) (take i phases))
+  phases-long = ap length so_far ∙ length_starts rules 1 (flat_map (λ p. p) (take i phases))
 
   pub phase-fits : length (flat_map (λ (p : List (List Command)). p) phases) < 2 ^ 16 → length all + length phase < 2 ^ 16
   phase-fits few =
       let fits = length-flat_map-take (λ (p : List (List Command)). p) phases i phase within in
       let same = ap length at in omega (arith, few, fits, same, phases-long)
 
-  pub phase_step : (new : List Standing) → new ≡ all ++ starts_from layout (length all + 1) phase
-      → new ≡ starts_from layout 1 (flat_map (λ p. p) (take (i + 1) phases))
+  pub phase_step : (new : List Standing) → new ≡ all ++ starts_from rules (length all + 1) phase
+      → new ≡ starts_from rules 1 (flat_map (λ p. p) (take (i + 1) phases))
   phase_step new n =
       let before = flat_map (λ (p : List (List Command)). p) (take i phases) in
       let number : length all + 1 ≡ 1 + length before = omega (arith, phases-long) in
@@ -212,8 +212,8 @@ module _ (layout : Shape) (phases : List (List (List Command))) (i : ℕ) (phase
       ap (flat_map (λ (p : List (List Command)). p)) (take_more phases i phase within)
       ∙ flat_map-append (λ (p : List (List Command)). p) (take i phases) (slice_index_or phases i phase ∷ [])
       ∙ ap (λ l. before ++ l) (append-nil (slice_index_or phases i phase)) ∙ ap (λ l. before ++ l) (sym at) in
-      n ∙ ap₂ (λ a k. a ++ starts_from layout k phase) so_far number
-      ∙ sym (starts_append layout 1 before phase) ∙ ap (starts_from layout 1) (sym more)
+      n ∙ ap₂ (λ a k. a ++ starts_from rules k phase) so_far number
+      ∙ sym (starts_append rules 1 before phase) ∙ ap (starts_from rules 1) (sym more)
 
 -- what holds of each item of all lists holds of those of one
 all-left : {X : Type 0} (P : X → Type 0) (xs ys : List X) → AllByRecursion P (xs ++ ys) → AllByRecursion P xs × AllByRecursion P ys

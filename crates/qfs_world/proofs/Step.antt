@@ -69,8 +69,8 @@ pub record AtTurn (actors : List Standing) (number place : ℕ) (it : Standing) 
   pub rests : IsOut it.readiness → ⊥
   pub unfinished : has_finished it.actor ≡ false
 
-pub turn-place : {D : Type 0} (script : Script) (nodes : List (NodeState D)) (actors : List Standing) (phases : List ℕ) (order : List Step)
-    → IsAtWork script nodes actors phases order → (number : ℕ)
+pub turn-place : {D : Type 0} (script : Script) (counts : List ℕ) (nodes : List (NodeState D)) (actors : List Standing) (phases : List ℕ) (order : List Step)
+    → IsAtWork script counts nodes actors phases order → (number : ℕ)
     → IsTrue (list_any (λ n. n == number) (turn_of script (actors_of actors)))
     → (it : Standing) × AtTurn actors number (number - 1) it
 turn-place script nodes actors phases order work number turn =
@@ -90,26 +90,25 @@ turn-place script nodes actors phases order work number turn =
     } in (found.it, subst (λ p. AtTurn actors number p found.it) place at)
 
 module _ {D : Type 0} where
-  -- nodes with this metaserver and these chunk servers have them
-  pub again : (script : Script) (nodes : List (NodeState D)) (meta : Metaserver) (stores : List Stored) → nodes ≡ nodes_with meta stores
-      → meta.layout ≡ script.layout
-      → nodes ≡ Node.Meta (record { layout = script.layout; image = image_of nodes }) ∷ map Node.Store (stores_of nodes)
-  again script nodes meta stores e layout =
+  -- nodes with a script's metaserver and these chunk servers have them
+  pub again : (script : Script) (nodes : List (NodeState D)) (image : MetaImage) (stores : List Stored)
+      → nodes ≡ nodes_with (meta_of script image) stores
+      → nodes ≡ nodes_with (meta_of script (image_of nodes)) (stores_of nodes)
+  again script nodes image stores e =
       e
-      ∙ ap (λ l. nodes_with (record { layout = l; image = meta.image }) stores) layout
-      ∙ ap (λ ns. nodes_with (record { layout = script.layout; image = image_of ns }) stores) (sym e)
-      ∙ ap (λ ss. nodes_with (record { layout = script.layout; image = image_of nodes }) ss) (sym (stores-with D meta stores))
-      ∙ ap (λ ns. nodes_with (record { layout = script.layout; image = image_of nodes }) (stores_of ns)) (sym e)
+      ∙ ap (λ ns. nodes_with (meta_of script (image_of ns)) stores) (sym e)
+      ∙ ap (λ ss. nodes_with (meta_of script (image_of nodes)) ss) (sym (stores-with D (meta_of script image) stores))
+      ∙ ap (λ ns. nodes_with (meta_of script (image_of nodes)) (stores_of ns)) (sym e)
 
   -- a turn of an actor, and what the nodes and actors are behind it
-  module _ (script : Script) (nodes : List (NodeState D)) (actors : List Standing) (phases : List ℕ) (order : List Step)
-      (work : IsAtWork script nodes actors phases order) (place : ℕ) (it next : Standing) (outcome : Outcome) (behind : List (NodeState D))
+  module _ (script : Script) (counts : List ℕ) (nodes : List (NodeState D)) (actors : List Standing) (phases : List ℕ) (order : List Step)
+      (work : IsAtWork script counts nodes actors phases order) (place : ℕ) (it next : Standing) (outcome : Outcome) (behind : List (NodeState D))
       (there : slice_get actors place ≡ Some it) (own : it.actor.number ≡ suc place)
       (turns : IsTrue (list_any (λ n. n == suc place) (turn_of script (actors_of actors))))
       (rests : IsOut next.readiness → ⊥)
       (turn : TakesTurn nodes it.actor outcome behind next.actor) where
     abbrev meta : Metaserver
-    meta = record { layout = script.layout; image = image_of nodes }
+    meta = meta_of script (image_of nodes)
 
     abbrev stores : List Stored
     stores = stores_of nodes
@@ -126,20 +125,19 @@ module _ {D : Type 0} where
         (ap (λ (a : Actor). a.number) e ∙ number-kept it.actor reply) rests
 
     -- what follows of the nodes behind the turn
-    record Behind (meta' : Metaserver) (stores' : List Stored) (reply : NodeReply) : Type 0 where
-      pub nodes_are : behind ≡ nodes_with meta' stores'
-      pub layout : meta'.layout ≡ script.layout
+    record Behind (image' : MetaImage) (stores' : List Stored) (reply : NodeReply) : Type 0 where
+      pub nodes_are : behind ≡ nodes_with (meta_of script image') stores'
       pub took : next.actor ≡ after_reply it.actor reply
-      pub follows : AllTell stores' → Follows script (order ++ entry ∷ []) meta'.image stores' (slice_set (actors_of actors) place next.actor)
+      pub follows : AllTell stores' → Follows script counts (order ++ entry ∷ []) image' stores' (slice_set (actors_of actors) place next.actor)
 
-    at-work : (meta' : Metaserver) (stores' : List Stored) (reply : NodeReply) → Behind meta' stores' reply
-        → IsAtWork script behind (slice_set actors place next) phases (order ++ entry ∷ [])
-    at-work meta' stores' reply b =
-        let image : meta'.image ≡ image_of behind = ap image_of (sym b.nodes_are) in
-        let same : stores' ≡ stores_of behind = sym (stores-with D meta' stores') ∙ ap stores_of (sym b.nodes_are) in
+    at-work : (image' : MetaImage) (stores' : List Stored) (reply : NodeReply) → Behind image' stores' reply
+        → IsAtWork script counts behind (slice_set actors place next) phases (order ++ entry ∷ [])
+    at-work image' stores' reply b =
+        let image : image' ≡ image_of behind = ap image_of (sym b.nodes_are) in
+        let same : stores' ≡ stores_of behind = sym (stores-with D (meta_of script image') stores') ∙ ap stores_of (sym b.nodes_are) in
         let long : length (slice_set actors place next) ≡ length actors = length-set actors place next in
         record {
-          nodes_are = again script behind meta' stores' b.nodes_are b.layout;
+          nodes_are = again script behind image' stores' b.nodes_are;
           numbered = moved reply b.took;
           few = omega (arith, work.few, long);
           phases_are = work.phases_are;
@@ -147,16 +145,15 @@ module _ {D : Type 0} where
           follows =
               λ all.
               let tell : AllTell stores' = subst AllTell (sym same) all in
-              let P : MetaImage → Type 0 = λ m. Follows script (order ++ entry ∷ []) m (stores_of behind) (actors_of (slice_set actors place next)) in
-              let Q : List Stored → Type 0 = λ s. Follows script (order ++ entry ∷ []) meta'.image s (actors_of (slice_set actors place next)) in
-              let R : List Actor → Type 0 = λ a. Follows script (order ++ entry ∷ []) meta'.image stores' a in
+              let P : MetaImage → Type 0 = λ m. Follows script counts (order ++ entry ∷ []) m (stores_of behind) (actors_of (slice_set actors place next)) in
+              let Q : List Stored → Type 0 = λ s. Follows script counts (order ++ entry ∷ []) image' s (actors_of (slice_set actors place next)) in
+              let R : List Actor → Type 0 = λ a. Follows script counts (order ++ entry ∷ []) image' stores' a in
               subst P image (subst Q same (subst R (sym (actors-set actors place next)) (b.follows tell)));
         }
 
-    by-meta : (t : OfMeta meta stores it.actor outcome behind next.actor) → Behind t.next stores (From.Meta t.answer)
+    by-meta : (t : OfMeta meta stores it.actor outcome behind next.actor) → Behind t.next.image stores (From.Meta t.answer)
     by-meta t = record {
-      nodes_are = t.nodes_are;
-      layout = t.serves.layout;
+      nodes_are = t.nodes_are ∙ ap (λ m. nodes_with m stores) (λ i. record { layout = t.serves.layout i; term = t.serves.term i; image = t.next.image });
       took = t.took;
       follows =
           λ tell.
@@ -164,10 +161,9 @@ module _ {D : Type 0} where
           behind next.actor (work.follows tell) t;
     }
 
-    by-none : (t : OfNone meta stores it.actor outcome behind next.actor) → Behind meta stores no_server
+    by-none : (t : OfNone meta stores it.actor outcome behind next.actor) → Behind (image_of nodes) stores no_server
     by-none t = record {
       nodes_are = t.nodes_are;
-      layout = refl;
       took = t.took;
       follows =
           λ tell.
@@ -176,41 +172,40 @@ module _ {D : Type 0} where
     }
 
     by-store : (t : OfStore meta stores it.actor outcome behind next.actor)
-        → Behind meta (slice_set stores t.place t.next) (From.Chunk t.answer)
+        → Behind (image_of nodes) (slice_set stores t.place t.next) (From.Chunk t.answer)
     by-store t = record {
       nodes_are = t.nodes_are;
-      layout = refl;
       took = t.took;
       follows =
           λ tell.
-          let before = all-tell-set stores t.place t.stored t.next t.there t.serves.goes_on.tells tell in
+          let before = all-tell-set stores t.place t.stored t.next t.there t.serves.tells tell in
           follows-store script order meta stores (actors_of actors) place it.actor refl own (actors-at actors place it there) turns outcome
           behind next.actor (work.follows before) t;
     }
 
     -- a world at work is at work behind a step
-    pub works-on : IsAtWork script behind (slice_set actors place next) phases (order ++ entry ∷ [])
+    pub works-on : IsAtWork script counts behind (slice_set actors place next) phases (order ++ entry ∷ [])
     works-on =
         elim took [
-          | inl t ↦ at-work t.next stores (From.Meta t.answer) (by-meta t)
+          | inl t ↦ at-work t.next.image stores (From.Meta t.answer) (by-meta t)
           | inr s ↦
               elim s [
-                | inl t ↦ at-work meta (slice_set stores t.place t.next) (From.Chunk t.answer) (by-store t)
-                | inr t ↦ at-work meta stores no_server (by-none t)
+                | inl t ↦ at-work (image_of nodes) (slice_set stores t.place t.next) (From.Chunk t.answer) (by-store t)
+                | inr t ↦ at-work (image_of nodes) stores no_server (by-none t)
               ]
         ]
 
     -- ---- what a step tells
 
-    record Tells (meta' : Metaserver) (stores' : List Stored) (reply : NodeReply) (node : ℕ) : Type 0 where
-      pub is : Behind meta' stores' reply
+    record Tells (image' : MetaImage) (stores' : List Stored) (reply : NodeReply) (node : ℕ) : Type 0 where
+      pub is : Behind image' stores' reply
       pub to : node_of it.actor ≡ Some node
-      pub meta_stays : (node ≡ 0 → ⊥) → meta'.image ≡ image_of nodes
+      pub meta_stays : (node ≡ 0 → ⊥) → image' ≡ image_of nodes
       pub stores_stay : (server : ℕ) → (server ≡ node → ⊥) → numbered stores' server ≡ numbered stores server
       pub goes_on : AllZip GoesOn stores stores'
       pub cause : outcome ≡ Ended.Failed → RoseAt stores stores' node
 
-    tells-meta : (t : OfMeta meta stores it.actor outcome behind next.actor) → Tells t.next stores (From.Meta t.answer) 0
+    tells-meta : (t : OfMeta meta stores it.actor outcome behind next.actor) → Tells t.next.image stores (From.Meta t.answer) 0
     tells-meta t = record {
       is = by-meta t;
       to = node-meta it.actor t.request t.asked;
@@ -220,7 +215,7 @@ module _ {D : Type 0} where
       cause = λ failed. absurd (t.serves.sure (sym (meta-ends outcome t.answer t.outcome_is) ∙ failed));
     }
 
-    tells-none : (t : OfNone meta stores it.actor outcome behind next.actor) → Tells meta stores no_server t.server
+    tells-none : (t : OfNone meta stores it.actor outcome behind next.actor) → Tells (image_of nodes) stores no_server t.server
     tells-none t = record {
       is = by-none t;
       to = node-chunk it.actor t.server t.request t.asked;
@@ -231,13 +226,13 @@ module _ {D : Type 0} where
     }
 
     tells-store : (t : OfStore meta stores it.actor outcome behind next.actor)
-        → Tells meta (slice_set stores t.place t.next) (From.Chunk t.answer) (suc t.place)
+        → Tells (image_of nodes) (slice_set stores t.place t.next) (From.Chunk t.answer) (suc t.place)
     tells-store t = record {
       is = by-store t;
       to = node-chunk it.actor (suc t.place) t.request t.asked;
       meta_stays = λ apart. refl;
       stores_stay = λ server apart. numbered-set-other stores t.place server t.next apart;
-      goes_on = goes-set stores t.place t.stored t.next t.there t.serves.goes_on;
+      goes_on = goes-set stores t.place t.stored t.next t.there (goes-on t.stored t.request t.answer t.next t.serves);
       cause =
           λ failed.
           record {
@@ -246,7 +241,7 @@ module _ {D : Type 0} where
             was = numbered-is stores t.place t.stored t.there;
             is_now = numbered-is (slice_set stores t.place t.next) t.place t.next (get-set stores t.place t.stored t.next t.there);
             rose =
-                fault-of t.answer.answer (Rose t.stored.faults t.next.faults) t.serves.cause
+                failed-once t.stored t.request t.answer t.next t.serves
                 (sym (chunk-ends outcome t.answer t.outcome_is) ∙ failed);
           };
     }
@@ -255,6 +250,7 @@ module _ {D : Type 0} where
       abbrev before_step : Running D L
       before_step = record {
         script = script;
+        counts = counts;
         meta = image_of nodes;
         stores = stores_of nodes;
         actors = actors_of actors;
@@ -266,6 +262,7 @@ module _ {D : Type 0} where
       abbrev behind_step : Running D L
       behind_step = record {
         script = script;
+        counts = counts;
         meta = image_of behind;
         stores = stores_of behind;
         actors = actors_of (slice_set actors place next);
@@ -274,31 +271,39 @@ module _ {D : Type 0} where
         disks = disks;
       }
 
-      steps : (meta' : Metaserver) (stores' : List Stored) (reply : NodeReply) (node : ℕ) → Tells meta' stores' reply node
+      steps : (image' : MetaImage) (stores' : List Stored) (reply : NodeReply) (node : ℕ) → Tells image' stores' reply node
           → Steps before_step (suc place) outcome behind_step
-      steps meta' stores' reply node t =
-          let same : stores' ≡ stores_of behind = sym (stores-with D meta' stores') ∙ ap stores_of (sym t.is.nodes_are) in
-          let image : image_of behind ≡ meta'.image = ap image_of t.is.nodes_are in
+      steps image' stores' reply node t =
+          let same : stores' ≡ stores_of behind = sym (stores-with D (meta_of script image') stores') ∙ ap stores_of (sym t.is.nodes_are) in
+          let image : image_of behind ≡ image' = ap image_of t.is.nodes_are in
           let all : actors_of (slice_set actors place next) ≡ slice_set (actors_of actors) place (after_reply it.actor reply) =
           actors-set actors place next ∙ ap (slice_set (actors_of actors) place) t.is.took in
-          let goes_on : AllZip GoesOn stores (stores_of behind) = subst (AllZip GoesOn stores) same t.goes_on in
           record {
-            actor = it.actor;
             node = node;
-            reply = reply;
-            of = numbered-is (actors_of actors) place it.actor (actors-at actors place it there);
-            to = t.to;
-            turns =
-                let P : List (NodeState D) → Type 0 = λ ns. TakesTurn ns it.actor outcome (nodes_of behind_step) (after_reply it.actor reply) in
-                let Q : List (NodeState D) → Type 0 = λ ns. TakesTurn nodes it.actor outcome ns (after_reply it.actor reply) in
-                subst P work.nodes_are (subst Q works-on.nodes_are (subst (λ a. TakesTurn nodes it.actor outcome behind a) t.is.took turn));
-            order = refl;
-            actors = all ∙ sym (renumbered-is (actors_of actors) place (after_reply it.actor reply));
+            moves = record {
+              actor = it.actor;
+              reply = reply;
+              of = numbered-is (actors_of actors) place it.actor (actors-at actors place it there);
+              to = t.to;
+              turns =
+                  let P : List (NodeState D) → Type 0 = λ ns. TakesTurn ns it.actor outcome (nodes_of behind_step) (after_reply it.actor reply) in
+                  let Q : List (NodeState D) → Type 0 = λ ns. TakesTurn nodes it.actor outcome ns (after_reply it.actor reply) in
+                  subst P work.nodes_are (subst Q works-on.nodes_are (subst (λ a. TakesTurn nodes it.actor outcome behind a) t.is.took turn));
+              actors = all ∙ sym (renumbered-is (actors_of actors) place (after_reply it.actor reply));
+              order = refl;
+              falls =
+                  let fewer = left-all-falls (actors_of actors) place it.actor reply (actors-at actors place it there) unfinished in
+                  omega (arith, fewer, ap steps_left all);
+            };
             others = record {
               meta = λ apart. image ∙ t.meta_stays apart;
               stores = λ server apart. ap (λ ss. numbered ss server) (sym same) ∙ t.stores_stay server apart;
+              script = refl;
+              counts = refl;
+              spare = refl;
+              disks = refl;
             };
-            goes_on = goes_on;
+            goes_on = subst (AllZip GoesOn stores) same t.goes_on;
             cause =
                 λ failed.
                 let f = t.cause failed in
@@ -309,34 +314,16 @@ module _ {D : Type 0} where
                   behind_is = ap (λ ss. numbered ss node) (sym same) ∙ f.is_now;
                   rose = f.rose;
                 };
-            faults =
-                λ tell.
-                let follows = work.follows tell in
-                let more =
-                one-more script order _ (suc place) it.actor node outcome follows.world
-                (numbered-is (actors_of actors) place it.actor (actors-at actors place it there)) t.to in
-                let cause : outcome ≡ Ended.Failed → RoseAt stores (stores_of behind) node =
-                λ failed. subst (λ ss. RoseAt stores ss node) same (t.cause failed) in
-                record {
-                  at_servers = λ n old new. rises-at script order (suc place) node outcome more stores (stores_of behind) cause n old new goes_on;
-                  elsewhere = fails-nowhere-else script order (suc place) node outcome more stores (stores_of behind) cause;
-                };
-            falls =
-                let fewer = left-all-falls (actors_of actors) place it.actor reply (actors-at actors place it there) unfinished in
-                omega (arith, fewer, ap steps_left all);
-            script_is = refl;
-            spare_are = refl;
-            disks_are = refl;
           }
 
       pub steps-on : Steps before_step (suc place) outcome behind_step
       steps-on =
           elim took [
-            | inl t ↦ steps t.next stores (From.Meta t.answer) 0 (tells-meta t)
+            | inl t ↦ steps t.next.image stores (From.Meta t.answer) 0 (tells-meta t)
             | inr s ↦
                 elim s [
-                  | inl t ↦ steps meta (slice_set stores t.place t.next) (From.Chunk t.answer) (suc t.place) (tells-store t)
-                  | inr t ↦ steps meta stores no_server t.server (tells-none t)
+                  | inl t ↦ steps (image_of nodes) (slice_set stores t.place t.next) (From.Chunk t.answer) (suc t.place) (tells-store t)
+                  | inr t ↦ steps (image_of nodes) stores no_server t.server (tells-none t)
                 ]
           ]
 
@@ -347,8 +334,8 @@ length-with : {D : Type 0} (nodes : List (NodeState D)) (meta : Metaserver) (sto
 length-with {D} nodes meta stores e = ap length e ∙ ap (λ n. suc n) (length-map {A = Stored} {B = NodeState D} stores Node.Store)
 
 -- as many nodes have as many chunk servers
-pub stores-long : {D : Type 0} (script : Script) (nodes behind : List (NodeState D)) (actors next : List Standing) (phases : List ℕ) (order more : List Step)
-    → IsAtWork script nodes actors phases order → IsAtWork script behind next phases more → length behind ≡ length nodes
+pub stores-long : {D : Type 0} (script : Script) (counts : List ℕ) (nodes behind : List (NodeState D)) (actors next : List Standing) (phases : List ℕ) (order more : List Step)
+    → IsAtWork script counts nodes actors phases order → IsAtWork script counts behind next phases more → length behind ≡ length nodes
     → length (stores_of behind) ≡ length (stores_of nodes)
 stores-long script nodes behind actors next phases order more work works same =
     omega (arith, length-with nodes _ _ work.nodes_are, length-with behind _ _ works.nodes_are, same)
@@ -358,9 +345,9 @@ pub slice-back : {X : Type 0} (count : ℕ) (xs ys : List X) → count ≡ lengt
     → take count (ys ++ drop (length ys) xs) ≡ ys
 slice-back count xs ys c l = grind (arith, common_steps)
 
-module _ {D L : Type 0} (script : Script) (nodes : List (NodeState D)) (actors : List Standing) (phases : List ℕ) (order : List Step)
+module _ {D L : Type 0} (script : Script) (counts : List ℕ) (nodes : List (NodeState D)) (actors : List Standing) (phases : List ℕ) (order : List Step)
     (spare : List D) (disks : MetaDisks L)
-    (work : IsAtWork script nodes actors phases order) (number place : ℕ) (it next : Standing) (at : AtTurn actors number place it)
+    (work : IsAtWork script counts nodes actors phases order) (number place : ℕ) (it next : Standing) (at : AtTurn actors number place it)
     (turn : IsTrue (list_any (λ n. n == number) (turn_of script (actors_of actors))))
     (rests : IsOut next.readiness → ⊥) (behind : List (NodeState D)) (more : List Step) where
   turns : IsTrue (list_any (λ n. n == suc place) (turn_of script (actors_of actors)))
@@ -371,15 +358,15 @@ module _ {D L : Type 0} (script : Script) (nodes : List (NodeState D)) (actors :
   entry-is outcome e = e ∙ ap (λ n. order ++ record { actor = n; outcome = outcome } ∷ []) at.own
 
   -- where the actor is as it was, so are all
-  pub stays : behind ≡ nodes → next.actor ≡ it.actor → more ≡ order → IsAtWork script behind (slice_set actors place next) phases more
+  pub stays : behind ≡ nodes → next.actor ≡ it.actor → more ≡ order → IsAtWork script counts behind (slice_set actors place next) phases more
   stays b a m =
       let same : actors_of (slice_set actors place next) ≡ actors_of actors =
       actors-set actors place next ∙ ap (slice_set (actors_of actors) place) a
       ∙ set-same (actors_of actors) place it.actor (actors-at actors place it at.there) in
       let long : length (slice_set actors place next) ≡ length actors = length-set actors place next in
-      let P : List (NodeState D) → Type 0 = λ ns. IsAtWork script ns (slice_set actors place next) phases more in
-      let Q : List Step → Type 0 = λ o. IsAtWork script nodes (slice_set actors place next) phases o in
-      let R : List Actor → Type 0 = λ all. Follows script order (image_of nodes) (stores_of nodes) all in
+      let P : List (NodeState D) → Type 0 = λ ns. IsAtWork script counts ns (slice_set actors place next) phases more in
+      let Q : List Step → Type 0 = λ o. IsAtWork script counts nodes (slice_set actors place next) phases o in
+      let R : List Actor → Type 0 = λ all. Follows script counts order (image_of nodes) (stores_of nodes) all in
       subst P (sym b) (subst Q (sym m) (record {
         nodes_are = work.nodes_are;
         numbered = numbered-set 1 actors place it next work.numbered at.there (ap (λ (x : Actor). x.number) a) rests;
@@ -392,10 +379,10 @@ module _ {D L : Type 0} (script : Script) (nodes : List (NodeState D)) (actors :
   pub works : (r : Result Outcome AllocError) → IfOk r (λ outcome. TakesTurn nodes it.actor outcome behind next.actor)
       → IfOk r (λ outcome. more ≡ order ++ record { actor = it.actor.number; outcome = outcome } ∷ [])
       → OnErr r (behind ≡ nodes) → OnErr r (next.actor ≡ it.actor) → OnErr r (more ≡ order)
-      → IsAtWork script behind (slice_set actors place next) phases more
+      → IsAtWork script counts behind (slice_set actors place next) phases more
   works (Ok outcome) t o b a m =
-      subst (λ l. IsAtWork script behind (slice_set actors place next) phases l) (sym (entry-is outcome o))
-      (works-on script nodes actors phases order work place it next outcome behind at.there at.own turns rests t)
+      subst (λ l. IsAtWork script counts behind (slice_set actors place next) phases l) (sym (entry-is outcome o))
+      (works-on script counts nodes actors phases order work place it next outcome behind at.there at.own turns rests t)
   works (Err error) t o b a m = stays b a m
 
   abbrev pub seen : Running D L
@@ -427,7 +414,7 @@ module _ {D L : Type 0} (script : Script) (nodes : List (NodeState D)) (actors :
       let P : List Step → Type 0 = λ l. Steps seen number outcome (record seen_behind { order = l }) in
       let Q : ℕ → Type 0 = λ n. Steps seen n outcome (record seen_behind { order = order ++ record { actor = suc place; outcome = outcome } ∷ [] }) in
       subst P (sym (entry-is outcome o))
-      (subst Q (sym at.number_is) (steps-on script nodes actors phases order work place it next outcome behind at.there at.own turns rests t spare disks at.unfinished))
+      (subst Q (sym at.number_is) (steps-on script counts nodes actors phases order work place it next outcome behind at.there at.own turns rests t spare disks at.unfinished))
   tells (Err error) t o = tt
 
   pub stays-same : (r : Result Outcome AllocError) → OnErr r (behind ≡ nodes) → OnErr r (next.actor ≡ it.actor) → OnErr r (more ≡ order)

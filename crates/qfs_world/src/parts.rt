@@ -7,9 +7,9 @@ ghost use Rattle.qfs_world.specs.Calls.{AreHome, lines_of_actors};
 use crate::node::NodeState;
 use qfs_actor::Actor;
 use qfs_base::command::ReplyList;
-use qfs_base::history::Order;
 use qfs_base::image::MetaImage;
 use qfs_base::listing::Listing;
+use qfs_base::order::Order;
 use qfs_device::{ChunkDevice, MetaDisks};
 use std::alloc::{AllocError, Global};
 

@@ -1,10 +1,11 @@
 //! The world at work.
-ghost use Rattle.std.specs.Prelude.{◌≡◌, ◌+◌, ◌≤◌, ◌<◌, ◌++◌, ◌∷◌, [], length, map, All, IfOk, IfErr, OnErr, false, vec_len, vec_capacity};
+ghost use Rattle.std.specs.Prelude.{◌≡◌, ◌+◌, ◌≤◌, ◌<◌, ◌++◌, ◌∷◌, [], length, map, take, All, IfOk, IfErr, OnErr, false, vec_len, vec_capacity};
 ghost use Rattle.qfs_machine.specs.Asking.{IsOut};
 ghost use Rattle.std.specs.Option.{option_and_then};
+ghost use Rattle.qfs_base.specs.Rules.{rules_of};
 ghost use Rattle.qfs_model_actor.specs.Actor.{has_finished, node_of};
 ghost use Rattle.qfs_model_world.specs.World.{numbered};
-ghost use Rattle.qfs_world.specs.AtWork.{TakesTurn, place_in, sizes_of, starts_from};
+ghost use Rattle.qfs_world.specs.AtWork.{TakesTurn, meta_of, place_in, sizes_of, starts_from};
 ghost use Rattle.qfs_world.specs.Calls.{IsNew, Starts, HasTurn, Steps, AreDevicesOf, lines_of_actors};
 ghost use Rattle.qfs_world.specs.Follows.{IsAfter};
 ghost use Rattle.qfs_world.specs.Running.{IsRunnable, commands_by_actor, turn_of};
@@ -16,11 +17,14 @@ use crate::parts::{Parts, PartsError, WorldLoadError, all_replies, hand_back};
 use crate::start::{first_actors, first_node, phase_sizes, take_devices};
 use crate::turns::current_turn;
 use qfs_actor::Actor;
-use qfs_base::history::{Order, Outcome, Step};
+use qfs_base::history::{Outcome, Step};
+use qfs_base::listing::Listing;
 use qfs_base::lists::TurnList;
 use qfs_base::numbers::{ActorId, NodeId};
+use qfs_base::order::Order;
 use qfs_base::script::Script;
 use qfs_device::{ChunkDevice, LogDisk, MetaDisks};
+use qfs_machine::Ghost;
 use std::alloc::{AllocError, Global};
 use std::marker::Model;
 use std::snapshot::Snapshot;
@@ -32,6 +36,8 @@ use std::snapshot::Snapshot;
 pub struct World<D: ChunkDevice, L: LogDisk> {
     alloc: Global,
     script: Snapshot<Script>,
+    /// How often the servers' devices had failed at the start.
+    counts: Ghost<Listing<u64>>,
     /// The metaserver, and behind it server s at s.
     nodes: Vec<NodeState<D>>,
     /// Actor a stands at a - 1.
@@ -52,9 +58,9 @@ impl<D: ChunkDevice, L: LogDisk> Model for World<D, L> {
 
     ghost use Rattle.qfs_world.specs.AtWork.{IsAtWork, image_of, stores_of, actors_of};
 
-    ghost view = { λ it. record { script = it.script.value; meta = image_of it.nodes.items; stores = stores_of it.nodes.items; actors = actors_of it.actors.items; order = it.order; spare = it.spare.items; disks = it.disks } };
+    ghost view = { λ it. record { script = it.script.value; counts = it.counts.value; meta = image_of it.nodes.items; stores = stores_of it.nodes.items; actors = actors_of it.actors.items; order = it.order; spare = it.spare.items; disks = it.disks } };
 
-    ghost invariant = { λ it. IsAtWork it.script.value it.nodes.items it.actors.items it.phases.items it.order × (length (stores_of it.nodes.items) + length it.spare.items ≤ vec_capacity it.spare) };
+    ghost invariant = { λ it. IsAtWork it.script.value it.counts.value it.nodes.items it.actors.items it.phases.items it.order × (length (stores_of it.nodes.items) + length it.spare.items ≤ vec_capacity it.spare) };
 }
 
 impl<D: ChunkDevice, L: LogDisk> World<D, L> {
@@ -87,11 +93,14 @@ impl<D: ChunkDevice, L: LogDisk> World<D, L> {
                     phases,
                 },
             ) => {
+                let counts = counts_at_start(&devices, script);
                 let mut spare = devices;
-                take_devices(alloc, &mut spare, &mut nodes, script.servers);
+                let stripe = script.layout.s;
+                take_devices(alloc, &mut spare, &mut nodes, script.servers, stripe);
                 Ok(World {
                     alloc,
                     script: Snapshot::of(script),
+                    counts,
                     nodes,
                     actors,
                     phases,
@@ -180,6 +189,13 @@ impl<D: ChunkDevice, L: LogDisk> World<D, L> {
     }
 }
 
+/// How often the devices of a script's servers have failed so far.
+fn counts_at_start<D: ChunkDevice>(devices: &Vec<D>, script: &Script) -> Ghost<Listing<u64>>
+    ensures { result.value ≡ map D.faults (take script.now.servers devices.now.items) }
+{
+    Ghost::of(devices, script)
+}
+
 /// The nodes and actors of a world at its start, but for the chunk servers.
 #[derive(Drop)]
 struct Prepared<D: ChunkDevice> {
@@ -191,9 +207,11 @@ struct Prepared<D: ChunkDevice> {
 /// Takes all memory that a world takes at its start.
 fn prepare<D: ChunkDevice>(alloc: Global, script: &Script) -> Result<Prepared<D>, AllocError>
     requires { IsRunnable script.now }
-    ensures nodes { IfOk result (λ it. it.nodes.items ≡ Node.Meta (record { layout = script.now.layout; image = opening script.now.servers }) ∷ []) }
+    ensures nodes { IfOk result (λ it. it.nodes.items
+        ≡ Node.Meta (meta_of script.now (opening script.now.servers)) ∷ []) }
     ensures room { IfOk result (λ it. vec_len it.nodes + script.now.servers ≤ vec_capacity it.nodes) }
-    ensures actors { IfOk result (λ it. it.actors.items ≡ starts_from script.now.layout 1 (commands_by_actor script.now)) }
+    ensures actors { IfOk result (λ it. it.actors.items
+        ≡ starts_from (rules_of script.now) 1 (commands_by_actor script.now)) }
     ensures phases { IfOk result (λ it. it.phases.items ≡ sizes_of script.now.phases) }
 {
     let nodes = first_node(alloc, script)?;

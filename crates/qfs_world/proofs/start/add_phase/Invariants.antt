@@ -5,4 +5,4 @@ use Rattle.qfs_world.proofs.start.add_phase.Given as goal
 
 abbrev pub invariant-loop-commands : goal.invariant-loop-commands
 invariant-loop-commands l =
-    l.actors.items ≡ l.initial.actors.items ++ starts_from l.layout (length l.initial.actors.items + 1) (take l.commands-index l.phase)
+    l.actors.items ≡ l.initial.actors.items ++ starts_from l.rules (length l.initial.actors.items + 1) (take l.commands-index l.phase)

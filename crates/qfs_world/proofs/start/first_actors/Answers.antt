@@ -10,7 +10,7 @@ pub add_phase-requires-clause-few : goal.add_phase-requires-clause-few
 add_phase-requires-clause-few c =
     let few : length (flat_map (λ (p : List (List Command)). p) c.as_slice-phases.result.now) < 2 ^ 16 =
     rw c.as_slice-phases.ensures c.requires.actors in
-    rw c.as_slice.ensures (phase-fits c.args.script.now.layout c.as_slice-phases.result.now c.loop-phase.phase-index c.phase-item.result
+    rw c.as_slice.ensures (phase-fits c.rules_of.result c.as_slice-phases.result.now c.loop-phase.phase-index c.phase-item.result
     c.loop-phase.actors.items c.loop-phase-test.true c.phase-item.is c.loop-phase.invariant few)
 
 pub add_phase-requires-clause-built : goal.add_phase-requires-clause-built
@@ -22,5 +22,5 @@ add_phase-requires-clause-built c =
 
 pub loop-phase-preserved : goal.loop-phase-preserved
 loop-phase-preserved c =
-    phase_step c.args.script.now.layout c.as_slice-phases.result.now c.loop-phase.phase-index c.phase-item.result c.loop-phase.actors.items
+    phase_step c.rules_of.result c.as_slice-phases.result.now c.loop-phase.phase-index c.phase-item.result c.loop-phase.actors.items
     c.loop-phase-test.true c.phase-item.is c.loop-phase.invariant _ (rw c.as_slice.ensures at c.in_ok-add_phase.ensures)

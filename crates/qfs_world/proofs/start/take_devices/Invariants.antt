@@ -7,7 +7,7 @@ use Rattle.qfs_world.proofs.start.take_devices.Given as goal
 
 abbrev pub invariant-loop : goal.invariant-loop
 invariant-loop g l = record {
-  nodes : l.nodes.items ≡ l.initial.nodes.items ++ map Node.Store (map (stored_over g.D.ChunkDevice.told g.D.ChunkDevice.faults) (take l.counter l.initial.devices.items));
+  nodes : l.nodes.items ≡ l.initial.nodes.items ++ map Node.Store (map (stored_over g.D.ChunkDevice.told g.D.ChunkDevice.faults l.stripe) (take l.counter l.initial.devices.items));
   devices : l.devices.items ≡ drop l.counter l.initial.devices.items;
   kept : vec_capacity l.devices ≡ vec_capacity l.initial.devices;
   room : vec_capacity l.nodes ≡ vec_capacity l.initial.nodes;

@@ -20,19 +20,19 @@ goes actors number it at =
 pub overflow_sub-actor : goal.overflow_sub-actor
 overflow_sub-actor g c =
     let turn = rw (← c.self.view_is) at c.requires in
-    let at = turn-place _ _ _ _ _ c.self.invariant.0 c.args.actor turn in omega (arith, at.1.number_is)
+    let at = turn-place _ _ _ _ _ _ c.self.invariant.0 c.args.actor turn in omega (arith, at.1.number_is)
 
 pub index-requires : goal.index-requires
 index-requires g c =
     let turn = rw (← c.self.view_is) at c.requires in
-    let at = turn-place _ _ _ _ _ c.self.invariant.0 c.args.actor turn in
+    let at = turn-place _ _ _ _ _ _ c.self.invariant.0 c.args.actor turn in
     let within = slice_get_within c.self.inside.actors.items (c.args.actor - 1) at.0 at.1.there in
     let long = c.self.inside.actors.ok.0 in omega (arith, within, long)
 
 pub returns : goal.returns
 returns g c =
     let turn = rw (← c.self.view_is) at c.requires in
-    let at = turn-place _ _ _ _ _ c.self.invariant.0 c.args.actor turn in
+    let at = turn-place _ _ _ _ _ _ c.self.invariant.0 c.args.actor turn in
     let is : at.0 ≡ c.index.result.now =
     sym (c.index.ensures ∙ get_or_from_slice_get c.self.inside.actors.items (c.args.actor - 1) at.0 c.index.result.now at.1.there) in
     rw (← c.self.view_is)

@@ -10,19 +10,19 @@ use Rattle.qfs_world.proofs.world.World.step.Goals as goal
 pub overflow_sub-actor : goal.overflow_sub-actor
 overflow_sub-actor g c =
     let turn = rw (← c.self.view_is) at c.requires.turn in
-    let at = turn-place _ _ _ _ _ c.self.invariant.0 c.args.actor turn in omega (arith, at.1.number_is)
+    let at = turn-place _ _ _ _ _ _ c.self.invariant.0 c.args.actor turn in omega (arith, at.1.number_is)
 
 pub index_mut-requires : goal.index_mut-requires
 index_mut-requires g c =
     let turn = rw (← c.self.view_is) at c.requires.turn in
-    let at = turn-place _ _ _ _ _ c.self.invariant.0 c.args.actor turn in
+    let at = turn-place _ _ _ _ _ _ c.self.invariant.0 c.args.actor turn in
     let within = slice_get_within c.self.inside.actors.items (c.args.actor - 1) at.0 at.1.there in
     let long = c.self.inside.actors.ok.0 in omega (arith, within, long)
 
 pub step_on-requires-clause-resting : goal.step_on-requires-clause-resting
 step_on-requires-clause-resting g c κs within =
     let turn = rw (← c.self.view_is) at c.requires.turn in
-    let at = turn-place _ _ _ _ _ c.self.invariant.0 c.args.actor turn in
+    let at = turn-place _ _ _ _ _ _ c.self.invariant.0 c.args.actor turn in
     let is : at.0 ≡ c.index_mut.result.now =
     sym (c.index_mut.ensures.value ∙ get_or_from_slice_get c.self.inside.actors.items (c.args.actor - 1) at.0 c.index_mut.result.now at.1.there) in
     subst (λ (s : Standing). IsOut s.readiness → ⊥) is at.1.rests
@@ -30,7 +30,7 @@ step_on-requires-clause-resting g c κs within =
 pub step_on-requires-clause-unfinished : goal.step_on-requires-clause-unfinished
 step_on-requires-clause-unfinished g c κs within =
     let turn = rw (← c.self.view_is) at c.requires.turn in
-    let at = turn-place _ _ _ _ _ c.self.invariant.0 c.args.actor turn in
+    let at = turn-place _ _ _ _ _ _ c.self.invariant.0 c.args.actor turn in
     let is : at.0 ≡ c.index_mut.result.now =
     sym (c.index_mut.ensures.value ∙ get_or_from_slice_get c.self.inside.actors.items (c.args.actor - 1) at.0 c.index_mut.result.now at.1.there) in
     ap (λ (s : Standing). has_finished s.actor) (sym is) ∙ at.1.unfinished
@@ -39,7 +39,7 @@ pub invariant_of-self : goal.invariant_of-self
 invariant_of-self g c =
     let inside = c.self.inside in
     let turn = rw (← c.self.view_is) at c.requires.turn in
-    let found = turn-place _ _ _ _ _ c.self.invariant.0 c.args.actor turn in
+    let found = turn-place _ _ _ _ _ _ c.self.invariant.0 c.args.actor turn in
     let is : found.0 ≡ c.index_mut.result.now =
     sym (c.index_mut.ensures.value ∙ get_or_from_slice_get inside.actors.items (c.args.actor - 1) found.0 c.index_mut.result.now found.1.there) in
     let at : AtTurn inside.actors.items c.args.actor (c.args.actor - 1) c.index_mut.result.now =
@@ -48,13 +48,13 @@ invariant_of-self g c =
     let back : take inside.nodes.len (c.step_on.new.nodes ++ drop (length c.step_on.new.nodes) inside.nodes.items) ≡ c.step_on.new.nodes =
     slice-back inside.nodes.len inside.nodes.items c.step_on.new.nodes inside.nodes.ok.0 long in
     let on =
-    works inside.script.value inside.nodes.items inside.actors.items inside.phases.items inside.order inside.spare.items inside.disks
+    works inside.script.value inside.counts.value inside.nodes.items inside.actors.items inside.phases.items inside.order inside.spare.items inside.disks
     c.self.invariant.0 c.args.actor (c.args.actor - 1) c.index_mut.result.now c.step_on.new.actor at turn c.step_on.ensures.rests
     c.step_on.new.nodes c.step_on.new.order c.step_on.result
     (rw c.deref_mut.ensures.value at c.step_on.ensures.turn) c.step_on.ensures.order
     (rw c.deref_mut.ensures.value at c.step_on.ensures.err_nodes) c.step_on.ensures.err_actor c.step_on.ensures.err_order in
     let many =
-    stores-long inside.script.value inside.nodes.items c.step_on.new.nodes inside.actors.items _ inside.phases.items inside.order
+    stores-long inside.script.value inside.counts.value inside.nodes.items c.step_on.new.nodes inside.actors.items _ inside.phases.items inside.order
     c.step_on.new.order c.self.invariant.0 on long in
     rw back (on, omega (arith, many, c.self.invariant.1))
 
@@ -62,7 +62,7 @@ pub returns-clause-ok : goal.returns-clause-ok
 returns-clause-ok g c =
     let inside = c.self.inside in
     let turn = rw (← c.self.view_is) at c.requires.turn in
-    let found = turn-place _ _ _ _ _ c.self.invariant.0 c.args.actor turn in
+    let found = turn-place _ _ _ _ _ _ c.self.invariant.0 c.args.actor turn in
     let is : found.0 ≡ c.index_mut.result.now =
     sym (c.index_mut.ensures.value ∙ get_or_from_slice_get inside.actors.items (c.args.actor - 1) found.0 c.index_mut.result.now found.1.there) in
     let at : AtTurn inside.actors.items c.args.actor (c.args.actor - 1) c.index_mut.result.now =
@@ -71,7 +71,7 @@ returns-clause-ok g c =
     let back : take inside.nodes.len (c.step_on.new.nodes ++ drop (length c.step_on.new.nodes) inside.nodes.items) ≡ c.step_on.new.nodes =
     slice-back inside.nodes.len inside.nodes.items c.step_on.new.nodes inside.nodes.ok.0 long in
     let told =
-    tells inside.script.value inside.nodes.items inside.actors.items inside.phases.items inside.order inside.spare.items inside.disks
+    tells inside.script.value inside.counts.value inside.nodes.items inside.actors.items inside.phases.items inside.order inside.spare.items inside.disks
     c.self.invariant.0 c.args.actor (c.args.actor - 1) c.index_mut.result.now c.step_on.new.actor at turn c.step_on.ensures.rests
     c.step_on.new.nodes c.step_on.new.order c.step_on.result
     (rw c.deref_mut.ensures.value at c.step_on.ensures.turn) c.step_on.ensures.order in
@@ -81,7 +81,7 @@ pub returns-clause-err : goal.returns-clause-err
 returns-clause-err g c =
     let inside = c.self.inside in
     let turn = rw (← c.self.view_is) at c.requires.turn in
-    let found = turn-place _ _ _ _ _ c.self.invariant.0 c.args.actor turn in
+    let found = turn-place _ _ _ _ _ _ c.self.invariant.0 c.args.actor turn in
     let is : found.0 ≡ c.index_mut.result.now =
     sym (c.index_mut.ensures.value ∙ get_or_from_slice_get inside.actors.items (c.args.actor - 1) found.0 c.index_mut.result.now found.1.there) in
     let at : AtTurn inside.actors.items c.args.actor (c.args.actor - 1) c.index_mut.result.now =
@@ -90,7 +90,7 @@ returns-clause-err g c =
     let back : take inside.nodes.len (c.step_on.new.nodes ++ drop (length c.step_on.new.nodes) inside.nodes.items) ≡ c.step_on.new.nodes =
     slice-back inside.nodes.len inside.nodes.items c.step_on.new.nodes inside.nodes.ok.0 long in
     let same =
-    stays-same inside.script.value inside.nodes.items inside.actors.items inside.phases.items inside.order inside.spare.items inside.disks
+    stays-same inside.script.value inside.counts.value inside.nodes.items inside.actors.items inside.phases.items inside.order inside.spare.items inside.disks
     c.self.invariant.0 c.args.actor (c.args.actor - 1) c.index_mut.result.now c.step_on.new.actor at turn c.step_on.ensures.rests
     c.step_on.new.nodes c.step_on.new.order c.step_on.result
     (rw c.deref_mut.ensures.value at c.step_on.ensures.err_nodes) c.step_on.ensures.err_actor c.step_on.ensures.err_order in
