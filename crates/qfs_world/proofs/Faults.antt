@@ -1,71 +1,115 @@
--- Steps that fail raise the counts of their servers' devices.
-use Rattle.std.proofs.Common.{◌≡◌, ℕ, suc, zero, ◌+◌, ◌<◌, ◌≤◌, Bool, true, false, cond, List, [], ◌∷◌, ◌++◌, Option, Some, None, refl, sym, ◌∙◌, ap, subst, arith, slice_get, true≢false, eqb-true, inl, inr}
-use Rattle.std.specs.Prelude.{◌==◌, ◌&&◌, option_map}
-use Rattle.std.specs.List.{AllZip}
+-- The counts of faults of the servers' devices rise by exactly the steps that failed there.
+use Rattle.std.proofs.Common.{◌≡◌, ℕ, suc, zero, ◌+◌, ◌<◌, ◌≤◌, Bool, true, false, cond, List, [], ◌∷◌, ◌++◌, Option, Some, None, refl, sym, ◌∙◌, ap, subst, arith, slice_get, slice_set, true≢false, eqb-true, eq-eqb, inl, inr, ◌⊎◌, ⊎_elim}
+use Rattle.std.specs.Prelude.{◌==◌, ◌&&◌, not, ⊤}
 use Rattle.std.proofs.lemmas.List.Sums.{sum_by-append, sum_by-cons}
 use Rattle.std.proofs.lemmas.Option.{same_Some}
+use Rattle.qfs_base.specs.Outcome.{chunk_outcome}
+use Rattle.qfs_base.specs.Sizes.{LAST_U64}
 use Rattle.qfs_base.specs.declared.history.Outcome.{Outcome}
 use Rattle.qfs_base.specs.declared.history.Outcome.TheVariants as Ended
-use Rattle.qfs_base.specs.declared.history.Step.{Step}
-use Rattle.qfs_base.specs.declared.request.NodeRequest.{NodeRequest}
-use Rattle.qfs_base.specs.declared.script.Script.{Script}
-use Rattle.qfs_device.specs.Fault.{Rose, last_count}
-use Rattle.qfs_model_actor.specs.Actor.{Actor, request_of, node_of}
+use Rattle.qfs_base.specs.declared.reply.ChunkAnswer.{ChunkAnswer}
+use Rattle.qfs_base.specs.declared.reply.ChunkAnswer.TheVariants as Did
+use Rattle.qfs_base.specs.declared.reply.ChunkReply.{ChunkReply}
+use Rattle.qfs_base.specs.declared.request.ChunkRequest.{ChunkRequest}
+use Rattle.qfs_base.specs.declared.request.ChunkRequest.TheVariants as Serve
+use Rattle.qfs_device.specs.Fault.{RoseOnce}
 use Rattle.qfs_model_actor.specs.Work.{node_of_request}
+use Rattle.qfs_model_server.specs.Server.{refuse}
 use Rattle.qfs_model_text.specs.Order.{same_outcome}
-use Rattle.qfs_model_world.specs.Events.{Event, events}
+use Rattle.qfs_model_world.specs.Events.{Event}
 use Rattle.qfs_model_world.specs.Headline.{is_failed_at, failed_at}
-use Rattle.qfs_model_world.specs.World.{World, numbered, node_turn, after}
+use Rattle.qfs_model_world.specs.World.{numbered}
+use Rattle.qfs_store.specs.Known.{Known, refusal, unless_away}
+use Rattle.qfs_store.specs.Serves.{Answers, Counted, Serves}
 use Rattle.qfs_store.specs.Stored.{Stored}
-use Rattle.qfs_world.specs.Turns.{GoesOn}
-use Rattle.qfs_world.proofs.Simulation.{event, events-after}
+use Rattle.qfs_world.specs.Calls.{GoesOn}
+use Rattle.qfs_world.specs.Follows.{CountFaults}
+use Rattle.qfs_world.proofs.Lists.{get-set, get-set-other}
 
--- a device of this server has failed between these
-pub record RoseAt (stores stores' : List Stored) (node : ℕ) : Type 0 where
+-- a device of this server has failed once between these
+pub record FailedAt (stores stores' : List Stored) (node : ℕ) : Type 0 where
   pub old : Stored
   pub new : Stored
   pub was : numbered stores node ≡ Some old
   pub is_now : numbered stores' node ≡ Some new
-  pub rose : Rose old.faults new.faults
+  pub rose : RoseOnce old.faults new.faults
 
--- an order's events with one more, which is of this node and came out so
-pub record OneMore (script : Script) (order : List Step) (number node : ℕ) (outcome : Outcome) : Type 0 where
-  pub event : Event
-  pub all : events script (order ++ record { actor = number; outcome = outcome } ∷ []) ≡ events script order ++ event ∷ []
-  pub of : node_of_request event.request ≡ node
-  pub ended : event.outcome ≡ outcome
+-- ---- what a store counts
 
--- ---- the event of a step
+-- a refusal is no failure
+abbrev pub IsDone : Option ChunkAnswer → Type 0
+IsDone None = ⊤
+IsDone (Some answer) = chunk_outcome answer ≡ Ended.Done
 
-record Asked (actor : Actor) (node : ℕ) : Type 0 where
-  pub request : NodeRequest
-  pub asked : request_of actor ≡ Some request
-  pub of : node_of_request request ≡ node
+refuse-done : (test : Bool) (answer : ChunkAnswer) (other : Option ChunkAnswer) → chunk_outcome answer ≡ Ended.Done → IsDone other
+    → IsDone (refuse test answer other)
+refuse-done true answer other done more = done
+refuse-done false answer other done more = more
 
-asked-of : (actor : Actor) (node : ℕ) → node_of actor ≡ Some node → Asked actor node
-unfolding node_of
-asked-of actor node to = by (request_of actor) refl
-  where
-    by : (found : Option NodeRequest) → request_of actor ≡ found → Asked actor node
-    by None e = let none : option_map node_of_request (request_of actor) ≡ None = ap (option_map node_of_request) e in absurd (cc)
-    by (Some request) e = record {
-      request = request;
-      asked = e;
-      of = same_Some (node_of_request request) node (ap (option_map node_of_request) (sym e) ∙ to);
-    }
+away-done : (known : Known) (now life : ℕ) (other : Option ChunkAnswer) → IsDone other → IsDone (unless_away known now life other)
+unfolding chunk_outcome
+away-done known now life other more =
+    refuse-done (not known.up) Did.Down _ refl (refuse-done (not (life == now)) (Did.Lost life now) other refl more)
 
-pub one-more : (script : Script) (order : List Step) (world : World) (number : ℕ) (actor : Actor) (node : ℕ) (outcome : Outcome)
-    → after script order ≡ world → numbered world.actors number ≡ Some actor → node_of actor ≡ Some node
-    → OneMore script order number node outcome
-one-more script order world number actor node outcome is found to =
-    let of = asked-of actor node to in
-    let turned = node_turn world number outcome of.request in
-    record {
-      event = event script order world number actor of.request is found of.asked outcome turned.world turned.reply refl;
-      all = events-after script order world number actor of.request is found of.asked outcome turned.world turned.reply refl;
-      of = of.of;
-      ended = refl;
-    }
+pub refusal-done : (known : Known) (now : ℕ) (request : ChunkRequest) → IsDone (refusal known now request)
+unfolding chunk_outcome
+refusal-done known now (Serve.Put key life bytes) = away-done known now life _ (refuse-done _ Did.Held None refl tt)
+refusal-done known now (Serve.Fetch key life from room) = away-done known now life _ (refuse-done _ Did.Absent None refl tt)
+refusal-done known now (Serve.Erase key life) = away-done known now life _ (refuse-done _ Did.Absent None refl tt)
+refusal-done known now Serve.Stop = tt
+refusal-done known now Serve.Start = tt
+refusal-done known now Serve.Wipe = tt
+refusal-done known now Serve.Inventory = refuse-done _ Did.Down None refl tt
+refusal-done known now Serve.Upgrade = refuse-done _ Did.Down None refl tt
+
+-- a count stays unless the answer is a failure
+stays-counted : (answer : ChunkAnswer) (old new : ℕ) → chunk_outcome answer ≡ Ended.Done → new ≡ old → Counted answer old new
+unfolding chunk_outcome
+stays-counted Did.Fault old new done same = absurd (cc)
+stays-counted answer old new done same = same
+
+counted-by : (request : ChunkRequest) (reply : ChunkReply) (before after : Stored) (due : Option ChunkAnswer) → IsDone due
+    → Answers request reply before after due → Counted reply.answer before.faults after.faults
+counted-by request reply before after (Some answer) done answers =
+    stays-counted reply.answer before.faults after.faults
+    (ap (λ (r : ChunkReply). chunk_outcome r.answer) answers.0 ∙ done)
+    (ap (λ (s : Stored). s.faults) answers.1)
+counted-by request reply before after None done answers = answers.counted
+
+pub counted : (before : Stored) (request : ChunkRequest) (reply : ChunkReply) (after : Stored) → Serves request reply before after
+    → Counted reply.answer before.faults after.faults
+counted before request reply after serves =
+    counted-by request reply before after _ (refusal-done before.known serves.now request) serves.answers
+
+once : (answer : ChunkAnswer) (old new : ℕ) → Counted answer old new → chunk_outcome answer ≡ Ended.Failed → RoseOnce old new
+unfolding chunk_outcome
+once Did.Fault old new counts failed = counts
+once Did.NoMemory old new counts failed = absurd (cc)
+once answer old new counts failed = absurd (cc)
+
+stays : (answer : ChunkAnswer) (old new : ℕ) → Counted answer old new → (chunk_outcome answer ≡ Ended.Failed → ⊥) → new ≡ old
+unfolding chunk_outcome
+stays Did.Fault old new counts sure = absurd (sure refl)
+stays answer old new counts sure = counts
+
+-- a failure raises the count once
+pub failed-once : (before : Stored) (request : ChunkRequest) (reply : ChunkReply) (after : Stored) → Serves request reply before after
+    → chunk_outcome reply.answer ≡ Ended.Failed → RoseOnce before.faults after.faults
+failed-once before request reply after serves failed = once reply.answer _ _ (counted before request reply after serves) failed
+
+-- any other answer leaves it
+pub same-count : (before : Stored) (request : ChunkRequest) (reply : ChunkReply) (after : Stored) → Serves request reply before after
+    → (chunk_outcome reply.answer ≡ Ended.Failed → ⊥) → after.faults ≡ before.faults
+same-count before request reply after serves sure = stays reply.answer _ _ (counted before request reply after serves) sure
+
+rose-up : (answer : ChunkAnswer) (old new : ℕ) → Counted answer old new → old ≤ new
+rose-up Did.Fault old new counts = elim counts [ | inl more ↦ omega (arith, more) | inr last ↦ omega (arith, last.0, last.1) ]
+rose-up answer old new counts = omega (arith, counts)
+
+pub goes-on : (before : Stored) (request : ChunkRequest) (reply : ChunkReply) (after : Stored) → Serves request reply before after
+    → GoesOn before after
+goes-on before request reply after serves =
+    record { tells = serves.tells; never_falls = rose-up reply.answer _ _ (counted before request reply after serves) }
 
 -- ---- how many steps failed
 
@@ -95,66 +139,117 @@ failed-here number event e =
     let both = both-true (node_of_request event.request == number) (same_outcome event.outcome Ended.Failed) e in
     (eqb-true (node_of_request event.request) number both.0, has-failed event.outcome both.1)
 
--- ---- counts rise
+-- a step that didn't fail failed nowhere
+pub sure-nowhere : (event : Event) → (event.outcome ≡ Ended.Failed → ⊥) → (n : ℕ) → is_failed_at n event ≡ false
+sure-nowhere event sure n = by (is_failed_at n event) refl
+  where
+    by : (b : Bool) → is_failed_at n event ≡ b → b ≡ false
+    by true is = absurd (sure (failed-here n event is).1)
+    by false is = refl
 
-go-on-at : (before behind : List Stored) (k : ℕ) (old new : Stored) → AllZip GoesOn before behind
-    → slice_get before k ≡ Some old → slice_get behind k ≡ Some new → GoesOn old new
-go-on-at [] behind k old new go_on was now = absurd (cc)
-go-on-at (x ∷ xs) [] k old new go_on was now = absurd go_on
-go-on-at (x ∷ xs) (y ∷ ys) zero old new go_on was now =
-    subst (λ o. GoesOn o new) (same_Some x old was) (subst (λ n. GoesOn x n) (same_Some y new now) go_on.0)
-go-on-at (x ∷ xs) (y ∷ ys) (suc k) old new go_on was now = go-on-at xs ys k old new go_on.1 was now
+-- ---- one step more
 
-pub goes-on-at : (before behind : List Stored) (number : ℕ) (old new : Stored) → AllZip GoesOn before behind
-    → numbered before number ≡ Some old → numbered behind number ≡ Some new → GoesOn old new
+same-or-not : (m n : ℕ) → (m ≡ n) ⊎ (m ≡ n → ⊥)
+same-or-not m n = by (m == n) refl
+  where
+    by : (b : Bool) → (m == n) ≡ b → (m ≡ n) ⊎ (m ≡ n → ⊥)
+    by true e = inl (eqb-true m n e)
+    by false e = inr (λ same. true≢false (sym (eq-eqb m n same) ∙ e))
+
+-- a step that failed nowhere
+pub none-fails : (counts : List ℕ) (steps : List Event) (event : Event) (stores : List Stored) → ((n : ℕ) → is_failed_at n event ≡ false)
+    → CountFaults counts steps stores → CountFaults counts (steps ++ event ∷ []) stores
+none-fails counts steps event stores sure count = record {
+  at_servers =
+      λ n c stored of at below.
+      let same = failed-more n steps event false (sure n) in
+      omega (arith, count.at_servers n c stored of at below, same);
+  elsewhere = λ n none. let same = failed-more n steps event false (sure n) in omega (arith, count.elsewhere n none, same);
+}
+
+none-set : (stores : List Stored) (place : ℕ) (next : Stored) (n : ℕ) → numbered (slice_set stores place next) n ≡ None → numbered stores n ≡ None
 unfolding numbered
-goes-on-at before behind zero old new go_on was now = absurd (cc)
-goes-on-at before behind (suc k) old new go_on was now = go-on-at before behind k old new go_on was now
+none-set stores place next zero e = refl
+none-set stores place next (suc k) e = at-place stores place k e
+  where
+    at-place : (xs : List Stored) (p k : ℕ) → slice_get (slice_set xs p next) k ≡ None → slice_get xs k ≡ None
+    at-place [] p k e = refl
+    at-place (x ∷ xs) zero zero e = absurd (cc)
+    at-place (x ∷ xs) zero (suc k) e = e
+    at-place (x ∷ xs) (suc p) zero e = e
+    at-place (x ∷ xs) (suc p) (suc k) e = at-place xs p k e
 
-module _ (script : Script) (order : List Step) (number node : ℕ) (outcome : Outcome) (more : OneMore script order number node outcome)
-    (before behind : List Stored) (cause : outcome ≡ Ended.Failed → RoseAt before behind node) where
-  abbrev entry : Step
-  entry = record { actor = number; outcome = outcome }
+-- a step at a server, which failed exactly where the count of its device rose
+module _ (counts : List ℕ) (steps : List Event) (event : Event) (stores : List Stored) (place : ℕ) (stored next : Stored)
+    (there : slice_get stores place ≡ Some stored) (of : node_of_request event.request ≡ suc place)
+    (failed : event.outcome ≡ Ended.Failed → RoseOnce stored.faults next.faults)
+    (sure : (event.outcome ≡ Ended.Failed → ⊥) → next.faults ≡ stored.faults)
+    (count : CountFaults counts steps stores) where
+  here : numbered stores (suc place) ≡ Some stored
+  unfolding numbered
+  here = there
 
-  more-at : (n : ℕ) (failed : Bool) → is_failed_at n more.event ≡ failed
-      → failed_at n (events script (order ++ entry ∷ [])) ≡ failed_at n (events script order) + cond failed 1 0
-  more-at n failed is = ap (failed_at n) more.all ∙ failed-more n (events script order) more.event failed is
+  here-now : (n : ℕ) → n ≡ suc place → numbered (slice_set stores place next) n ≡ Some next
+  unfolding numbered
+  here-now n is = ap (numbered (slice_set stores place next)) is ∙ get-set stores place stored next there
 
-  -- the count of a server's device rose where its step failed
-  rose-here : (n : ℕ) → is_failed_at n more.event ≡ true → RoseAt before behind n
-  rose-here n is =
-      let here = failed-here n more.event is in
-      subst (RoseAt before behind) (sym more.of ∙ here.0) (cause (sym more.ended ∙ here.1))
+  elsewhere-now : (n : ℕ) → (n ≡ suc place → ⊥) → numbered (slice_set stores place next) n ≡ numbered stores n
+  unfolding numbered
+  elsewhere-now zero apart = refl
+  elsewhere-now (suc k) apart = get-set-other stores place k next (λ same. apart (ap (λ m. suc m) same))
 
-  pub rises-at : (n : ℕ) (old new : Stored) → AllZip GoesOn before behind → numbered before n ≡ Some old → numbered behind n ≡ Some new
-      → new.faults < last_count
-      → old.faults + failed_at n (events script (order ++ entry ∷ [])) ≤ new.faults + failed_at n (events script order)
-  rises-at n old new go_on was now below = by (is_failed_at n more.event) refl
+  not-failed : is_failed_at (suc place) event ≡ false → event.outcome ≡ Ended.Failed → ⊥
+  unfolding is_failed_at same_outcome
+  not-failed e failed =
+      let at : (node_of_request event.request == suc place) ≡ true = eq-eqb (node_of_request event.request) (suc place) of in
+      true≢false (sym (ap (λ b. b && same_outcome event.outcome Ended.Failed) at ∙ ap (λ o. same_outcome o Ended.Failed) failed) ∙ e)
+
+  at-here : (c : ℕ) → numbered counts (suc place) ≡ Some c → next.faults < LAST_U64
+      → next.faults ≡ c + failed_at (suc place) (steps ++ event ∷ [])
+  at-here c at below = by (is_failed_at (suc place) event) refl
     where
-      by : (failed : Bool) → is_failed_at n more.event ≡ failed
-          → old.faults + failed_at n (events script (order ++ entry ∷ [])) ≤ new.faults + failed_at n (events script order)
+      by : (b : Bool) → is_failed_at (suc place) event ≡ b → next.faults ≡ c + failed_at (suc place) (steps ++ event ∷ [])
       by true is =
-          let one = more-at n true is in
-          let risen = rose-here n is in
-          let was_old : risen.old ≡ old = same_Some risen.old old (sym risen.was ∙ was) in
-          let now_new : risen.new ≡ new = same_Some risen.new new (sym risen.is_now ∙ now) in
-          let old_count : risen.old.faults ≡ old.faults = ap (λ (s : Stored). s.faults) was_old in
-          let new_count : risen.new.faults ≡ new.faults = ap (λ (s : Stored). s.faults) now_new in
-          elim risen.rose [
-            | inl less ↦ omega (arith, one, less, old_count, new_count)
-            | inr last ↦ absurd (omega (arith, last, new_count, below))
+          let one = failed-more (suc place) steps event true is in
+          let rose = failed (failed-here (suc place) event is).1 in
+          elim rose [
+            | inl more ↦
+                let before : stored.faults < LAST_U64 = omega (arith, more, below) in
+                omega (arith, one, more, count.at_servers (suc place) c stored at here before)
+            | inr last ↦ absurd (omega (arith, last.1, below))
           ]
       by false is =
-          let none = more-at n false is in
-          let falls_not : old.faults ≤ new.faults = (goes-on-at before behind n old new go_on was now).never_falls in
-          omega (arith, none, falls_not)
+          let none = failed-more (suc place) steps event false is in
+          let same = sure (not-failed is) in
+          let before : stored.faults < LAST_U64 = omega (arith, same, below) in
+          omega (arith, none, same, count.at_servers (suc place) c stored at here before)
 
-  -- no step fails at a node that isn't a server
-  pub fails-nowhere-else : (n : ℕ) → numbered before n ≡ None
-      → failed_at n (events script (order ++ entry ∷ [])) ≡ failed_at n (events script order)
-  fails-nowhere-else n none = by (is_failed_at n more.event) refl
+  apart-fails : (n : ℕ) → (n ≡ suc place → ⊥) → is_failed_at n event ≡ false
+  apart-fails n apart = by (is_failed_at n event) refl
     where
-      by : (failed : Bool) → is_failed_at n more.event ≡ failed
-          → failed_at n (events script (order ++ entry ∷ [])) ≡ failed_at n (events script order)
-      by true is = let risen = rose-here n is in let apart = risen.was in absurd (cc)
-      by false is = let none = more-at n false is in omega (arith, none)
+      by : (b : Bool) → is_failed_at n event ≡ b → b ≡ false
+      by true is = absurd (apart (sym (failed-here n event is).0 ∙ of))
+      by false is = refl
+
+  pub counts-on : CountFaults counts (steps ++ event ∷ []) (slice_set stores place next)
+  counts-on = record {
+    at_servers =
+        λ n c now at is below.
+        ⊎_elim
+        (λ same.
+        let is_next : next ≡ now = same_Some next now (sym (here-now n same) ∙ is) in
+        let fewer : next.faults < LAST_U64 = subst (λ (s : Stored). s.faults < LAST_U64) (sym is_next) below in
+        ap (λ (s : Stored). s.faults) (sym is_next)
+        ∙ at-here c (ap (numbered counts) (sym same) ∙ at) fewer
+        ∙ ap (λ m. c + failed_at m (steps ++ event ∷ [])) (sym same))
+        (λ apart.
+        let none = failed-more n steps event false (apart-fails n apart) in
+        omega (arith, none, count.at_servers n c now at (sym (elsewhere-now n apart) ∙ is) below))
+        (same-or-not n (suc place));
+    elsewhere =
+        λ n none.
+        let was = none-set stores place next n none in
+        let apart : n ≡ suc place → ⊥ = λ same. let two = here-now n same in cc in
+        let zero_more = failed-more n steps event false (apart-fails n apart) in
+        omega (arith, count.elsewhere n was, zero_more);
+  }

@@ -2,14 +2,15 @@
 use Rattle.std.proofs.Common.{◌≡◌, ℕ, suc, zero, ◌+◌, ◌<◌, Bool, true, false, cond, List, [], ◌∷◌, ◌++◌, length, drop, Option, Some, None, refl, sym, ◌∙◌, ap, subst, arith, slice_get, slice_set, true≢false, eqb-true, eq-eqb, ◌⊎◌, inl, inr}
 use Rattle.std.specs.Prelude.{◌==◌, ◌&&◌, ◌||◌, not, is_some, ⊤}
 use Rattle.std.specs.List.{list_any}
+use Rattle.std.specs.Option.{option_map}
 use Rattle.std.proofs.lemmas.List.{drop-append-le, length-append}
 use Rattle.std.proofs.lemmas.List.Folds.{list_any-append}
-use Rattle.std.proofs.lemmas.Option.{slice_get_within}
+use Rattle.std.proofs.lemmas.Option.{same_Some, slice_get_within}
 use Rattle.std.proofs.Math.ListN.{drop_of_length-le}
 use Rattle.qfs_base.specs.Key.{key_cmp}
 use Rattle.qfs_base.specs.KeyLaws.{key_cmp_total}
 use Rattle.qfs_base.specs.KeyMap.{value_at, has_key, with_entry}
-use Rattle.qfs_base.specs.KeyMapLaws.{value_at-with_entry, value_at-without_key}
+use Rattle.qfs_base.specs.KeyMapLaws.{value_at-with_entry}
 use Rattle.qfs_base.specs.Outcome.{chunk_outcome}
 use Rattle.qfs_base.specs.declared.chunk.ChunkKey.{ChunkKey}
 use Rattle.qfs_base.specs.declared.history.Outcome.{Outcome}
@@ -23,18 +24,20 @@ use Rattle.qfs_base.specs.declared.request.ChunkRequest.{ChunkRequest}
 use Rattle.qfs_base.specs.declared.request.ChunkRequest.TheVariants as Serve
 use Rattle.qfs_base.specs.declared.request.MetaRequest.{MetaRequest}
 use Rattle.qfs_base.specs.declared.request.NodeRequest.TheVariants as To
-use Rattle.qfs_device.specs.Held.{Held, Contents, IsProperPrefix, IsTorn, chunk_at, leaving}
+use Rattle.qfs_device.specs.Held.{Held, IsProperPrefix, IsTorn, chunk_at, holding, leaving}
 use Rattle.qfs_machine.specs.Askable.{IsAskedOfServer}
 use Rattle.qfs_model_headline.specs.Nodes.{IsLeftBy, HoldsNoOther, is_wiped, wiped_at}
-use Rattle.qfs_model_server.specs.Server.{Server, refuse, unless_away, chunk_refusal, chunk_served, chunk_attempted, chunk_decided, server_step}
+use Rattle.qfs_model_server.specs.Chunk.{Chunk}
+use Rattle.qfs_model_server.specs.Server.{Server, refuse, unless_away, chunk_refusal, chunk_served, chunk_attempted, chunk_decided, server_step, written}
 use Rattle.qfs_model_world.specs.Events.{Event}
 use Rattle.qfs_model_world.specs.World.{numbered}
 use Rattle.qfs_record.specs.ChunkRecord.{chunk_record}
-use Rattle.qfs_store.proofs.PutLaws.{left_at}
-use Rattle.qfs_store.proofs.StandsLaws.{same_key, same_key-is, known_is_there, absent_copy}
-use Rattle.qfs_store.specs.Chunks.{PutLeaves, EraseLeaves, WipeLeaves, Leaves}
-use Rattle.qfs_store.specs.Stands.{Known, StandsOn, KnownAfter, KnownAfterPut, KnownAfterErase, KnownAfterWipe, knowing, forgetting}
-use Rattle.qfs_store.specs.Stored.{Stored}
+use Rattle.qfs_store.proofs.KeyLaws.{absent_key, known_there, same_key, same_key-is}
+use Rattle.qfs_store.proofs.StandsLaws.{left_at, refusal_is}
+use Rattle.qfs_store.specs.Known.{Known, Sizes, refusal, size_of}
+use Rattle.qfs_store.specs.Serves.{Answers, Does, FetchLeaves, IsLife, PutLeaves, Serves}
+use Rattle.qfs_store.specs.Stored.{Stored, StandsOn}
+use Rattle.qfs_store.specs.declared.copies.CopySize.{CopySize}
 use Rattle.qfs_world.specs.Follows.{HoldNoOthers}
 use Rattle.qfs_world.specs.Turns.{no_server}
 use Rattle.qfs_world.proofs.Lists.{get-set-other}
@@ -57,9 +60,9 @@ none-before false b e f = rw f refl
 abbrev wipes : ℕ → Event → Bool
 wipes number event = wiped_at number event.reply event.request
 
-left-longer : (steps : List Event) (event : Event) (number : ℕ) (key : ChunkKey) (found : List ℕ) → wipes number event ≡ false
-    → IsLeftBy steps number key found → IsLeftBy (steps ++ event ∷ []) number key found
-left-longer steps event number key found stays left =
+left-longer : (stripe : ℕ) (steps : List Event) (event : Event) (number : ℕ) (key : ChunkKey) (found : List ℕ) → wipes number event ≡ false
+    → IsLeftBy stripe steps number key found → IsLeftBy stripe (steps ++ event ∷ []) number key found
+left-longer stripe steps event number key found stays left =
     let within : left.i < length steps = slice_get_within steps left.i left.event left.at in
     let behind : list_any (wipes number) (drop (left.i + 1) (steps ++ event ∷ []))
     ≡ (list_any (wipes number) (drop (left.i + 1) steps) || (wipes number event || false)) =
@@ -70,8 +73,10 @@ left-longer steps event number key found stays left =
       event = left.event;
       life = left.life;
       bytes = left.bytes;
+      server = left.server;
       at = get-front steps (event ∷ []) left.i left.event left.at;
       put = left.put;
+      by = left.by;
       failed = left.failed;
       not_wiped =
           ap not behind
@@ -79,10 +84,10 @@ left-longer steps event number key found stays left =
       part = left.part;
     }
 
-left-now : (steps : List Event) (event : Event) (number : ℕ) (key : ChunkKey) (life : ℕ) (bytes found : List ℕ)
-    → event.request ≡ To.Chunk number (Serve.Put key life bytes) → event.outcome ≡ Ended.Failed
-    → IsProperPrefix found (chunk_record key bytes) → IsLeftBy (steps ++ event ∷ []) number key found
-left-now steps event number key life bytes found put failed part =
+left-now : (stripe : ℕ) (steps : List Event) (event : Event) (number : ℕ) (key : ChunkKey) (life : ℕ) (bytes found : List ℕ) (server : Server)
+    → event.request ≡ To.Chunk number (Serve.Put key life bytes) → numbered event.before.servers number ≡ Some server → event.outcome ≡ Ended.Failed
+    → IsProperPrefix found (chunk_record stripe key (written server bytes)) → IsLeftBy stripe (steps ++ event ∷ []) number key found
+left-now stripe steps event number key life bytes found server put by failed part =
     let long : length (steps ++ event ∷ []) ≡ length steps + 1 = length-append steps (event ∷ []) in
     let none : drop (length steps + 1) (steps ++ event ∷ []) ≡ [] =
     drop_of_length-le (steps ++ event ∷ []) (omega (arith, long)) in
@@ -91,17 +96,19 @@ left-now steps event number key life bytes found put failed part =
       event = event;
       life = life;
       bytes = bytes;
+      server = server;
       at = get-seam steps event;
       put = put;
+      by = by;
       failed = failed;
       not_wiped = ap (λ rest. not (list_any (wipes number) rest)) none;
       part = part;
     }
 
-pub no-other-longer : (steps : List Event) (event : Event) (number : ℕ) (held : Held) (server : Server) → wipes number event ≡ false
-    → HoldsNoOther steps number held server → HoldsNoOther (steps ++ event ∷ []) number held server
-no-other-longer steps event number held server stays none key found absent there =
-    left-longer steps event number key found stays (none key found absent there)
+pub no-other-longer : (stripe : ℕ) (steps : List Event) (event : Event) (number : ℕ) (held : Held) (server : Server) → wipes number event ≡ false
+    → HoldsNoOther stripe steps number held server → HoldsNoOther stripe (steps ++ event ∷ []) number held server
+no-other-longer stripe steps event number held server stays none key found absent there =
+    left-longer stripe steps event number key found stays (none key found absent there)
 
 -- ---- a Wipe alone empties a server
 
@@ -128,6 +135,7 @@ refusal-kept server Serve.Stop = tt
 refusal-kept server Serve.Start = tt
 refusal-kept server Serve.Wipe = tt
 refusal-kept server Serve.Inventory = refuse-kept _ Did.Down None refl tt
+refusal-kept server Serve.Upgrade = refuse-kept _ Did.Down None refl tt
 
 abbrev pub KeepsUnlessWipe : ChunkRequest → ChunkAnswer → Type 0
 KeepsUnlessWipe Serve.Wipe answer = ⊤
@@ -146,6 +154,7 @@ served-kept server Serve.Stop = refl
 served-kept server Serve.Start = refl
 served-kept server Serve.Wipe = tt
 served-kept server Serve.Inventory = refl
+served-kept server Serve.Upgrade = refl
 
 attempted-kept : (server : Server) (request : ChunkRequest) (outcome : Outcome)
     → KeepsUnlessWipe request (chunk_attempted server request outcome).reply.answer
@@ -169,68 +178,71 @@ step-kept request outcome server =
 -- ---- how it came to stand under a key of no copy
 
 -- it stood there before this step, which emptied nothing
-record StoodThere (known : Known) (held : Held) (answer : ChunkAnswer) (key : ChunkKey) (found : List ℕ) : Type 0 where
-  pub absent : has_key key_cmp known.lengths key ≡ false
+record StoodThere (copies : Sizes) (held : Held) (answer : ChunkAnswer) (key : ChunkKey) (found : List ℕ) : Type 0 where
+  pub absent : has_key key_cmp copies key ≡ false
   pub there : chunk_at held key ≡ Some found
   pub kept : is_wiped answer ≡ false
 
 -- this step is a Put of the key that failed
-record WasLeft (request : ChunkRequest) (answer : ChunkAnswer) (key : ChunkKey) (found : List ℕ) : Type 0 where
+record WasLeft (stripe form : ℕ) (request : ChunkRequest) (answer : ChunkAnswer) (key : ChunkKey) (found : List ℕ) : Type 0 where
   pub life : ℕ
   pub bytes : List ℕ
   pub put : request ≡ Serve.Put key life bytes
   pub failed : chunk_outcome answer ≡ Ended.Failed
-  pub part : IsProperPrefix found (chunk_record key bytes)
+  pub part : IsProperPrefix found (chunk_record stripe key (record { form = form; bytes = bytes }))
 
-abbrev CameSo : ChunkRequest → ChunkAnswer → Known → Held → ChunkKey → List ℕ → Type 0
-CameSo request answer known held key found = StoodThere known held answer key found ⊎ WasLeft request answer key found
+abbrev CameSo : ℕ → Known → ChunkRequest → ChunkAnswer → Held → ChunkKey → List ℕ → Type 0
+CameSo stripe known request answer held key found =
+    StoodThere known.copies held answer key found ⊎ WasLeft stripe known.form request answer key found
 
-under-same : (before after : Held) (key : ChunkKey) → after.contents ≡ before.contents → chunk_at after key ≡ chunk_at before key
-under-same before after key same = ap (λ (contents : Contents). value_at key_cmp contents key) same
+-- what a device tells after a change
+told-now : (change : Held → Held) (told told' : Option Held) (held held' : Held) → told' ≡ option_map change told → told ≡ Some held → told' ≡ Some held'
+    → held' ≡ change held
+told-now change told told' held held' is was now =
+    sym (same_Some (change held) held' (ap (option_map change) (sym was) ∙ sym is ∙ now))
 
-absent-same : (old new : Known) (key : ChunkKey) → new ≡ old → has_key key_cmp new.lengths key ≡ false → has_key key_cmp old.lengths key ≡ false
-absent-same old new key same absent = ap (λ (known : Known). has_key key_cmp known.lengths key) (sym same) ∙ absent
-
--- nothing changed
-came-idle : (request : ChunkRequest) (answer : ChunkAnswer) (known known' : Known) (held held' : Held) (key : ChunkKey) (found : List ℕ)
-    → is_wiped answer ≡ false → held'.contents ≡ held.contents → known' ≡ known
-    → has_key key_cmp known'.lengths key ≡ false → chunk_at held' key ≡ Some found → CameSo request answer known held key found
-came-idle request answer known known' held held' key found kept same knows absent there = inl (record {
-  absent = absent-same known known' key knows absent;
-  there = sym (under-same held held' key same) ∙ there;
-  kept = kept;
-})
+same-now : (told told' : Option Held) (held held' : Held) → told' ≡ told → told ≡ Some held → told' ≡ Some held' → held' ≡ held
+same-now told told' held held' is was now = sym (same_Some held held' (sym was ∙ sym is ∙ now))
 
 -- another key than the one that was set
 not-set : {X : Type 0} (b : Bool) (value : X) (found : Option X) → is_some (cond b (Some value) found) ≡ false → (b ≡ false) × (is_some found ≡ false)
 not-set true value found absent = absurd (true≢false absent)
 not-set false value found absent = (refl, absent)
 
--- another key than the one that was taken out
-not-taken : {X : Type 0} (b : Bool) (found : Option X) (value : X) → cond b None found ≡ Some value → (b ≡ false) × (found ≡ Some value)
-not-taken true found value is = absurd (cc)
-not-taken false found value is = (refl, is)
+-- nothing changed for this key
+module _ (stripe : ℕ) (known : Known) (request : ChunkRequest) (answer : ChunkAnswer) (held held' : Held) (q : ChunkKey) (found : List ℕ)
+    (kept : is_wiped answer ≡ false) (copies' : Sizes)
+    (absent : has_key key_cmp copies' q ≡ false) (there : chunk_at held' q ≡ Some found) where
+  idle : copies' ≡ known.copies → chunk_at held' q ≡ chunk_at held q → CameSo stripe known request answer held q found
+  idle same under = inl (record {
+    absent = ap (λ (sizes : Sizes). has_key key_cmp sizes q) (sym same) ∙ absent;
+    there = sym under ∙ there;
+    kept = kept;
+  })
 
-module _ (key : ChunkKey) (life : ℕ) (bytes : List ℕ) (known known' : Known) (held held' : Held) (q : ChunkKey) (found : List ℕ)
-    (absent : has_key key_cmp known'.lengths q ≡ false) (there : chunk_at held' q ≡ Some found) where
-  came-stored : held'.contents ≡ with_entry key_cmp held.contents key (chunk_record key bytes)
-      → known' ≡ knowing key (length bytes) known → CameSo (Serve.Put key life bytes) Did.Stored known held q found
+module _ (key : ChunkKey) (life : ℕ) (bytes : List ℕ) (stripe : ℕ) (known : Known) (copies' : Sizes) (held held' : Held) (q : ChunkKey) (found : List ℕ)
+    (absent : has_key key_cmp copies' q ≡ false) (there : chunk_at held' q ≡ Some found) where
+  abbrev copy : Chunk
+  copy = record { form = known.form; bytes = bytes }
+
+  came-stored : copies' ≡ with_entry key_cmp known.copies key (size_of copy) → held' ≡ holding key (chunk_record stripe key copy) held
+      → CameSo stripe known (Serve.Put key life bytes) Did.Stored held q found
   unfolding is_wiped
-  came-stored left knows =
-      let apart = not-set (same_key q key) (length bytes) (value_at key_cmp known.lengths q)
-      (ap is_some (sym (value_at-with_entry key_cmp_total known.lengths key (length bytes) q))
-      ∙ absent-same (knowing key (length bytes) known) known' q knows absent) in
+  came-stored sizes now =
+      let apart = not-set (same_key q key) (size_of copy) (value_at key_cmp known.copies q)
+      (ap is_some (sym (value_at-with_entry key_cmp_total known.copies key (size_of copy) q))
+      ∙ ap (λ (s : Sizes). has_key key_cmp s q) (sym sizes) ∙ absent) in
       inl (record {
         absent = apart.1;
         there =
-            ap (λ b. cond b (Some (chunk_record key bytes)) (chunk_at held q)) (sym apart.0)
-            ∙ sym (value_at-with_entry key_cmp_total held.contents key (chunk_record key bytes) q)
-            ∙ ap (λ (contents : Contents). value_at key_cmp contents q) (sym left) ∙ there;
+            ap (λ b. cond b (Some (chunk_record stripe key copy)) (chunk_at held q)) (sym apart.0)
+            ∙ sym (value_at-with_entry key_cmp_total held.contents key (chunk_record stripe key copy) q)
+            ∙ ap (λ (h : Held). chunk_at h q) (sym now) ∙ there;
         kept = refl;
       })
 
-  torn-at : (left : Option (List ℕ)) → IsTorn (chunk_record key bytes) left → left ≡ Some found → key ≡ q
-      → WasLeft (Serve.Put key life bytes) Did.Fault q found
+  torn-at : (left : Option (List ℕ)) → IsTorn (chunk_record stripe key copy) left → left ≡ Some found → key ≡ q
+      → WasLeft stripe known.form (Serve.Put key life bytes) Did.Fault q found
   unfolding chunk_outcome
   torn-at None torn is same = absurd (cc)
   torn-at (Some part) torn is same =
@@ -240,71 +252,85 @@ module _ (key : ChunkKey) (life : ℕ) (bytes : List ℕ) (known known' : Known)
         bytes = bytes;
         put = ap (λ k. Serve.Put k life bytes) same;
         failed = refl;
-        part = subst (λ k. IsProperPrefix found (chunk_record k bytes)) same (subst (λ p. IsProperPrefix p (chunk_record key bytes)) is_found torn);
+        part = subst (λ k. IsProperPrefix found (chunk_record stripe k copy)) same
+            (subst (λ p. IsProperPrefix p (chunk_record stripe key copy)) is_found torn);
       }
 
-  came-torn : (left : Option (List ℕ)) → IsTorn (chunk_record key bytes) left → held'.contents ≡ (leaving key left held).contents
-      → known' ≡ known → (b : Bool) → same_key q key ≡ b → CameSo (Serve.Put key life bytes) Did.Fault known held q found
+  came-torn : (left : Option (List ℕ)) → IsTorn (chunk_record stripe key copy) left → held' ≡ leaving key left held
+      → copies' ≡ known.copies → (b : Bool) → same_key q key ≡ b → CameSo stripe known (Serve.Put key life bytes) Did.Fault held q found
   unfolding is_wiped
-  came-torn left torn leaves knows true at =
+  came-torn left torn now sizes true at =
       inr (torn-at left torn
-      (ap (λ b. cond b left (chunk_at held q)) (sym at) ∙ sym (left_at held key left q) ∙ sym (under-same (leaving key left held) held' q leaves) ∙ there)
+      (ap (λ b. cond b left (chunk_at held q)) (sym at) ∙ sym (left_at held key left q) ∙ ap (λ (h : Held). chunk_at h q) (sym now) ∙ there)
       (same_key-is q key at))
-  came-torn left torn leaves knows false at = inl (record {
-    absent = absent-same known known' q knows absent;
-    there = ap (λ b. cond b left (chunk_at held q)) (sym at) ∙ sym (left_at held key left q) ∙ sym (under-same (leaving key left held) held' q leaves) ∙ there;
-    kept = refl;
-  })
+  came-torn left torn now sizes false at =
+      idle stripe known _ _ held held' q found refl copies' absent there sizes
+      (ap (λ (h : Held). chunk_at h q) now ∙ left_at held key left q ∙ ap (λ b. cond b left (chunk_at held q)) at)
 
-  came-put : (answer : ChunkAnswer) → is_wiped answer ≡ false → PutLeaves key (chunk_record key bytes) answer held held'
-      → KnownAfterPut key (length bytes) answer known known' → CameSo (Serve.Put key life bytes) answer known held q found
-  came-put Did.Stored kept leaves knows = came-stored leaves knows
-  came-put Did.Fault kept leaves knows = came-torn leaves.0 leaves.1 leaves.2 knows (same_key q key) refl
-  came-put answer kept leaves knows = came-idle (Serve.Put key life bytes) answer known known' held held' q found kept leaves knows absent there
+  module _ (told told' : Option Held) (was : told ≡ Some held) (now : told' ≡ Some held') where
+    came-put : (answer : ChunkAnswer) → PutLeaves stripe key copy answer known.copies copies' told told'
+        → CameSo stripe known (Serve.Put key life bytes) answer held q found
+    unfolding is_wiped
+    came-put Did.Stored leaves = came-stored leaves.1 (told-now _ told told' held held' leaves.2 was now)
+    came-put Did.Fault leaves =
+        came-torn leaves.2.0 leaves.2.1 (told-now _ told told' held held' leaves.2.2 was now) leaves.1 (same_key q key) refl
+    came-put Did.NoMemory leaves =
+        idle stripe known _ _ held held' q found refl copies' absent there leaves.0
+        (ap (λ (h : Held). chunk_at h q) (same-now told told' held held' leaves.1 was now))
+    came-put answer leaves = absurd leaves
 
-  came-erase : (answer : ChunkAnswer) → is_wiped answer ≡ false → EraseLeaves key known answer held held'
-      → KnownAfterErase key answer known known' → CameSo (Serve.Erase key life) answer known held q found
-  came-erase Did.Erased kept leaves knows =
-      let apart = not-taken (same_key q key) (chunk_at held q) found
-      (sym (value_at-without_key key_cmp_total held.contents key q) ∙ ap (λ (contents : Contents). value_at key_cmp contents q) (sym leaves.1) ∙ there) in
-      inl (record {
-        absent =
-            ap (λ b. is_some (cond b None (value_at key_cmp known.lengths q))) (sym apart.0)
-            ∙ ap is_some (sym (value_at-without_key key_cmp_total known.lengths key q))
-            ∙ absent-same (forgetting key known) known' q knows absent;
-        there = apart.1;
-        kept = kept;
-      })
-  came-erase answer kept leaves knows = came-idle (Serve.Erase key life) answer known known' held held' q found kept leaves knows absent there
+  module _ (told told' : Option Held) (was : told ≡ Some held) (now : told' ≡ Some held') (size : CopySize) (from count : ℕ) (room : List ℕ) where
+    came-fetch : (answer : ChunkAnswer) → FetchLeaves key size from count answer room told told' → copies' ≡ known.copies
+        → CameSo stripe known (Serve.Fetch key life from bytes) answer held q found
+    unfolding is_wiped
+    came-fetch Did.Fetched leaves sizes =
+        idle stripe known _ _ held held' q found refl copies' absent there sizes
+        (ap (λ (h : Held). chunk_at h q) (told-now _ told told' held held' leaves.0 was now))
+    came-fetch Did.Fault leaves sizes =
+        idle stripe known _ _ held held' q found refl copies' absent there sizes
+        (ap (λ (h : Held). chunk_at h q) (same-now told told' held held' leaves.0 was now))
+    came-fetch answer leaves sizes = absurd leaves
 
-  came-wipe : (answer : ChunkAnswer) → WipeLeaves answer held held' → KnownAfterWipe answer known known'
-      → CameSo Serve.Wipe answer known held q found
-  unfolding is_wiped
-  came-wipe (Did.Wiped life) leaves knows =
-      let none : chunk_at held' q ≡ None = ap (λ (contents : Contents). value_at key_cmp contents q) leaves in absurd (cc)
-  came-wipe answer leaves knows = came-idle Serve.Wipe answer known known' held held' q found refl leaves knows absent there
+-- a request that was carried out
+came-done : (request : ChunkRequest) (reply : ChunkReply) (before after : Stored) (held held' : Held) (q : ChunkKey) (found : List ℕ)
+    → IsAskedOfServer request → Does request reply before after
+    → before.told ≡ Some held → after.told ≡ Some held'
+    → has_key key_cmp after.known.copies q ≡ false → chunk_at held' q ≡ Some found
+    → CameSo before.stripe before.known request reply.answer held q found
+came-done (Serve.Put key life bytes) reply before after held held' q found asked does was now absent there =
+    came-put key life bytes before.stripe before.known after.known.copies held held' q found absent there before.told after.told was now
+    reply.answer does.2
+came-done (Serve.Fetch key life from room) reply before after held held' q found asked does was now absent there =
+    came-fetch key life room before.stripe before.known after.known.copies held held' q found absent there before.told after.told was now
+    does.1.0 from (length room) reply.room reply.answer does.1.2 (ap (λ (k : Known). k.copies) does.0)
+came-done (Serve.Erase key life) reply before after held held' q found asked does was now absent there = absurd asked
+came-done Serve.Stop reply before after held held' q found asked does was now absent there = absurd asked
+came-done Serve.Start reply before after held held' q found asked does was now absent there = absurd asked
+came-done Serve.Wipe reply before after held held' q found asked does was now absent there = absurd asked
+came-done Serve.Inventory reply before after held held' q found asked does was now absent there = absurd asked
+came-done Serve.Upgrade reply before after held held' q found asked does was now absent there = absurd asked
 
-came : (request : ChunkRequest) (answer : ChunkAnswer) (known known' : Known) (held held' : Held) (key : ChunkKey) (found : List ℕ)
-    → IsAskedOfServer request → KeepsUnlessWipe request answer
-    → Leaves request known answer held held' → KnownAfter request answer known known'
-    → has_key key_cmp known'.lengths key ≡ false → chunk_at held' key ≡ Some found → CameSo request answer known held key found
-came (Serve.Put key life bytes) answer known known' held held' q found asked kept leaves knows absent there =
-    came-put key life bytes known known' held held' q found absent there answer kept leaves knows
-came (Serve.Fetch key life from room) answer known known' held held' q found asked kept leaves knows absent there =
-    came-idle _ answer known known' held held' q found kept leaves knows absent there
-came (Serve.Erase key life) answer known known' held held' q found asked kept leaves knows absent there =
-    came-erase key life [] known known' held held' q found absent there answer kept leaves knows
-came Serve.Stop answer known known' held held' q found asked kept leaves knows absent there =
-    inl (record {
-      absent = absent-same (record known { up = false }) known' q knows absent;
-      there = sym (under-same held held' q leaves) ∙ there;
-      kept = kept;
-    })
-came Serve.Start answer known known' held held' q found asked kept leaves knows absent there = absurd asked
-came Serve.Wipe answer known known' held held' q found asked kept leaves knows absent there =
-    came-wipe q 0 [] known known' held held' q found absent there answer leaves knows
-came Serve.Inventory answer known known' held held' q found asked kept leaves knows absent there =
-    came-idle Serve.Inventory answer known known' held held' q found kept leaves knows absent there
+came-by : (request : ChunkRequest) (reply : ChunkReply) (before after : Stored) (held held' : Held) (q : ChunkKey) (found : List ℕ)
+    → IsAskedOfServer request → (due : Option ChunkAnswer) → IsKept due → Answers request reply before after due
+    → before.told ≡ Some held → after.told ≡ Some held'
+    → has_key key_cmp after.known.copies q ≡ false → chunk_at held' q ≡ Some found
+    → CameSo before.stripe before.known request reply.answer held q found
+came-by request reply before after held held' q found asked (Some answer) kept answers was now absent there =
+    idle before.stripe before.known request reply.answer held held' q found
+    (ap (λ (r : ChunkReply). is_wiped r.answer) answers.0 ∙ kept) after.known.copies absent there
+    (ap (λ (s : Stored). s.known.copies) answers.1)
+    (ap (λ (h : Held). chunk_at h q)
+    (same-now before.told after.told held held' (ap (λ (s : Stored). s.told) answers.1) was now))
+came-by request reply before after held held' q found asked None kept answers was now absent there =
+    came-done request reply before after held held' q found asked answers.does was now absent there
+
+-- the refusal that is due is that of the server
+due-kept : (stripe : ℕ) (held : Held) (known : Known) (server : Server) (request : ChunkRequest) (now : ℕ) → now ≡ held.life
+    → StandsOn stripe held known server → IsKept (refusal known now request)
+due-kept stripe held known server request now is stands =
+    subst IsKept
+    (sym (ap (λ n. refusal known n request) is ∙ refusal_is stripe held known server request stands))
+    (refusal-kept server request)
 
 -- ---- a step of the server
 
@@ -319,22 +345,30 @@ unfolding wiped_at
 wiped-there number event server request answer asked told =
     ap (λ r. wiped_at number r event.request) told ∙ ap (wiped_at number (From.Chunk answer)) asked
 
-pub no-other-after : (steps : List Event) (event : Event) (number : ℕ) (request : ChunkRequest) (answer : ChunkReply) (server server' : Server)
-    (known known' : Known) (held held' : Held)
+pub no-other-after : (stripe : ℕ) (steps : List Event) (event : Event) (number : ℕ) (request : ChunkRequest) (answer : ChunkReply) (server server' : Server)
+    (before after : Stored) (held held' : Held)
     → IsAskedOfServer request → event.request ≡ To.Chunk number request → event.outcome ≡ chunk_outcome answer.answer
-    → event.reply ≡ From.Chunk answer → KeepsUnlessWipe request answer.answer
-    → StandsOn held known server → StandsOn held' known' server'
-    → Leaves request known answer.answer held held' → KnownAfter request answer.answer known known'
-    → HoldsNoOther steps number held server → HoldsNoOther (steps ++ event ∷ []) number held' server'
-no-other-after steps event number request answer server server' known known' held held' askable asked ended told kept stands stands' leaves knows none key found absent there =
-    elim (came request answer.answer known known' held held' key found askable kept leaves knows
-    (known_is_there held' known' server' key stands' ∙ ap is_some absent) there) [
+    → event.reply ≡ From.Chunk answer → numbered event.before.servers number ≡ Some server
+    → before.stripe ≡ stripe → before.told ≡ Some held → after.told ≡ Some held'
+    → StandsOn stripe held before.known server → StandsOn stripe held' after.known server'
+    → Serves request answer before after
+    → HoldsNoOther stripe steps number held server → HoldsNoOther stripe (steps ++ event ∷ []) number held' server'
+no-other-after stripe steps event number request answer server server' before after held held' askable asked ended told by of was now stands stands' serves none key found absent there =
+    let life : serves.now ≡ held.life =
+    (subst (λ (t : Option Held). IsLife serves.now t) was serves.life) in
+    let kept : IsKept (refusal before.known serves.now request) = due-kept stripe held before.known server request serves.now life stands in
+    let came = came-by request answer before after held held' key found askable _ kept serves.answers was now
+    (known_there after.known.copies server'.copies key stands'.copies ∙ ap is_some absent) there in
+    elim came [
       | inl stood ↦
-          left-longer steps event number key found
+          left-longer stripe steps event number key found
           (wiped-there number event number request answer asked told ∙ and-none (number == number) (is_wiped answer.answer) stood.kept)
-          (none key found (absent_copy held known server key stood.absent stands) stood.there)
+          (none key found
+          (absent_key server.copies key (sym (known_there before.known.copies server.copies key stands.copies) ∙ stood.absent)) stood.there)
       | inr left ↦
-          left-now steps event number key left.life left.bytes found (asked ∙ ap (To.Chunk number) left.put) (ended ∙ left.failed) left.part
+          left-now stripe steps event number key left.life left.bytes found server (asked ∙ ap (To.Chunk number) left.put) by (ended ∙ left.failed)
+          (subst (λ f. IsProperPrefix found (chunk_record f key (written server left.bytes))) of
+          (subst (λ f. IsProperPrefix found (chunk_record before.stripe key (record { form = f; bytes = left.bytes }))) stands.form left.part))
     ]
 
 -- ---- all servers
@@ -361,10 +395,10 @@ other-empties event server request answer number asked told apart =
     wiped-there number event server request answer asked told
     ∙ ap (λ b. b && is_wiped answer.answer) (differs server number (server == number) refl apart)
 
-pub no-others-longer : (steps : List Event) (event : Event) (stores : List Stored) (servers : List Server)
-    → ((number : ℕ) → wipes number event ≡ false) → HoldNoOthers steps stores servers → HoldNoOthers (steps ++ event ∷ []) stores servers
-no-others-longer steps event stores servers stays none number stored server held of to told =
-    no-other-longer steps event number held server (stays number) (none number stored server held of to told)
+pub no-others-longer : (stripe : ℕ) (steps : List Event) (event : Event) (stores : List Stored) (servers : List Server)
+    → ((number : ℕ) → wipes number event ≡ false) → HoldNoOthers stripe steps stores servers → HoldNoOthers stripe (steps ++ event ∷ []) stores servers
+no-others-longer stripe steps event stores servers stays none number stored server held of to told =
+    no-other-longer stripe steps event number held server (stays number) (none number stored server held of to told)
 
 got-set : {X : Type 0} (xs : List X) (k : ℕ) (x y : X) → slice_get (slice_set xs k x) k ≡ Some y → x ≡ y
 got-set [] k x y e = absurd (cc)
@@ -372,27 +406,27 @@ got-set (z ∷ zs) zero x y e = cc
 got-set (z ∷ zs) (suc k) x y e = got-set zs k x y e
 
 -- a step at a server: its device holds no others behind it, and the other devices are as they were
-pub no-others-set : (steps : List Event) (event : Event) (stores : List Stored) (servers : List Server) (place : ℕ) (next : Stored) (server : Server)
+pub no-others-set : (stripe : ℕ) (steps : List Event) (event : Event) (stores : List Stored) (servers : List Server) (place : ℕ) (next : Stored) (server : Server)
     (request : ChunkRequest) (answer : ChunkReply)
     → event.request ≡ To.Chunk (suc place) request → event.reply ≡ From.Chunk answer
-    → ((held : Held) → next.told ≡ Some held → HoldsNoOther (steps ++ event ∷ []) (suc place) held server)
-    → HoldNoOthers steps stores servers → HoldNoOthers (steps ++ event ∷ []) (slice_set stores place next) (slice_set servers place server)
+    → ((held : Held) → next.told ≡ Some held → HoldsNoOther stripe (steps ++ event ∷ []) (suc place) held server)
+    → HoldNoOthers stripe steps stores servers → HoldNoOthers stripe (steps ++ event ∷ []) (slice_set stores place next) (slice_set servers place server)
 unfolding numbered
-no-others-set steps event stores servers place next server request answer asked told own none zero stored other held of to is = absurd (cc)
-no-others-set steps event stores servers place next server request answer asked told own none (suc k) stored other held of to is =
+no-others-set stripe steps event stores servers place next server request answer asked told own none zero stored other held of to is = absurd (cc)
+no-others-set stripe steps event stores servers place next server request answer asked told own none (suc k) stored other held of to is =
     by (k == place) refl
   where
-    by : (same : Bool) → (k == place) ≡ same → HoldsNoOther (steps ++ event ∷ []) (suc k) held other
+    by : (same : Bool) → (k == place) ≡ same → HoldsNoOther stripe (steps ++ event ∷ []) (suc k) held other
     by true at =
         let here : k ≡ place = eqb-true k place at in
         let of_next : next ≡ stored = got-set stores place next stored (ap (slice_get (slice_set stores place next)) (sym here) ∙ of) in
         let of_server : server ≡ other = got-set servers place server other (ap (slice_get (slice_set servers place server)) (sym here) ∙ to) in
-        subst (λ n. HoldsNoOther (steps ++ event ∷ []) (suc n) held other) (sym here)
-        (subst (HoldsNoOther (steps ++ event ∷ []) (suc place) held) of_server (own held (ap (λ (s : Stored). s.told) of_next ∙ is)))
+        subst (λ n. HoldsNoOther stripe (steps ++ event ∷ []) (suc n) held other) (sym here)
+        (subst (HoldsNoOther stripe (steps ++ event ∷ []) (suc place) held) of_server (own held (ap (λ (s : Stored). s.told) of_next ∙ is)))
     by false at =
         let apart : k ≡ place → ⊥ = λ here. true≢false (sym (eq-eqb k place here) ∙ at) in
         let apart' : suc k ≡ suc place → ⊥ = λ here. apart (omega (arith, here)) in
-        no-other-longer steps event (suc k) held other
+        no-other-longer stripe steps event (suc k) held other
         (other-empties event (suc place) request answer (suc k) asked told apart')
         (none (suc k) stored other held
         (sym (get-set-other stores place k next apart) ∙ of) (sym (get-set-other servers place k server apart) ∙ to) is)

@@ -6,6 +6,7 @@ use Rattle.std.proofs.lemmas.Grind.{common_steps}
 use Rattle.std.proofs.lemmas.List.{length-map}
 use Rattle.std.specs.List.{list_any, AllZip}
 use Rattle.qfs_actor.specs.Standing.{Standing}
+use Rattle.qfs_base.specs.Rules.{rules_of}
 use Rattle.qfs_base.specs.Outcome.{outcome_of, chunk_outcome}
 use Rattle.qfs_base.specs.declared.history.Outcome.{Outcome}
 use Rattle.qfs_base.specs.declared.history.Outcome.TheVariants as Ended
@@ -14,22 +15,21 @@ use Rattle.qfs_base.specs.declared.image.MetaImage.{MetaImage}
 use Rattle.qfs_base.specs.declared.reply.NodeReply.{NodeReply}
 use Rattle.qfs_base.specs.declared.reply.NodeReply.TheVariants as From
 use Rattle.qfs_base.specs.declared.script.Script.{Script}
-use Rattle.qfs_device.specs.Fault.{Rose}
 use Rattle.qfs_device.specs.declared.log_disk.MetaDisks.{MetaDisks}
 use Rattle.qfs_machine.specs.Asking.{IsOut}
-use Rattle.qfs_meta.specs.Metaserver.{Metaserver}
+use Rattle.qfs_meta.specs.Metaserver.{GoesBy, Metaserver}
 use Rattle.qfs_model_actor.specs.Actor.{Actor, has_finished, after_reply, node_of}
 use Rattle.qfs_model_world.specs.World.{numbered, renumbered}
 use Rattle.qfs_store.specs.Stored.{Stored}
-use Rattle.qfs_world.specs.AtWork.{IsAtWork, TakesTurn, AreNumbered, image_of, stores_of, actors_of}
-use Rattle.qfs_world.specs.Calls.{Steps, nodes_of}
+use Rattle.qfs_world.specs.AtWork.{IsAtWork, TakesTurn, AreNumbered, image_of, meta_of, stores_of, actors_of}
+use Rattle.qfs_world.specs.Calls.{GoesOn, Steps, nodes_of}
 use Rattle.qfs_world.specs.Follows.{Follows}
 use Rattle.qfs_world.specs.Running.{Running, AllTell, turn_of, steps_left}
-use Rattle.qfs_world.specs.Turns.{GoesOn, no_server}
+use Rattle.qfs_world.specs.Turns.{no_server}
 use Rattle.qfs_world.specs.declared.node.NodeState.{NodeState}
 use Rattle.qfs_world.specs.declared.node.NodeState.TheVariants as Node
-use Rattle.qfs_world.proofs.Faults.{RoseAt, one-more, rises-at, fails-nowhere-else}
-use Rattle.qfs_world.proofs.Kept.{all-tell-set, chunk-ends, fault-of, meta-ends, numbered-is, follows-meta, follows-none, follows-store}
+use Rattle.qfs_world.proofs.Faults.{FailedAt, failed-once, goes-on}
+use Rattle.qfs_world.proofs.Kept.{all-tell-set, chunk-ends, meta-ends, numbered-is, follows-meta, follows-none, follows-store}
 use Rattle.qfs_world.proofs.Lists.{get-set, get-set-other, set-same}
 use Rattle.qfs_world.proofs.Nodes.{node-meta, node-chunk, nodes_with, stores-with, OfMeta, OfStore, OfNone, Took, took-turn}
 use Rattle.qfs_world.proofs.Numbered.{number-kept, number-at, numbered-set, actors-at, standing-at, actors-set, left-all-falls}
@@ -88,6 +88,11 @@ turn-place script nodes actors phases order work number turn =
       rests = own.rests;
       unfinished = ap has_finished found.actor_is ∙ has.unfinished;
     } in (found.it, subst (λ p. AtTurn actors number p found.it) place at)
+
+-- the metaserver of a script goes by its rules
+goes-by : (script : Script) (image : MetaImage) → GoesBy (rules_of script) (meta_of script image)
+unfolding rules_of
+goes-by script image = record { layout = refl; term = refl }
 
 module _ {D : Type 0} where
   -- nodes with a script's metaserver and these chunk servers have them
@@ -157,7 +162,7 @@ module _ {D : Type 0} where
       took = t.took;
       follows =
           λ tell.
-          follows-meta script order meta stores (actors_of actors) place it.actor refl own (actors-at actors place it there) turns outcome
+          follows-meta script counts order meta stores (actors_of actors) place it.actor (goes-by script _) own (actors-at actors place it there) turns outcome
           behind next.actor (work.follows tell) t;
     }
 
@@ -167,7 +172,7 @@ module _ {D : Type 0} where
       took = t.took;
       follows =
           λ tell.
-          follows-none script order meta stores (actors_of actors) place it.actor refl own (actors-at actors place it there) turns outcome
+          follows-none script counts order meta stores (actors_of actors) place it.actor (goes-by script (image_of nodes)) own (actors-at actors place it there) turns outcome
           behind next.actor (work.follows tell) t;
     }
 
@@ -179,7 +184,7 @@ module _ {D : Type 0} where
       follows =
           λ tell.
           let before = all-tell-set stores t.place t.stored t.next t.there t.serves.tells tell in
-          follows-store script order meta stores (actors_of actors) place it.actor refl own (actors-at actors place it there) turns outcome
+          follows-store script counts order meta stores (actors_of actors) place it.actor (goes-by script (image_of nodes)) own (actors-at actors place it there) turns outcome
           behind next.actor (work.follows before) t;
     }
 
@@ -203,7 +208,7 @@ module _ {D : Type 0} where
       pub meta_stays : (node ≡ 0 → ⊥) → image' ≡ image_of nodes
       pub stores_stay : (server : ℕ) → (server ≡ node → ⊥) → numbered stores' server ≡ numbered stores server
       pub goes_on : AllZip GoesOn stores stores'
-      pub cause : outcome ≡ Ended.Failed → RoseAt stores stores' node
+      pub cause : outcome ≡ Ended.Failed → FailedAt stores stores' node
 
     tells-meta : (t : OfMeta meta stores it.actor outcome behind next.actor) → Tells t.next.image stores (From.Meta t.answer) 0
     tells-meta t = record {
@@ -388,6 +393,7 @@ module _ {D L : Type 0} (script : Script) (counts : List ℕ) (nodes : List (Nod
   abbrev pub seen : Running D L
   seen = record {
     script = script;
+    counts = counts;
     meta = image_of nodes;
     stores = stores_of nodes;
     actors = actors_of actors;
@@ -399,6 +405,7 @@ module _ {D L : Type 0} (script : Script) (counts : List ℕ) (nodes : List (Nod
   abbrev pub seen_behind : Running D L
   seen_behind = record {
     script = script;
+    counts = counts;
     meta = image_of behind;
     stores = stores_of behind;
     actors = actors_of (slice_set actors place next);
