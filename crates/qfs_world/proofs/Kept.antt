@@ -43,7 +43,7 @@ use Rattle.qfs_world.proofs.Faults.{IsDone, counts-on, failed-once, none-fails, 
 use Rattle.qfs_world.proofs.Nodes.{OfMeta, OfStore, OfNone}
 use Rattle.qfs_world.proofs.Others.{meta-empties, down-empties, no-other-after, no-others-longer, no-others-set}
 use Rattle.qfs_world.proofs.Simulation.{event, events-after, world-after, fits-after}
-use Rattle.qfs_world.proofs.Stands.{ServerAt, stands-at, stands-past, stands-set, store-follows, Follows as Served}
+use Rattle.qfs_world.proofs.Stands.{ServerAt, stands-at, stands-past, stands-set, StepsAs, store-steps}
 
 -- ---- which outcomes may come
 

@@ -11,4 +11,5 @@ pub mod Simulation
 pub mod Stands
 pub mod Starts
 pub mod Step
+pub mod Tries
 pub mod TurnLists
