@@ -3,6 +3,7 @@ mod Columns
 mod Parity
 mod Spares
 mod Counts
+mod Horner
 mod LeftOut
 mod Words
 mod WantedSlot

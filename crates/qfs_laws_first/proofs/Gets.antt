@@ -8,6 +8,7 @@ use Rattle.std.specs.List.{range_with_len}
 use Rattle.qfs_base.specs.FileReplies.{refused_or, wanted_bytes, bytes_at, file_reply, reply_at}
 use Rattle.qfs_base.specs.Files.{files_of, files_standing}
 use Rattle.qfs_base.specs.NameTree.{PathNames, stands_at, add_refusal, look_refusal}
+use Rattle.qfs_base.specs.Rules.{rules_of}
 use Rattle.qfs_base.specs.Shape.{Shape}
 use Rattle.qfs_base.specs.Table.{Each}
 use Rattle.qfs_base.specs.declared.chunk.ChunkKey.{ChunkKey}
@@ -20,14 +21,15 @@ use Rattle.qfs_base.specs.declared.recipe.Form.{Form}
 use Rattle.qfs_base.specs.declared.reply.MetaReply.TheVariants as Told
 use Rattle.qfs_base.specs.declared.reply.TreeRefusal.{TreeRefusal}
 use Rattle.qfs_base.specs.declared.request.MetaRequest.TheVariants as Ask
+use Rattle.qfs_base.specs.declared.rules.Rules.{Rules}
 use Rattle.qfs_base.specs.declared.script.Script.{Script}
 use Rattle.qfs_model_actor.specs.Get.{listed_in}
 use Rattle.qfs_model_meta.specs.Apply.{finish_lease, apply, apply_all}
-use Rattle.qfs_model_meta.specs.Change.{GiveLease, EndLease}
+use Rattle.qfs_base.specs.declared.change.Change.TheVariants.{GiveLease, EndLease}
 use Rattle.qfs_model_meta.specs.Decide.{decide, decide_request}
 use Rattle.qfs_model_meta.specs.Decision.{Makes, unless}
 use Rattle.qfs_model_meta.specs.GetRequests.{opened, decide_open, decide_release}
-use Rattle.qfs_model_meta.specs.Leases.{holds_lease}
+use Rattle.qfs_model_meta.specs.Leases.{holds_lease, lease_end}
 use Rattle.qfs_model_meta.specs.Lists.{listed_nine, listed_blocks, block_count}
 use Rattle.qfs_model_meta.specs.Range.{in_range}
 use Rattle.qfs_model_meta.specs.Servers.{server_at, is_live, is_listed, listed_copy}
@@ -36,14 +38,14 @@ use Rattle.qfs_model_meta.specs.Step.{first_server, next_turn, meta_step}
 use Rattle.qfs_model_meta.specs.TreeRows.{standing, row_path, row_at}
 use Rattle.qfs_model_server.specs.Server.{Server}
 use Rattle.qfs_model_world.specs.Puts.{puts_of}
-use Rattle.qfs_model_world.specs.World.{numbered, renumbered}
+use Rattle.qfs_model_world.specs.World.{renumbered}
 use Rattle.qfs_laws_first.specs.Standing.{entry_of}
 use Rattle.qfs_laws_first.proofs.Histories.{written-later}
 use Rattle.qfs_laws_first.proofs.Kept.{file-kept, view-first}
 use Rattle.qfs_laws_first.proofs.MetaSteps.{refused-file, accepted-file, AreFew, step-makes, step-tells}
 use Rattle.qfs_laws_first.proofs.Reading.{IsShort, blocks_of-one}
 use Rattle.qfs_laws_first.proofs.Rows.{each_weaker}
-use Rattle.qfs_laws_first.proofs.Servers.{stored_at, stored-same, are_up-changed}
+use Rattle.qfs_laws_first.proofs.Servers.{IsUp, stored_at, stored-same, are_up-changed}
 use Rattle.qfs_laws_first.proofs.States.{first_block, first_key, first_copy, IsFile, IsRow, Steady, Between, Reads}
 use Rattle.qfs_laws_first.proofs.Trees.{ClosedAt, standing-files, bytes-found, each_find}
 
@@ -114,22 +116,22 @@ between-later script servers m commands b = record {
 
 -- ---- OpenFile
 
--- the state once a file is open
-abbrev pub opened_state : MetaImage → ℕ → MetaImage
-opened_state m file = next_turn (apply_all (GiveLease 1 file ∷ []) m)
+-- the state once a file is open, under a lease for a term
+abbrev pub opened_state : ℕ → MetaImage → ℕ → MetaImage
+opened_state term m file = next_turn (apply_all (GiveLease 1 file (lease_end term m.clock) ∷ []) m)
 
 module _ (script : Script) (servers : List Server) (m : MetaImage) (commands : ℕ) (b : Between script servers m commands) where
-  pub open-refused : (layout : Shape) (path : PathNames) (why : TreeRefusal) → look_refusal (standing m.tree) path ≡ Some why
-      → meta_step layout 1 (Ask.OpenFile path) Ended.Done m ≡ record { meta = m; reply = Told.Refused why (length m.history) }
+  pub open-refused : (rules : Rules) (path : PathNames) (why : TreeRefusal) → look_refusal (standing m.tree) path ≡ Some why
+      → meta_step rules 1 (Ask.OpenFile path) Ended.Done m ≡ record { meta = m; reply = Told.Refused why (length m.history) }
   unfolding decide in_range unless decide_request decide_open
-  open-refused layout path why refused =
-      step-tells layout m (Ask.OpenFile path) b.steady.dropped (Told.Refused why (length m.history)) (refused-file (length m.history) _ why _ refused)
+  open-refused rules path why refused =
+      step-tells rules m (Ask.OpenFile path) b.steady.dropped (Told.Refused why (length m.history)) (refused-file (length m.history) _ why _ refused)
 
   row-found : (path : PathNames) (c : ClosedAt m.tree path) → row_at m.tree path ≡ c.row
   unfolding row_at
   row-found path c = rw c.found refl
 
-  open-few : (file : ℕ) → commands ≤ 4096 → AreFew (apply_all (GiveLease 1 file ∷ []) m)
+  open-few : (file : ℕ) → commands ≤ 4096 → AreFew (apply_all (GiveLease 1 file (lease_end script.term m.clock) ∷ []) m)
   unfolding apply_all apply
   open-few file few = record {
     files = omega (arith, b.steady.few_files);
@@ -138,18 +140,18 @@ module _ (script : Script) (servers : List Server) (m : MetaImage) (commands : �
     entries = omega (arith, b.steady.few_entries);
   }
 
-  pub open-served : (layout : Shape) (path : PathNames) (c : ClosedAt m.tree path) → look_refusal (standing m.tree) path ≡ None → commands ≤ 4096
-      → meta_step layout 1 (Ask.OpenFile path) Ended.Done m
-      ≡ record { meta = opened_state m c.row.file; reply = Told.Opened (opened layout c.row m) }
-  unfolding decide in_range unless decide_request decide_open
-  open-served layout path c free few =
-      step-makes layout m (Ask.OpenFile path) b.steady.dropped (GiveLease 1 c.row.file ∷ []) (Told.Opened (opened layout c.row m))
+  pub open-served : (path : PathNames) (c : ClosedAt m.tree path) → look_refusal (standing m.tree) path ≡ None → commands ≤ 4096
+      → meta_step (rules_of script) 1 (Ask.OpenFile path) Ended.Done m
+      ≡ record { meta = opened_state script.term m c.row.file; reply = Told.Opened (opened script.layout c.row m) }
+  unfolding rules_of decide in_range unless decide_request decide_open
+  open-served path c free few =
+      step-makes (rules_of script) m (Ask.OpenFile path) b.steady.dropped (GiveLease 1 c.row.file (lease_end script.term m.clock) ∷ []) (Told.Opened (opened script.layout c.row m))
       (accepted-file (length m.history) (look_refusal (standing m.tree) path) _ free
-      ∙ ap (λ (row : TreeRow). Makes (GiveLease 1 row.file ∷ []) (Told.Opened (opened layout row m))) (row-found path c))
+      ∙ ap (λ (row : TreeRow). Makes (GiveLease 1 row.file (lease_end script.term m.clock) ∷ []) (Told.Opened (opened script.layout row m))) (row-found path c))
       (open-few c.row.file few)
 
   -- the get has its lease
-  pub get-opened : (file : ℕ) → Reads script servers (opened_state m file) commands
+  pub get-opened : (file : ℕ) → Reads script servers (opened_state script.term m file) commands
   unfolding next_turn apply_all apply
   get-opened file = record {
     steady = record {
@@ -198,20 +200,19 @@ module _ (script : Script) (servers : List Server) (m : MetaImage) (commands : �
 
 -- ---- Fetch
 
-module _ (script : Script) (servers : List Server) (m : MetaImage) (commands server : ℕ) (before : Server) (more : ℕ) (r : Reads script servers m commands)
-    (there : numbered servers server ≡ Some before) (up : before.up ≡ true) (life : before.life ≡ 1) where
+module _ (script : Script) (servers : List Server) (m : MetaImage) (commands server more : ℕ) (r : Reads script servers m commands) (u : IsUp servers server) where
   abbrev handed : Server
-  handed = record before { handed_out = more }
+  handed = record u.server { handed_out = more }
 
   pub stays-stored : (other : ℕ) (key : ChunkKey) → stored_at (renumbered servers server handed) other key ≡ stored_at servers other key
-  stays-stored other key = stored-same servers server other before handed key there refl
+  stays-stored other key = stored-same servers server other u.server handed key u.there refl
 
   pub get-fetched : Reads script (renumbered servers server handed) m commands
   get-fetched = record {
     steady = record {
       views = r.steady.views;
       dropped = r.steady.dropped;
-      up = are_up-changed script.servers servers server before handed there up life r.steady.up;
+      up = are_up-changed servers server u handed u.up u.life u.form script.servers r.steady.up;
       few_files = r.steady.few_files;
       few_leases = r.steady.few_leases;
       few_condemned = r.steady.few_condemned;
@@ -246,18 +247,18 @@ module _ (script : Script) (servers : List Server) (m : MetaImage) (commands : �
     entries = omega (arith, r.steady.few_entries);
   }
 
-  pub release-served : (layout : Shape) (lease : ℕ) → holds_lease 1 lease m.leases ≡ true → commands ≤ 4096
-      → meta_step layout 1 (Ask.Release lease) Ended.Done m ≡ record { meta = released_state m lease; reply = Told.Done (length m.history) }
+  pub release-served : (rules : Rules) (lease : ℕ) → holds_lease 1 lease m.leases ≡ true → commands ≤ 4096
+      → meta_step rules 1 (Ask.Release lease) Ended.Done m ≡ record { meta = released_state m lease; reply = Told.Done (length m.history) }
   unfolding decide in_range unless decide_request decide_release
-  release-served layout lease holds few =
-      step-makes layout m (Ask.Release lease) r.steady.dropped (EndLease lease ∷ []) (Told.Done (length m.history))
+  release-served rules lease holds few =
+      step-makes rules m (Ask.Release lease) r.steady.dropped (EndLease lease ∷ []) (Told.Done (length m.history))
       (ap (λ b. unless b Told.Gone (Makes (EndLease lease ∷ []) (Told.Done (length m.history)))) holds) (release-few lease few)
 
-  pub release-gone-served : (layout : Shape) (lease : ℕ) → holds_lease 1 lease m.leases ≡ false
-      → meta_step layout 1 (Ask.Release lease) Ended.Done m ≡ record { meta = m; reply = Told.Gone }
+  pub release-gone-served : (rules : Rules) (lease : ℕ) → holds_lease 1 lease m.leases ≡ false
+      → meta_step rules 1 (Ask.Release lease) Ended.Done m ≡ record { meta = m; reply = Told.Gone }
   unfolding decide in_range unless decide_request decide_release
-  release-gone-served layout lease gone =
-      step-tells layout m (Ask.Release lease) r.steady.dropped Told.Gone
+  release-gone-served rules lease gone =
+      step-tells rules m (Ask.Release lease) r.steady.dropped Told.Gone
       (ap (λ b. unless b Told.Gone (Makes (EndLease lease ∷ []) (Told.Done (length m.history)))) gone)
 
   pub reads-ended : Between script servers m (commands + 1)

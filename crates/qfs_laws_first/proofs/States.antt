@@ -1,5 +1,5 @@
 -- How the world of one actor stands: between two commands, in a put and in a get.
-use Rattle.std.proofs.Common.{◌≡◌, ℕ, ◌+◌, ◌*◌, ◌<◌, ◌≤◌, ◌==◌, true, false, List, [], length, replicate, Some, None}
+use Rattle.std.proofs.Common.{◌≡◌, ℕ, ◌+◌, ◌*◌, ◌<◌, ◌≤◌, true, false, List, [], length, replicate, Some, None}
 use Rattle.qfs_base.specs.NameTree.{PathNames}
 use Rattle.qfs_base.specs.Shape.{Shape}
 use Rattle.qfs_base.specs.Table.{Each}
@@ -11,16 +11,16 @@ use Rattle.qfs_base.specs.declared.image.SlotRecord.{SlotRecord}
 use Rattle.qfs_base.specs.declared.image.SlotRow.{SlotRow}
 use Rattle.qfs_base.specs.declared.image.TreeRow.{TreeRow}
 use Rattle.qfs_base.specs.declared.script.Script.{Script}
-use Rattle.qfs_model_meta.specs.PutRequests.{lacks_grant, slot_id}
-use Rattle.qfs_model_meta.specs.Slots.{never_granted, slot_at, grants_of_block}
+use Rattle.qfs_model_meta.specs.PutRequests.{lacks_grant}
+use Rattle.qfs_model_meta.specs.Slots.{slot_id, never_granted, is_of_file, slot_at, grants_of_block}
 use Rattle.qfs_model_meta.specs.Step.{first_server}
-use Rattle.qfs_model_meta.specs.TreeRows.{file_row, unclosed_file}
+use Rattle.qfs_model_meta.specs.TreeRows.{file_row, has_file, unclosed_file}
 use Rattle.qfs_model_server.specs.Server.{Server}
 use Rattle.qfs_model_slot.specs.Slot.{slot_of}
 use Rattle.qfs_model_world.specs.FileHistory.{created_path}
 use Rattle.qfs_model_world.specs.Puts.{put_path, puts_of}
 use Rattle.qfs_laws_first.proofs.Histories.{Written}
-use Rattle.qfs_laws_first.proofs.Servers.{AreUp, stored_at}
+use Rattle.qfs_laws_first.proofs.Servers.{AreUp, first_chunk, stored_at}
 
 -- ---- copies
 
@@ -44,7 +44,7 @@ pub record HasCurrent (n : ℕ) (servers : List Server) (slots : List SlotRow) (
   pub first : 1 ≤ server
   pub last : server ≤ n
   pub current : (slot_at slots (first_block file) slot).current ≡ Some (first_copy server)
-  pub stored : stored_at servers server (first_key file slot) ≡ Some bytes
+  pub stored : stored_at servers server (first_key file slot) ≡ Some (first_chunk bytes)
 
 -- a slot is granted on a server, which stores these bytes where the flag says so
 pub record IsGranted (n : ℕ) (servers : List Server) (slots : List SlotRow) (file slot : ℕ) (bytes : List ℕ) (is_stored : Type 0) : Type 0 where
@@ -52,7 +52,7 @@ pub record IsGranted (n : ℕ) (servers : List Server) (slots : List SlotRow) (f
   pub first : 1 ≤ server
   pub last : server ≤ n
   pub granted : slot_at slots (first_block file) slot ≡ granted_once server
-  pub stored : is_stored → stored_at servers server (first_key file slot) ≡ Some bytes
+  pub stored : is_stored → stored_at servers server (first_key file slot) ≡ Some (first_chunk bytes)
 
 -- ---- files
 
@@ -118,11 +118,11 @@ pub record Puts (script : Script) (servers : List Server) (m : MetaImage) (comma
   pub bytes_are : puts_of script 1 (commands + 1) ≡ t.bytes
   pub some : 1 ≤ length t.bytes
   pub most : length t.bytes ≤ 32
-  pub own : Each (λ (row : TreeRow). (row.file == t.file) ≡ true → row ≡ target_row commands t) m.tree
+  pub own : Each (λ (row : TreeRow). has_file t.file row ≡ true → row ≡ target_row commands t) m.tree
   pub unclosed : unclosed_file 1 t.file m.tree ≡ Some (target_row commands t)
   pub grants : (slot : ℕ) → slot < granted → IsGranted script.servers servers m.slots t.file slot (slot_of script.layout t.bytes 0 slot) (slot < stored)
   pub ungranted : (slot : ℕ) → granted ≤ slot → slot_at m.slots (first_block t.file) slot ≡ never_granted
-  pub all_granted : Each (λ (row : SlotRow). (row.block.file == t.file) ≡ true → lacks_grant m.slots (slot_id row) ≡ false) m.slots
+  pub all_granted : Each (λ (row : SlotRow). is_of_file t.file row ≡ true → lacks_grant m.slots (slot_id row) ≡ false) m.slots
   pub few_grants : length (grants_of_block (first_block t.file) m.slots) ≤ granted
   pub none_to_come : (server : ℕ) (key : ChunkKey) → t.file < key.block.file → stored_at servers server key ≡ None
   pub unstored : (server slot : ℕ) → stored ≤ slot → stored_at servers server (first_key t.file slot) ≡ None

@@ -2,6 +2,7 @@
 use Rattle.std.proofs.Common.{◌≡◌, ℕ, zero, suc, ◌≤◌, ◌==◌, Bool, true, false, cond, not, ◌&&◌, List, [], ◌∷◌, map, find, Option, Some, None, refl, sym, ap, subst, ◌∙◌, arith}
 use Rattle.std.proofs.lemmas.Bool.{eqb-true}
 use Rattle.std.specs.Option.{option_map, option_map_or, option_or}
+use Rattle.std.specs.Ordering.{nat_cmp, is_eq}
 use Rattle.std.specs.declared.cmp.Ordering.{Ordering}
 use Rattle.std.specs.declared.cmp.Ordering.TheVariants.{Less, Equal, Greater}
 use Rattle.qfs_base.specs.FileReplies.{bytes_of_content, bytes_at}
@@ -14,6 +15,7 @@ use Rattle.qfs_base.specs.declared.reply.TreeRefusal.{TreeRefusal}
 use Rattle.qfs_base.specs.declared.reply.TreeRefusal.TheVariants as Not
 use Rattle.qfs_model_meta.specs.TreeRows.{kind_of, standing, row_path, has_file, close_row, add_row, close_file}
 use Rattle.qfs_laws_first.specs.Standing.{content_if, entry_of}
+use Rattle.qfs_laws_first.proofs.Tests.{same-number, fails, own-key, same-key}
 
 -- ---- what stands in the tree
 
@@ -51,7 +53,7 @@ map-added puts row tree = map-placed (entry_of puts) (row_cmp row_path) (row_cmp
 
 -- a row is of another file, or is unclosed and of this actor and command
 abbrev pub MayClose : ℕ → ℕ → ℕ → TreeRow → Type 0
-MayClose file actor command row = (row.file == file) ≡ true → (row.closed ≡ false) × (row.actor ≡ actor) × (row.command ≡ command)
+MayClose file actor command row = has_file file row ≡ true → (row.closed ≡ false) × (row.actor ≡ actor) × (row.command ≡ command)
 
 unclosed-same : (file : ℕ) (row : TreeRow) (puts : Puts) (b closed : Bool) → (row.file == file) ≡ b → row.closed ≡ closed → is_unclosed_entry file (entry_of puts row) ≡ (b && not closed)
 unfolding is_unclosed_entry entry_of content_if is_unclosed_content
@@ -60,22 +62,27 @@ unclosed-same file row puts true false is shut = rw (shut, is) refl
 unclosed-same file row puts false true is shut = rw shut refl
 unclosed-same file row puts false false is shut = rw (shut, is) refl
 
-closed-one : (file actor command : ℕ) (puts : Puts) (row : TreeRow) (b : Bool) → (row.file == file) ≡ b → MayClose file actor command row
+closed-one : (file actor command : ℕ) (puts : Puts) (row : TreeRow) (b : Bool) → is_eq (nat_cmp file row.file) ≡ b → MayClose file actor command row
     → entry_of puts (change_row close_row row (has_file file row)) ≡ change_row (close_entry file (puts actor command)) (entry_of puts row) (is_unclosed_entry file (entry_of puts row))
 unfolding has_file close_row close_entry entry_of content_if
 closed-one file actor command puts row true is may =
     let row_is = may is in
-    let same : row.file ≡ file = eqb-true row.file file is in
-    rw (unclosed-same file row puts true false is row_is.0, is, row_is.1, row_is.2, same) refl
+    let same : row.file ≡ file = sym (same-key file row.file is) in
+    let own : (row.file == file) ≡ true = rw same (same-number file) in
+    rw (unclosed-same file row puts true false own row_is.0, is, row_is.1, row_is.2, same) refl
 closed-one file actor command puts row false is may =
-    rw (unclosed-same file row puts false row.closed is refl, is) refl
+    let other : (row.file == file) ≡ false = fails _ (λ same. let equal : row.file ≡ file = eqb-true row.file file same in absurd (differ (rw equal (own-key file)))) in
+    rw (unclosed-same file row puts false row.closed other refl, is) refl
+  where
+    differ : is_eq (nat_cmp file row.file) ≡ true → ⊥
+    differ own = absurd (cc)
 
 pub map-closed : (file actor command : ℕ) (puts : Puts) (tree : List TreeRow) → Each (MayClose file actor command) tree
     → map (entry_of puts) (close_file file tree) ≡ change_where (is_unclosed_entry file) (close_entry file (puts actor command)) (map (entry_of puts) tree)
 unfolding close_file
 map-closed file actor command puts [] may = refl
 map-closed file actor command puts (row ∷ rows) may =
-    rw (closed-one file actor command puts row (row.file == file) refl may.0, map-closed file actor command puts rows may.1) refl
+    rw (closed-one file actor command puts row (is_eq (nat_cmp file row.file)) refl may.0, map-closed file actor command puts rows may.1) refl
 
 -- ---- a closed file is found
 

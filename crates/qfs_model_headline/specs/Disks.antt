@@ -8,7 +8,8 @@ use Rattle.qfs_base.specs.Sizes.{LAST_U64}
 use Rattle.qfs_model_meta.specs.Step.{opening}
 use Rattle.qfs_model_world.specs.Events.{Event, events, world_behind}
 use Rattle.qfs_model_world.specs.Headline.{is_sure}
-use Rattle.qfs_model_world.specs.Replayed.{Logged, requests_in, was_logged, has_saved, has_restarted, logged_since_checkpoint}
+use Rattle.qfs_model_world.specs.Replayed.{requests_in, was_logged, has_saved, has_restarted, logged_since_checkpoint}
+use Rattle.qfs_model_meta.specs.Step.{Logged}
 
 -- how long the image of a metaserver is on a disk, and the record of a request with its actor
 module _ (image_length : MetaImage → ℕ) (record_length : Logged → ℕ) where

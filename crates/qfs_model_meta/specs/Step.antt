@@ -85,3 +85,7 @@ opening servers =
       dropped = [];
       history = [];
     }
+
+-- a request to the metaserver, with the actor who asked it
+abbrev pub Logged : Type 0
+Logged = ℕ × MetaRequest

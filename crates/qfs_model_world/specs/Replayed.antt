@@ -9,12 +9,11 @@ use Rattle.qfs_base.specs.declared.reply.MetaReply.{MetaReply}
 use Rattle.qfs_base.specs.declared.reply.MetaReply.TheVariants as Told
 use Rattle.qfs_base.specs.declared.reply.NodeReply.{NodeReply}
 use Rattle.qfs_base.specs.declared.reply.NodeReply.TheVariants as From
-use Rattle.qfs_base.specs.declared.request.MetaRequest.{MetaRequest}
 use Rattle.qfs_base.specs.declared.request.NodeRequest.{NodeRequest}
 use Rattle.qfs_base.specs.declared.request.NodeRequest.TheVariants as To
 use Rattle.qfs_base.specs.declared.rules.Rules.{Rules}
 use Rattle.qfs_base.specs.declared.script.Script.{Script}
-use Rattle.qfs_model_meta.specs.Step.{meta_step}
+use Rattle.qfs_model_meta.specs.Step.{Logged, meta_step}
 use Rattle.qfs_model_text.specs.Order.{same_outcome}
 use Rattle.qfs_model_world.specs.Events.{Event, events, world_behind}
 use Rattle.qfs_model_world.specs.World.{after}
@@ -40,10 +39,7 @@ unfoldable pub has_restarted : NodeReply → Bool
 has_restarted (From.Meta reply) = says_restarted reply
 has_restarted (From.Chunk reply) = false
 
--- a request to the metaserver, with its actor
-abbrev pub Logged : Type 0
-Logged = ℕ × MetaRequest
-
+-- the request of a step to the metaserver, with its actor
 unfoldable pub meta_request : ℕ → NodeRequest → Option Logged
 meta_request actor (To.Meta request) = Some (actor, request)
 meta_request actor (To.Chunk server request) = None

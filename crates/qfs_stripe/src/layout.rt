@@ -4,7 +4,7 @@ ghost use Rattle.std.specs.Prelude.{◌≡◌, ℕ, ◌+◌, ◌-◌, ◌*◌, �
 ghost use Rattle.std.specs.List.{range_with_len};
 ghost use Rattle.qfs_base.specs.Shape.{IsStripe, IsRowCount};
 ghost use Rattle.qfs_base.specs.Layout.{row_bytes, block_bytes, blocks_of, rows_of, place_of, offset_of, blocks_touched, windows_touched, windows_of};
-ghost use Rattle.qfs_base.specs.Sizes.{DATA_SLOTS, MOST_FILE_BYTES};
+ghost use Rattle.qfs_base.specs.Sizes.{MOST_FILE_BYTES};
 ghost use Rattle.qfs_stripe.specs.Touched.{offset_at, spot_at, first_touched, IsTouched, AreTouched, AreInOrder};
 
 use crate::block_windows::BlockWindows;

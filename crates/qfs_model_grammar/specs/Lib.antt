@@ -1,0 +1,16 @@
+pub mod Lines
+pub mod Read
+pub mod Kinds
+pub mod CommandWord
+pub mod FirstWord
+pub mod FirstWords
+pub mod Place
+pub mod Counts
+pub mod CommandLines
+pub mod SoFar
+pub mod ReadScript
+pub mod Examples
+pub mod BadWords
+pub mod BadCounts
+pub mod BadNumbers
+pub mod BadOthers
