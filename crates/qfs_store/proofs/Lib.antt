@@ -1,0 +1,4 @@
+pub mod FreshLaws
+pub mod KeyLaws
+pub mod RecordLaws
+pub mod StandsLaws
