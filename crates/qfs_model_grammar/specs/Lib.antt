@@ -14,3 +14,4 @@ pub mod BadWords
 pub mod BadCounts
 pub mod BadNumbers
 pub mod BadOthers
+pub mod WorkedTexts
