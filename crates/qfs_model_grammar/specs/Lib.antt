@@ -15,3 +15,4 @@ pub mod BadCounts
 pub mod BadNumbers
 pub mod BadOthers
 pub mod WorkedTexts
+pub mod Laws

@@ -1,5 +1,5 @@
 -- Small texts, and what they say: a whole script with each form of line, and what is read where a rule could be taken in two ways.
-use Rattle.std.specs.Prelude.{◌≡◌, ℕ, ◌+◌, Bool, true, false, List, [], ◌∷◌, ◌++◌, codes, decimal, map, replicate, Option, Some, None, Ok, Err}
+use Rattle.std.specs.Prelude.{◌≡◌, ℕ, true, false, List, [], ◌∷◌, ◌++◌, codes, decimal, map, replicate, Some, None, Ok, Err}
 use Rattle.std.specs.List.{range_with_len}
 use Rattle.qfs_base.specs.declared.command.Command.{Command}
 use Rattle.qfs_base.specs.declared.command.Command.TheVariants as Does
@@ -100,12 +100,12 @@ every_command = record {
   audit = true;
   phases = (first_commands ∷ [] ∷ []) ∷ (third_commands ∷ []) ∷ [];
   order = Some (
-    record { actor = 1; outcome = Ended.Done }
-    ∷ record { actor = 1; outcome = Ended.Done }
-    ∷ record { actor = 3; outcome = Ended.Failed }
-    ∷ record { actor = 1; outcome = Ended.NoMemory }
-    ∷ record { actor = 1; outcome = Ended.Done }
-    ∷ []);
+      record { actor = 1; outcome = Ended.Done }
+      ∷ record { actor = 1; outcome = Ended.Done }
+      ∷ record { actor = 3; outcome = Ended.Failed }
+      ∷ record { actor = 1; outcome = Ended.NoMemory }
+      ∷ record { actor = 1; outcome = Ended.Done }
+      ∷ []);
 }
 
 -- it is read to its value, and what is printed of that value is read to it too

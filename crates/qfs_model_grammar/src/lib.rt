@@ -7,6 +7,7 @@ ghost use Rattle.qfs_model_grammar.specs.BadCounts.{BadCounts};
 ghost use Rattle.qfs_model_grammar.specs.BadNumbers.{BadNumbers};
 ghost use Rattle.qfs_model_grammar.specs.BadOthers.{BadOthers};
 ghost use Rattle.qfs_model_grammar.specs.BadWords.{BadWords};
+ghost use Rattle.qfs_model_grammar.specs.Laws.{FirstBadDecides, LongTextIsRefused};
 ghost use Rattle.qfs_model_grammar.specs.WorkedTexts.{WholeScript, LinesEnd, OrderIsMissing, CausesInOrder, HeadsAndRuns, Limits};
 
 /// A first word that may not stand where it stands is refused, and so is a text that ends too early.
@@ -57,4 +58,14 @@ pub fn refuses_heads_and_runs()
 /// The first line past a limit is refused, where it has no other cause.
 pub fn keeps_limits()
     ensures { Limits }
+{}
+
+/// The first bad line is told with its cause, whatever stands behind it.
+pub fn first_bad_line_decides()
+    ensures { FirstBadDecides }
+{}
+
+/// A text of too many bytes is refused as such.
+pub fn refuses_long_texts()
+    ensures { LongTextIsRefused }
 {}
