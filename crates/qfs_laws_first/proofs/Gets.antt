@@ -1,8 +1,8 @@
 -- A get opens its file, fetches its slots and releases its lease.
-use Rattle.std.proofs.Common.{◌≡◌, ℕ, ◌+◌, ◌*◌, ◌<◌, ◌≤◌, true, false, List, [], ◌∷◌, length, map, take, Some, None, refl, sym, ap, ◌∙◌, arith}
+use Rattle.std.proofs.Common.{◌≡◌, ℕ, ◌+◌, ◌*◌, ◌<◌, ◌≤◌, true, false, List, [], ◌∷◌, length, map, take, Some, None, refl, ap, ◌∙◌, arith}
 use Rattle.std.proofs.Math.Seq.{take-length}
-use Rattle.std.proofs.lemmas.List.FromFn.{get_or-range_with_len, length-map-range_with_len}
-use Rattle.std.proofs.lemmas.Option.{slice_get-map, slice_get_read}
+use Rattle.std.proofs.lemmas.List.FromFn.{length-map-range_with_len}
+use Rattle.std.proofs.lemmas.Option.{slice_get-map}
 use Rattle.std.specs.Prelude.{slice_get}
 use Rattle.std.specs.List.{range_with_len}
 use Rattle.qfs_base.specs.FileReplies.{refused_or, wanted_bytes, bytes_at, file_reply, reply_at}
@@ -10,7 +10,6 @@ use Rattle.qfs_base.specs.Files.{files_of, files_standing}
 use Rattle.qfs_base.specs.NameTree.{PathNames, stands_at, add_refusal, look_refusal}
 use Rattle.qfs_base.specs.Rules.{rules_of}
 use Rattle.qfs_base.specs.Shape.{Shape}
-use Rattle.qfs_base.specs.Table.{Each}
 use Rattle.qfs_base.specs.declared.chunk.ChunkKey.{ChunkKey}
 use Rattle.qfs_base.specs.declared.command.FileCommand.TheVariants as File
 use Rattle.qfs_base.specs.declared.history.FileReply.TheVariants as Says
@@ -34,12 +33,12 @@ use Rattle.qfs_model_meta.specs.Lists.{listed_nine, listed_blocks, block_count}
 use Rattle.qfs_model_meta.specs.Range.{in_range}
 use Rattle.qfs_model_meta.specs.Servers.{server_at, is_live, is_listed, listed_copy}
 use Rattle.qfs_model_meta.specs.Slots.{slot_at}
+use Rattle.qfs_model_meta.specs.Sound.{file_entry}
 use Rattle.qfs_model_meta.specs.Step.{first_server, next_turn, meta_step}
 use Rattle.qfs_model_meta.specs.TreeRows.{standing, row_path, row_at}
 use Rattle.qfs_model_server.specs.Server.{Server}
 use Rattle.qfs_model_world.specs.Puts.{puts_of}
 use Rattle.qfs_model_world.specs.World.{renumbered}
-use Rattle.qfs_laws_first.specs.Standing.{entry_of}
 use Rattle.qfs_laws_first.proofs.Histories.{written-later}
 use Rattle.qfs_laws_first.proofs.Kept.{file-kept, view-first}
 use Rattle.qfs_laws_first.proofs.MetaSteps.{refused-file, accepted-file, AreFew, few-more, step-makes, step-tells}
@@ -47,19 +46,17 @@ use Rattle.qfs_laws_first.proofs.Reading.{IsShort, blocks_of-one}
 use Rattle.qfs_laws_first.proofs.Rows.{each_weaker}
 use Rattle.qfs_laws_first.proofs.Servers.{IsUp, stored_at, stored-same, are_up-changed}
 use Rattle.qfs_laws_first.proofs.States.{first_block, first_key, first_copy, IsFile, IsRow, Steady, Between, Within}
+use Rattle.qfs_laws_first.proofs.Works.{place-of}
 use Rattle.qfs_laws_first.proofs.Trees.{ClosedAt, standing-files, bytes-found, each_find}
 
 -- ---- replies at the end of the history
 
 module _ (script : Script) (servers : List Server) (m : MetaImage) (commands most : ℕ) (s : Steady script servers m commands most) where
-  pub above-rows : Each (λ (row : TreeRow). 1 ≤ row.file) m.tree
-  above-rows = each_weaker (IsRow script servers m.slots m.next_file) (λ (row : TreeRow). 1 ≤ row.file) m.tree (λ row is. is.above) s.rows
-
-  files-now : files_of (puts_of script) (take (length m.history) m.history) ≡ map (entry_of (puts_of script)) m.tree
+  files-now : files_of (puts_of script) (take (length m.history) m.history) ≡ map (file_entry (puts_of script)) m.tree
   files-now = ap (files_of (puts_of script)) (take-length m.history) ∙ s.written.files
 
   standing-now : files_standing (files_of (puts_of script) (take (length m.history) m.history)) ≡ standing m.tree
-  standing-now = ap files_standing files-now ∙ standing-files (puts_of script) m.tree above-rows
+  standing-now = ap files_standing files-now ∙ standing-files (puts_of script) m.tree
 
   -- what a refused put and a refused get answer there
   pub put-refused-there : (path : PathNames) (recipe : Form) (why : TreeRefusal) → add_refusal (standing m.tree) path ≡ Some why
@@ -74,21 +71,22 @@ module _ (script : Script) (servers : List Server) (m : MetaImage) (commands mos
   get-refused-there path why refused =
       rw (standing-now, refused) refl
 
+  row-here : (path : PathNames) (c : ClosedAt m.tree path) → IsRow script servers m.slots m.next_file c.row
+  row-here path c = each_find (IsRow script servers m.slots m.next_file) (stands_at row_path path) m.tree c.row s.rows c.found
+
   -- what a get of a closed file answers there: the bytes of the put that closed it
   pub get-read-there : (path : PathNames) (c : ClosedAt m.tree path) → look_refusal (standing m.tree) path ≡ None
       → reply_at (puts_of script) m.history (length m.history) (File.Get path None) ≡ Says.Read (puts_of script c.row.actor c.row.command)
   unfolding reply_at file_reply refused_or wanted_bytes
   get-read-there path c free =
       let bytes : bytes_at (files_of (puts_of script) (take (length m.history) m.history)) path ≡ puts_of script c.row.actor c.row.command =
-      ap (λ files. bytes_at files path) files-now ∙ bytes-found (puts_of script) m.tree path c.row c.found c.closed in
+      ap (λ files. bytes_at files path) files-now ∙ bytes-found (puts_of script) m.tree path c.row (row-here path c).above c.found c.closed in
       rw (standing-now, free, bytes) refl
 
   -- the closed file is whole
   pub closed-file : (path : PathNames) (c : ClosedAt m.tree path)
       → IsFile script.layout script.servers servers m.slots c.row.file c.row.len (puts_of script c.row.actor c.row.command)
-  closed-file path c =
-      let is : IsRow script servers m.slots m.next_file c.row = each_find (IsRow script servers m.slots m.next_file) (stands_at row_path path) m.tree c.row s.rows c.found in
-      is.whole c.closed
+  closed-file path c = (row-here path c).whole c.closed
 
   -- one command more has ended
   pub later : (more : ℕ) → most ≤ more → Steady script servers m (commands + 1) more
@@ -155,11 +153,6 @@ module _ (script : Script) (servers : List Server) (m : MetaImage) (commands : �
   listed-first server first last =
       let view : server_at m.servers server ≡ first_server = ap (λ views. server_at views server) b.as_first ∙ view-first script.servers server first last in
       rw view refl
-
-  place-of : (slot : ℕ) → slot < 9 → slice_get (range_with_len 0 9) slot ≡ Some slot
-  place-of slot below =
-      let sum : 0 + slot ≡ slot = omega arith in
-      slice_get_read (range_with_len 0 9) 9 slot slot refl below (sym (get_or-range_with_len 0 9 slot slot below ∙ sum))
 
   pub listed-slot : (file slot server : ℕ) → slot < 9 → 1 ≤ server → server ≤ script.servers → (slot_at m.slots (first_block file) slot).current ≡ Some (first_copy server)
       → slice_get (listed_nine m.servers m.slots (first_block file)) slot ≡ Some (Some (first_copy server))

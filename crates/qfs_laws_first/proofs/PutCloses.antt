@@ -25,12 +25,12 @@ use Rattle.qfs_model_meta.specs.Lists.{block_count}
 use Rattle.qfs_model_meta.specs.PutRequests.{decide_close, close_complete, incomplete, first_ungranted, block_slots, file_slots, lacks_grant}
 use Rattle.qfs_model_meta.specs.Range.{in_range}
 use Rattle.qfs_model_meta.specs.Slots.{slot_id, is_of_file, slots_of, granted_copy, sealed_slot, change_state, seal_file}
+use Rattle.qfs_model_meta.specs.Sound.{content_of, file_entry}
 use Rattle.qfs_model_meta.specs.Step.{next_turn, meta_step}
 use Rattle.qfs_model_meta.specs.TreeRows.{file_row, close_row, close_file, has_file, unclosed_file, is_unclosed_of}
 use Rattle.qfs_model_server.specs.Server.{Server}
 use Rattle.qfs_model_slot.specs.Slot.{slot_of}
 use Rattle.qfs_model_world.specs.Puts.{puts_of}
-use Rattle.qfs_laws_first.specs.Standing.{content_if, entry_of}
 use Rattle.qfs_laws_first.proofs.Histories.{written-closed}
 use Rattle.qfs_laws_first.proofs.Kept.{file-kept, each_with}
 use Rattle.qfs_laws_first.proofs.MetaSteps.{AreFew, step-makes}
@@ -39,7 +39,7 @@ use Rattle.qfs_laws_first.proofs.Rows.{each_weaker}
 use Rattle.qfs_laws_first.proofs.States.{first_block, first_copy, granted_once, HasCurrent, IsFile, IsRow, Between, Target, target_row, Puts}
 use Rattle.qfs_laws_first.proofs.Tables.{each_test, each_changed, each_append, each_map, each_range, find-none, slot_at-sealed, slot_at-unsealed}
 use Rattle.qfs_laws_first.proofs.Tests.{same-number, own-key}
-use Rattle.qfs_laws_first.proofs.Trees.{MayClose}
+use Rattle.qfs_laws_first.proofs.Trees.{MayClose, kinds}
 
 -- the state once the file is closed
 abbrev pub closed_state : MetaImage → ℕ → ℕ → MetaImage
@@ -148,13 +148,13 @@ module _ (script : Script) (servers : List Server) (m : MetaImage) (commands : �
       let same : row ≡ target_row commands t = own is in
       (ap (λ (r : TreeRow). r.closed) same, ap (λ (r : TreeRow). r.actor) same, ap (λ (r : TreeRow). r.command) same)
 
-  is-unclosed : is_unclosed_entry t.file (entry_of (puts_of script) (target_row commands t)) ≡ true
-  unfolding is_unclosed_entry entry_of content_if is_unclosed_content file_row
-  is-unclosed = same-number t.file
+  is-unclosed : is_unclosed_entry t.file (file_entry (puts_of script) (target_row commands t)) ≡ true
+  unfolding is_unclosed_entry file_entry content_of is_unclosed_content file_row
+  is-unclosed = rw (kinds t.file p.target.above).1 (same-number t.file)
 
-  any-unclosed : list_any (is_unclosed_entry t.file) (map (entry_of (puts_of script)) m.tree) ≡ true
+  any-unclosed : list_any (is_unclosed_entry t.file) (map (file_entry (puts_of script)) m.tree) ≡ true
   unfolding unclosed_file
-  any-unclosed = any-found (λ (row : TreeRow). is_unclosed_of 1 row && has_file t.file row) (is_unclosed_entry t.file) (entry_of (puts_of script)) m.tree (target_row commands t) p.target.unclosed is-unclosed
+  any-unclosed = any-found (λ (row : TreeRow). is_unclosed_of 1 row && has_file t.file row) (is_unclosed_entry t.file) (file_entry (puts_of script)) m.tree (target_row commands t) p.target.unclosed is-unclosed
 
   sealed-key : (row : SlotRow) → row.block.file < m.next_file → (change_state sealed_slot row).block.file < m.next_file
   unfolding change_state
@@ -169,7 +169,7 @@ module _ (script : Script) (servers : List Server) (m : MetaImage) (commands : �
         none_dropped = p.steady.none_dropped;
         up = p.steady.up;
         few = close-few;
-        written = written-closed script m.history m.tree m.next_file commands t.file t.path p.steady.written
+        written = written-closed script m.history m.tree m.next_file commands t.file t.path p.steady.written p.target.above
             (each_weaker _ (MayClose t.file 1 (commands + 1)) m.tree may-close p.target.own) any-unclosed p.target.created p.target.path_is;
         rows = each_changed (λ row. (IsRow script servers m.slots m.next_file row) × (has_file t.file row ≡ true → row ≡ target_row commands t))
             (IsRow script servers (seal_file t.file m.slots) m.next_file) (has_file t.file) close_row m.tree row-closed row-other

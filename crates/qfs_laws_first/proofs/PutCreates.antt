@@ -27,7 +27,6 @@ use Rattle.qfs_model_meta.specs.Step.{next_turn, meta_step}
 use Rattle.qfs_model_meta.specs.TreeRows.{standing, kind_of, file_row, row_path, add_row, unclosed_file, is_unclosed, is_unclosed_row, is_unclosed_of, has_file}
 use Rattle.qfs_model_server.specs.Server.{Server}
 use Rattle.qfs_model_world.specs.Puts.{put_path, puts_of}
-use Rattle.qfs_laws_first.proofs.Gets.{above-rows}
 use Rattle.qfs_laws_first.proofs.Histories.{written-created, created-now}
 use Rattle.qfs_laws_first.proofs.MetaSteps.{refused-file, accepted-file, AreFew, step-makes, step-tells}
 use Rattle.qfs_laws_first.proofs.Rows.{each_weaker}
@@ -104,8 +103,7 @@ module _ (script : Script) (servers : List Server) (m : MetaImage) (commands : â
           none_dropped = b.none_dropped;
           up = b.up;
           few = create-few;
-          written = written-created script m.history m.tree m.next_file commands (commands + 1) (length bytes) path b.written
-              (above-rows script servers m commands (2 * commands + 1) b) free;
+          written = written-created script m.history m.tree m.next_file commands (commands + 1) (length bytes) path b.written free;
           rows = each_placed (IsRow script servers m.slots (m.next_file + 1)) (row_cmp row_path) row m.tree
               (record { above = some_file; below = omega arith; whole = Î» closed. absurd (cc) })
               (each_weaker (IsRow script servers m.slots m.next_file) (IsRow script servers m.slots (m.next_file + 1)) m.tree
@@ -114,6 +112,7 @@ module _ (script : Script) (servers : List Server) (m : MetaImage) (commands : â
           none_to_come = Î» server key above. b.none_to_come server key (omega (arith, above));
         };
         target = record {
+          above = some_file;
           next = refl;
           created = created-now m.next_file path m.history none;
           path_is = path_is;

@@ -115,6 +115,7 @@ target_row commands t = file_row t.path t.file 1 (commands + 1) (length t.bytes)
 
 -- the unclosed file of a put is the last one, and the put is that of the script
 pub record IsTarget (script : Script) (next_file : ℕ) (history : List Entry) (tree : List TreeRow) (commands : ℕ) (t : Target) : Type 0 where
+  pub above : 1 ≤ t.file
   pub next : next_file ≡ t.file + 1
   pub created : created_path t.file history ≡ Some t.path
   pub path_is : put_path script 1 (commands + 1) ≡ Some t.path
