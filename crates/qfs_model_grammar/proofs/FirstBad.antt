@@ -6,18 +6,18 @@ use Rattle.qfs_base.specs.declared.script.Script.{Script}
 use Rattle.qfs_base.specs.declared.script.ScriptCause.{ScriptCause}
 use Rattle.qfs_model_script.specs.Limits.{MOST_TEXT_BYTES}
 use Rattle.qfs_model_grammar.specs.Laws.{IsFirstBad, FirstBadDecides, LongTextIsRefused}
-use Rattle.qfs_model_grammar.specs.Read.{Read, ◌>>=◌, if_kept}
+use Rattle.qfs_model_grammar.specs.Said.{Said, ◌>>=◌, if_kept}
 use Rattle.qfs_model_grammar.specs.ReadScript.{BadLine, at_line, read_line, read_lines, whole_script, script_of_lines, read_script}
 use Rattle.qfs_model_grammar.specs.SoFar.{SoFar, nothing_yet}
 
 -- ---- behind good lines
 
-record GoesOn (read : Read SoFar) (rest : SoFar → Result SoFar BadLine) (last : SoFar) : Type 0 where
+record GoesOn (read : Said SoFar) (rest : SoFar → Result SoFar BadLine) (last : SoFar) : Type 0 where
   given : SoFar
   is : read ≡ Ok given
   left : rest given ≡ Ok last
 
-goes_on : (read : Read SoFar) (number : ℕ) (rest : SoFar → Result SoFar BadLine) (last : SoFar)
+goes_on : (read : Said SoFar) (number : ℕ) (rest : SoFar → Result SoFar BadLine) (last : SoFar)
     → (at_line number read >>= rest) ≡ Ok last → GoesOn read rest last
 goes_on (Ok given) number rest last is = record { given = given; is = refl; left = is }
 goes_on (Err cause) number rest last is = cc
@@ -95,7 +95,7 @@ finds_behind so_far next number line lines bad is found = record {
 
 finds_step : (so_far : SoFar) (number : ℕ) (line : List ℕ) (lines : List (List ℕ)) (bad : BadLine)
     → ((next : SoFar) → read_lines next (number + 1) lines ≡ Err bad → FindsBad next (number + 1) lines bad)
-    → (read : Read SoFar) → read_line so_far number line ≡ read
+    → (read : Said SoFar) → read_line so_far number line ≡ read
     → (at_line number read >>= (λ next. read_lines next (number + 1) lines)) ≡ Err bad → FindsBad so_far number (line ∷ lines) bad
 finds_step so_far number line lines bad further (Ok next) is read = finds_behind so_far next number line lines bad is (further next read)
 finds_step so_far number line lines bad further (Err cause) is read =
@@ -109,7 +109,7 @@ finds so_far number [] bad is = cc
 finds so_far number (line ∷ lines) bad is =
     finds_step so_far number line lines bad (λ next. finds next (number + 1) lines bad) (read_line so_far number line) refl is
 
-at_its_line : {A : Type 0} (read : Read A) (at number : ℕ) (cause : ScriptCause) → at_line at read ≡ Err (number, cause) → number ≡ at
+at_its_line : {A : Type 0} (read : Said A) (at number : ℕ) (cause : ScriptCause) → at_line at read ≡ Err (number, cause) → number ≡ at
 at_its_line (Ok value) at number cause is = cc
 at_its_line {A} (Err found) at number cause is =
     ap (λ (bad : BadLine). bad.0) (err_is {A = A} (number, cause) (at, found) (Err (at, found)) is refl)

@@ -22,8 +22,8 @@ pub record IsFirstBad (lines : List (List ℕ)) (number : ℕ) (cause : ScriptCa
   pub good : read_lines nothing_yet 1 before ≡ Ok so_far
   pub refused : read_line so_far number line ≡ Err cause
 
--- the first bad line is told with its cause, whatever stands behind it; and what is told is the first bad line, or that something is missing
--- behind the last
+-- the first bad line is told with its cause, whatever stands behind it; and what is told is the first bad
+-- line, or that something is missing behind the last
 pub record FirstBadDecides : Type 0 where
   pub told : (replays : Bool) (lines : List (List ℕ)) (number : ℕ) (cause : ScriptCause)
       → IsFirstBad lines number cause → script_of_lines replays lines ≡ Err (number, cause)

@@ -1,4 +1,5 @@
--- Small texts, and what they say: a whole script with each form of line, and what is read where a rule could be taken in two ways.
+-- Small texts, and what they say: a whole script with each form of line, and what is read where a rule could
+-- be taken in two ways.
 use Rattle.std.specs.Prelude.{◌≡◌, ℕ, true, false, List, [], ◌∷◌, ◌++◌, codes, decimal, map, replicate, Some, None, Ok, Err}
 use Rattle.std.specs.List.{range_with_len}
 use Rattle.qfs_base.specs.declared.command.Command.{Command}
@@ -10,7 +11,7 @@ use Rattle.qfs_base.specs.declared.script.Script.{Script}
 use Rattle.qfs_base.specs.declared.script.ScriptCause.TheVariants as Cause
 use Rattle.qfs_model_script.specs.ScriptText.{script_text}
 use Rattle.qfs_model_grammar.specs.Examples.{text_of_lines, IsRefused, Says}
-use Rattle.qfs_model_grammar.specs.Place as Behind
+use Rattle.qfs_model_grammar.specs.LinePlace as Behind
 use Rattle.qfs_model_grammar.specs.ReadScript.{read_script, read_line}
 use Rattle.qfs_model_grammar.specs.SoFar.{SoFar, nothing_yet}
 
@@ -128,7 +129,8 @@ shortest_script = record {
   order = None;
 }
 
--- a last line end opens no further line, and the last line may lack it; a phase without actors is complete, and an order may follow it
+-- a last line end opens no further line, and the last line may lack it; a phase without actors is complete,
+-- and an order may follow it
 pub record LinesEnd : Type 0 where
   pub whole : Says shortest shortest_script
   pub unended : read_script false (text_of_lines (codes "qfs 1" ∷ codes "layout 16 1" ∷ codes "servers 9" ∷ []) ++ codes "phase") ≡ Ok shortest_script
@@ -169,7 +171,8 @@ pub record CausesInOrder : Type 0 where
   pub dots : IsRefused 6 Cause.Path (with_command_line (codes "list /a/.."))
   pub slash_at_end : IsRefused 6 Cause.Path (with_command_line (codes "list /a/"))
 
--- a term stands behind the servers, before the audit, and is 1 to 1,000; a run has an actor, a mark or none, and a count
+-- a term stands behind the servers, before the audit, and is 1 to 1,000; a run has an actor, a mark or none,
+-- and a count
 pub record HeadsAndRuns : Type 0 where
   pub term_behind_audit : IsRefused 5 Cause.Word (codes "qfs 1" ∷ codes "layout 16 1" ∷ codes "servers 9" ∷ codes "audit" ∷ codes "term 1" ∷ [])
   pub second_term : IsRefused 5 Cause.Word (codes "qfs 1" ∷ codes "layout 16 1" ∷ codes "servers 9" ∷ codes "term 1" ∷ codes "term 1" ∷ [])
@@ -195,9 +198,9 @@ actors_to last = map (λ number. codes "actor " ++ decimal number) (range_with_l
 abbrev pub full_actor : SoFar
 full_actor = record nothing_yet { place = Behind.Actor; script = record shortest_script { phases = ([] ∷ []) ∷ [] }; actors = 64; commands = 4096 }
 
--- the first line past a limit has that cause, where none of the others: actors have to be numbered on, puts are counted whether they are
--- run or not, and the lines with remarks and empty ones
-pub record Limits : Type 0 where
+-- the first line past a limit has that cause, where none of the others: actors have to be numbered on, puts
+-- are counted whether they are run or not, and the lines with remarks and empty ones
+pub record PastLimits : Type 0 where
   pub phases : IsRefused 20 Cause.Limit (shortest ++ replicate 16 (codes "phase"))
   pub actors : IsRefused 69 Cause.Limit (shortest ++ actors_to 65)
   pub numbered_on : IsRefused 69 Cause.Number (shortest ++ actors_to 64 ++ codes "actor 66" ∷ [])

@@ -8,7 +8,7 @@ ghost use Rattle.qfs_model_grammar.specs.BadNumbers.{BadNumbers};
 ghost use Rattle.qfs_model_grammar.specs.BadOthers.{BadOthers};
 ghost use Rattle.qfs_model_grammar.specs.BadWords.{BadWords};
 ghost use Rattle.qfs_model_grammar.specs.Laws.{FirstBadDecides, LongTextIsRefused};
-ghost use Rattle.qfs_model_grammar.specs.WorkedTexts.{WholeScript, LinesEnd, OrderIsMissing, CausesInOrder, HeadsAndRuns, Limits};
+ghost use Rattle.qfs_model_grammar.specs.WorkedTexts.{WholeScript, LinesEnd, OrderIsMissing, CausesInOrder, HeadsAndRuns, PastLimits};
 
 /// A first word that may not stand where it stands is refused, and so is a text that ends too early.
 pub fn refuses_bad_words()
@@ -56,8 +56,8 @@ pub fn refuses_heads_and_runs()
 {}
 
 /// The first line past a limit is refused, where it has no other cause.
-pub fn keeps_limits()
-    ensures { Limits }
+pub fn refuses_past_limits()
+    ensures { PastLimits }
 {}
 
 /// The first bad line is told with its cause, whatever stands behind it.

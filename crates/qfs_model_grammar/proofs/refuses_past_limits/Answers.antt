@@ -1,6 +1,6 @@
 use Rattle.std.proofs.Common.{refl}
 use Rattle.qfs_model_grammar.proofs.OnLiterals.{grammar_on_literals}
-use Rattle.qfs_model_grammar.proofs.keeps_limits.Goals as goal
+use Rattle.qfs_model_grammar.proofs.refuses_past_limits.Goals as goal
 
 pub returns : goal.returns
 unfolding grammar_on_literals
