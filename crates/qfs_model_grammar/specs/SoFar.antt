@@ -55,6 +55,7 @@ nothing_yet = record {
 
 -- ---- the lines of the head
 
+-- with another last line, and another script
 unfoldable pub with_head : SoFar → LinePlace → Script → SoFar
 with_head so_far place script = record so_far { place = place; script = script }
 
@@ -116,7 +117,7 @@ take_phase so_far words = do
   if_kept (nat_lt (length so_far.script.phases) MOST_PHASES) Cause.Limit
       (with_head so_far Behind.Phase (record so_far.script { phases = so_far.script.phases ++ [] ∷ [] }))
 
--- `actor A`, with the next number
+-- with one actor more, who has no commands yet
 unfoldable pub with_next_actor : SoFar → SoFar
 with_next_actor so_far = record so_far {
   place = Behind.Actor;
@@ -125,6 +126,7 @@ with_next_actor so_far = record so_far {
   commands = 0;
 }
 
+-- `actor A`, with the next number
 unfoldable pub take_actor : SoFar → Words → Said SoFar
 take_actor so_far words = do
   word ← one_word words
@@ -151,6 +153,7 @@ chunk_rows layout len =
 abbrev pub chunk_bytes_of : Shape → ℕ → ℕ
 chunk_bytes_of layout len = SLOTS * (chunk_rows layout len * layout.s)
 
+-- with one command more, whose bytes are counted if it is a put
 unfoldable pub with_next_command : SoFar → Command → SoFar
 with_next_command so_far command = record so_far {
   place = Behind.Actor;
@@ -168,6 +171,7 @@ keeps_limits now command =
     && nat_le now.blocks MOST_BLOCKS
     && nat_le now.chunk_bytes MOST_BYTES_OF_CHUNKS
 
+-- a command of the last actor
 unfoldable pub take_command : SoFar → CommandWord → Words → Said SoFar
 take_command so_far word words = do
   command ← command_of so_far.script.servers word words
