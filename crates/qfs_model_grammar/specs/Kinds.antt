@@ -1,6 +1,6 @@
 -- The kinds of words that stand behind the first one of a line: numbers, paths, hexadecimal digits and runs. A word that isn't of its
 -- kind, or out of its range, is refused with the cause of the kind.
-use Rattle.std.specs.Prelude.{ℕ, ◌==◌, ◌&&◌, nat_le, not, if◌then◌else◌, Bool, List, [], ◌∷◌, length, take, drop, take_while, find, codes, decimal, Option, Some, None, Result, Ok, Err, ok_or}
+use Rattle.std.specs.Prelude.{ℕ, ◌==◌, ◌&&◌, nat_le, not, if◌then◌else◌, Bool, List, [], ◌∷◌, length, drop, take_while, find, codes, decimal, Option, Some, None, Ok, Err, ok_or}
 use Rattle.std.specs.Int.{is_power_of_two}
 use Rattle.std.specs.List.{slice_split, list_all}
 use Rattle.std.specs.Result.{result_ok}

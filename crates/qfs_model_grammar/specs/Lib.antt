@@ -14,3 +14,5 @@ pub mod BadWords
 pub mod BadCounts
 pub mod BadNumbers
 pub mod BadOthers
+pub mod WorkedTexts
+pub mod Laws

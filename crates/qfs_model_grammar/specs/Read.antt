@@ -1,7 +1,6 @@
 -- What a line or a word says, or why it is refused.
 use Rattle.std.specs.Prelude.{Bool, true, false, List, [], ◌∷◌, Result, Ok, Err}
 use Rattle.qfs_base.specs.declared.script.ScriptCause.{ScriptCause}
-use Rattle.qfs_base.specs.declared.script.ScriptCause.TheVariants as Cause
 
 abbrev pub Read : Type 0 → Type 0
 Read A = Result A ScriptCause

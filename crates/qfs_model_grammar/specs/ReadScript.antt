@@ -3,7 +3,7 @@
 -- A line is tried for these causes, in this order: a byte that is no text; a first word that may not stand there, or an unknown word for
 -- the recipe of a put; too few or too many words; from the left the first word that isn't of its kind or out of its range; a limit that
 -- this line is the first to pass. Lines count from 1, with empty ones and remarks.
-use Rattle.std.specs.Prelude.{ℕ, ◌+◌, ◌&&◌, nat_lt, nat_le, Bool, true, false, if◌then◌else◌, not, List, [], ◌∷◌, length, Option, Some, None, is_none, Result, Ok, Err, ok_or}
+use Rattle.std.specs.Prelude.{ℕ, ◌+◌, ◌&&◌, nat_le, Bool, if◌then◌else◌, not, List, [], ◌∷◌, length, is_none, Result, Ok, Err, ok_or}
 use Rattle.qfs_base.specs.declared.script.Script.{Script}
 use Rattle.qfs_base.specs.declared.script.ScriptCause.{ScriptCause}
 use Rattle.qfs_base.specs.declared.script.ScriptCause.TheVariants as Cause

@@ -1,5 +1,5 @@
 -- What was read of a script so far, and how one more line goes on.
-use Rattle.std.specs.Prelude.{ℕ, ◌+◌, ◌*◌, ◌/◌, ◌%◌, ◌&&◌, nat_lt, nat_le, Bool, true, false, List, [], ◌∷◌, ◌++◌, length, Option, Some, None, Ok, Err, ok_or}
+use Rattle.std.specs.Prelude.{ℕ, ◌+◌, ◌*◌, ◌/◌, ◌%◌, ◌&&◌, nat_lt, nat_le, Bool, true, false, List, [], ◌∷◌, ◌++◌, length, Some, None, Ok}
 use Rattle.std.specs.Int.{div_ceil}
 use Rattle.qfs_base.specs.Layout.{row_bytes, block_bytes}
 use Rattle.qfs_base.specs.Order.{steps_of_runs}
@@ -114,7 +114,7 @@ unfoldable pub phase_line : SoFar → Words → Read SoFar
 phase_line so_far words = do
   none ← no_word words
   if_kept (nat_lt (length so_far.script.phases) MOST_PHASES) Cause.Limit
-    (with_head so_far Behind.Phase (record so_far.script { phases = so_far.script.phases ++ [] ∷ [] }))
+      (with_head so_far Behind.Phase (record so_far.script { phases = so_far.script.phases ++ [] ∷ [] }))
 
 -- `actor A`, with the next number
 unfoldable pub with_next_actor : SoFar → SoFar

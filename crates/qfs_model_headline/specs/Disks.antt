@@ -4,7 +4,7 @@ use Rattle.std.specs.List.{list_all}
 use Rattle.qfs_base.specs.declared.history.Step.{Step}
 use Rattle.qfs_base.specs.declared.image.MetaImage.{MetaImage}
 use Rattle.qfs_base.specs.declared.script.Script.{Script}
-use Rattle.qfs_device.specs.Fault.{last_count}
+use Rattle.qfs_base.specs.Sizes.{LAST_U64}
 use Rattle.qfs_model_meta.specs.Step.{opening}
 use Rattle.qfs_model_world.specs.Events.{Event, events, world_behind}
 use Rattle.qfs_model_world.specs.Headline.{is_sure}
@@ -54,6 +54,6 @@ pub record BytesRead : Type 0 where
 pub record DisksStand (image_length : MetaImage → ℕ) (record_length : Logged → ℕ) (script : Script) (order : List Step) (logged : List Logged) (before behind : BytesRead) : Type 0 where
   pub records : IsTrue (list_all is_sure (events script order)) → logged ≡ logged_since_checkpoint (events script order)
   pub handed_out : IsTrue (list_all is_sure (events script order))
-      → behind.left < last_count → behind.right < last_count
+      → behind.left < LAST_U64 → behind.right < LAST_U64
       → before.left + before.right + restarts_read image_length record_length script (events script order)
       ≤ behind.left + behind.right

@@ -146,9 +146,12 @@ module _ (script : Script) (order : List Step) (actor number : ℕ) (range : Opt
 
 -- a get replies that there are too few exactly where each of its attempts found too few, with what the last one found
 pub record TooFewInGets (script : Script) (order : List Step) : Type 0 where
-  pub told : (actor number place index : ℕ) (range : Option Range) (causes : List SlotCause)
-      → IsGet script order actor number range (Says.ReadTooFew place index causes)
-      → TriedAll script order actor number range × LastFound script order actor number range place index causes
+  pub told : (actor number place index : ℕ) (causes : List SlotCause)
+      → report_of (after script order) actor number ≡ Some (Says.ReadTooFew place index causes)
+      → (range : Option Range)
+      × IsGet script order actor number range (Says.ReadTooFew place index causes)
+      × TriedAll script order actor number range
+      × LastFound script order actor number range place index causes
   pub tells : (actor number : ℕ) (range : Option Range) (report : Report)
       → IsGet script order actor number range report
       → TriedAll script order actor number range
@@ -174,9 +177,11 @@ causes_in_recovery g own = causes_met g.block g.sources own
 
 -- a recovery replies that there are too few exactly where fewer than six slots are left
 pub record TooFewInRecoveries (script : Script) (order : List Step) : Type 0 where
-  pub told : (actor number index : ℕ) (g : Granted) (causes : List SlotCause)
-      → IsRecovery script order actor number g (Says.TooFew index causes)
-      → (index ≡ g.block.index)
+  pub told : (actor number index : ℕ) (causes : List SlotCause)
+      → report_of (after script order) actor number ≡ Some (Says.TooFew index causes)
+      → (g : Granted)
+      × IsRecovery script order actor number g (Says.TooFew index causes)
+      × (index ≡ g.block.index)
       × (causes ≡ causes_in_recovery g (steps_of actor number (events script order)))
       × IsTrue (are_too_few causes)
   pub tells : (actor number : ℕ) (g : Granted) (report : Report)

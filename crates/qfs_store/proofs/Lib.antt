@@ -1,11 +1,4 @@
+pub mod FreshLaws
+pub mod KeyLaws
+pub mod RecordLaws
 pub mod StandsLaws
-pub mod StepLaws
-pub mod PutLaws
-pub mod FetchLaws
-pub mod GroundedLaws
-pub mod EraseLaws
-pub mod ServerLaws
-pub mod StartLaws
-pub mod ReadLaws
-pub mod StartStepLaws
-pub mod ChunkLaws

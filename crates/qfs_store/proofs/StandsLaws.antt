@@ -1,164 +1,201 @@
--- What becomes of the keys, and of a server's standing, where a key is set or taken out.
-use Rattle.std.proofs.Common.{◌≡◌, ℕ, ◌+◌, ◌<◌, ◌≤◌, ◌^◌, Bool, true, false, cond, List, [], ◌∷◌, ◌++◌, length, take, drop, Option, Some, None, is_some, refl, sym, ap, subst, ◌∙◌, true≢false, arith}
-use Rattle.std.specs.Prelude.{codes}
-use Rattle.std.specs.Int.{w32, to_be_bytes, from_be_bytes}
+-- A store that stands for a server goes on to do so: what it refuses is what the server refuses, and where a key is set,
+-- torn or taken out it stands for the server after that.
+use Rattle.std.proofs.Common.{◌≡◌, ℕ, ◌+◌, ◌≤◌, Bool, true, false, not, cond, List, [], length, Option, Some, None, is_some, refl, sym, ap, subst, ◌∙◌}
+use Rattle.std.specs.Prelude.{◌==◌, ◌&&◌, nat_le}
 use Rattle.std.specs.Option.{option_map}
-use Rattle.std.specs.Cmp.{tied_itself}
-use Rattle.std.specs.Ordering.{is_eq, eq_by_cmp, match_ordering}
-use Rattle.std.proofs.lemmas.Map.Made.{lookup-map_values}
-use Rattle.std.specs.declared.cmp.Ordering.{Ordering}
-use Rattle.std.specs.declared.cmp.Ordering.TheVariants.{Less, Equal, Greater}
-use Rattle.std.proofs.lemmas.List.{length-append, length-take-le, take-take}
-use Rattle.std.proofs.Math.Seq.{drop-append-add}
-use Rattle.std.proofs.lemmas.Nat.{from_be_bytes-to_be_bytes_4}
 use Rattle.qfs_base.specs.Key.{key_cmp}
-use Rattle.qfs_base.specs.KeyLaws.{key_cmp_total, key_cmp-Equal}
-use Rattle.qfs_base.specs.KeyMap.{value_at, has_key, with_entry, without_key, unless}
+use Rattle.qfs_base.specs.KeyLaws.{key_cmp_total}
+use Rattle.qfs_base.specs.KeyMap.{value_at, has_key, with_entry, without_key}
+use Rattle.qfs_base.specs.KeyMapLaws.{value_at-with_entry, value_at-without_key}
 use Rattle.qfs_base.specs.declared.chunk.ChunkKey.{ChunkKey}
-use Rattle.qfs_device.specs.Held.{Held, IsTorn}
-use Rattle.qfs_record.specs.ChunkRecord.{chunk_key, chunk_record}
-use Rattle.qfs_model_server.specs.Server.{Server, Copies}
-use Rattle.qfs_store.specs.Stands.{Known, Lengths, lengths_of, Keeps, StandsOn}
+use Rattle.qfs_base.specs.declared.reply.ChunkAnswer.{ChunkAnswer}
+use Rattle.qfs_base.specs.declared.reply.ChunkAnswer.TheVariants as Answer
+use Rattle.qfs_base.specs.declared.request.ChunkRequest.{ChunkRequest}
+use Rattle.qfs_base.specs.declared.request.ChunkRequest.TheVariants as Ask
+use Rattle.qfs_device.specs.Held.{Held, IsTorn, chunk_at, holding, lacking, leaving, handing, emptied}
+use Rattle.qfs_model_server.specs.Chunk.{Chunk}
+use Rattle.qfs_model_server.specs.Server.{Server, Copies, refuse, unless_away, has_range, chunk_refusal, bytes_in, copy_bytes, next_life, written}
+use Rattle.qfs_model_store.specs.Stands.{IsRecordOf, HoldsUnder, StandsFor}
+use Rattle.qfs_record.specs.ChunkRecord.{IsChunk, chunk_record}
+use Rattle.qfs_store.specs.Known.{Known, Sizes, size_of, sizes_in, reaches, refusal}
+use Rattle.qfs_store.specs.Stored.{StandsOn}
+use Rattle.qfs_store.specs.declared.copies.CopySize.{CopySize}
+use Rattle.qfs_store.proofs.KeyLaws.{same_key, same_key-is, absent_key, absent_again, sizes_with, sizes_without, size_at, known_there}
+use Rattle.qfs_store.proofs.RecordLaws.{torn_is_none}
 
--- ---- one key is set
+-- ---- refusals
 
-equal_if : (r : Ordering) → is_eq r ≡ true → r ≡ Equal
-equal_if Less e = absurd (true≢false (sym e))
-equal_if Equal e = refl
-equal_if Greater e = absurd (true≢false (sym e))
+range_of : (end : ℕ) (copy : Option Chunk) → reaches end (option_map size_of copy) ≡ (is_some copy && nat_le end (length (bytes_in copy)))
+range_of end None = refl
+range_of end (Some copy) = refl
 
-abbrev pub same_key : ChunkKey → ChunkKey → Bool
-same_key q key = eq_by_cmp key_cmp q key
+pub known_range : (known : Known) (server : Server) (key : ChunkKey) (from count : ℕ) → known.copies ≡ sizes_in server.copies
+    → reaches (from + count) (value_at key_cmp known.copies key) ≡ has_range server.copies key from count
+unfolding has_range
+known_range known server key from count are =
+    ap (λ (sizes : Sizes). reaches (from + count) (value_at key_cmp sizes key)) are
+    ∙ ap (reaches (from + count)) (size_at server.copies key)
+    ∙ range_of (from + count) (value_at key_cmp server.copies key)
 
-pub same_key-is : (q key : ChunkKey) → same_key q key ≡ true → key ≡ q
-same_key-is q key e = sym (key_cmp-Equal q key (equal_if (key_cmp q key) e))
+abbrev away : ℕ → ChunkAnswer → Bool → ℕ → Bool → Option ChunkAnswer
+away life answer up now due = refuse (not up) Answer.Down (refuse (not (life == now)) (Answer.Lost life now) (refuse due answer None))
 
-pub keeps_along : (q : ChunkKey) (under under' copy copy' : Option (List ℕ)) → under ≡ under' → copy ≡ copy' → Keeps q under copy → Keeps q under' copy'
-keeps_along q under under' copy copy' a b keeps =
-    subst (λ (t : Option (List ℕ) × Option (List ℕ)). Keeps q t.0 t.1) (λ i. (a i, b i)) keeps
+away_is : (life : ℕ) (answer : ChunkAnswer) (up up' : Bool) (now now' : ℕ) (due due' : Bool) → up ≡ up' → now ≡ now' → due ≡ due'
+    → away life answer up now due ≡ away life answer up' now' due'
+away_is life answer up up' now now' due due' a b c = λ i. away life answer (a i) (b i) (c i)
+
+-- what a store refuses is what the server that it stands for refuses
+pub refusal_is : (stripe : ℕ) (held : Held) (known : Known) (server : Server) (request : ChunkRequest) → StandsOn stripe held known server
+    → refusal known held.life request ≡ chunk_refusal server request
+unfolding chunk_refusal unless_away
+refusal_is stripe held known server (Ask.Put key life bytes) stands =
+    away_is life Answer.Held _ _ _ _ _ _ stands.up stands.stands.life (known_there known.copies server.copies key stands.copies)
+refusal_is stripe held known server (Ask.Fetch key life from room) stands =
+    away_is life Answer.Absent _ _ _ _ _ _ stands.up stands.stands.life (ap not (known_range known server key from (length room) stands.copies))
+refusal_is stripe held known server (Ask.Erase key life) stands =
+    away_is life Answer.Absent _ _ _ _ _ _ stands.up stands.stands.life (ap not (known_there known.copies server.copies key stands.copies))
+refusal_is stripe held known server Ask.Stop stands = refl
+refusal_is stripe held known server Ask.Start stands = refl
+refusal_is stripe held known server Ask.Wipe stands = refl
+refusal_is stripe held known server Ask.Inventory stands = ap (λ (up : Bool). refuse (not up) Answer.Down None) stands.up
+refusal_is stripe held known server Ask.Upgrade stands = ap (λ (up : Bool). refuse (not up) Answer.Down None) stands.up
+
+-- ---- what lets a request through
+
+last_passed : (same : Bool) (one other : ChunkAnswer) (due : Bool) → refuse (not same) one (refuse due other None) ≡ None → due ≡ false
+last_passed true one other false none = refl
+last_passed true one other true none = absurd cc
+last_passed false one other due none = absurd cc
+
+both_passed : (life : ℕ) (answer : ChunkAnswer) (up : Bool) (now : ℕ) (due : Bool) → away life answer up now due ≡ None → (up ≡ true) × (due ≡ false)
+both_passed life answer true now due none = (refl, last_passed (life == now) (Answer.Lost life now) answer due none)
+both_passed life answer false now due none = absurd cc
+
+pub put_passed : (known : Known) (now : ℕ) (key : ChunkKey) (life : ℕ) (bytes : List ℕ) → refusal known now (Ask.Put key life bytes) ≡ None
+    → (known.up ≡ true) × (has_key key_cmp known.copies key ≡ false)
+put_passed known now key life bytes none = both_passed life Answer.Held known.up now (has_key key_cmp known.copies key) none
+
+not_false : (b : Bool) → not b ≡ false → b ≡ true
+not_false true e = refl
+not_false false e = absurd cc
+
+pub fetch_passed : (known : Known) (now : ℕ) (key : ChunkKey) (life from : ℕ) (room : List ℕ) → refusal known now (Ask.Fetch key life from room) ≡ None
+    → (known.up ≡ true) × (reaches (from + length room) (value_at key_cmp known.copies key) ≡ true)
+fetch_passed known now key life from room none =
+    let p = both_passed life Answer.Absent known.up now (not (reaches (from + length room) (value_at key_cmp known.copies key))) none in
+    (p.0, not_false _ p.1)
+
+pub erase_passed : (known : Known) (now : ℕ) (key : ChunkKey) (life : ℕ) → refusal known now (Ask.Erase key life) ≡ None → known.up ≡ true
+erase_passed known now key life none = (both_passed life Answer.Absent known.up now (not (has_key key_cmp known.copies key)) none).0
+
+up_passed : (up : Bool) → refuse (not up) Answer.Down None ≡ None → up ≡ true
+up_passed true none = refl
+up_passed false none = absurd cc
+
+pub inventory_passed : (known : Known) (now : ℕ) → refusal known now Ask.Inventory ≡ None → known.up ≡ true
+inventory_passed known now none = up_passed known.up none
+
+pub upgrade_passed : (known : Known) (now : ℕ) → refusal known now Ask.Upgrade ≡ None → known.up ≡ true
+upgrade_passed known now none = up_passed known.up none
+
+-- ---- one key
+
+holds_along : (stripe : ℕ) (q : ChunkKey) (under under' : Option (List ℕ)) (copy copy' : Option Chunk) → under ≡ under' → copy ≡ copy'
+    → HoldsUnder stripe q under copy → HoldsUnder stripe q under' copy'
+holds_along stripe q under under' copy copy' a b holds =
+    subst (λ (t : Option (List ℕ) × Option Chunk). HoldsUnder stripe q t.0 t.1) (λ i. (a i, b i)) holds
 
 -- at the key that was set stands what was set there, and at every other what stood there
-pub keeps_one : (key q : ChunkKey) (under under' copy copy' : Option (List ℕ)) (b : Bool) → (b ≡ true → key ≡ q) → Keeps key under copy → Keeps q under' copy' → Keeps q (cond b under under') (cond b copy copy')
-keeps_one key q under under' copy copy' true same set other = subst (λ (k : ChunkKey). Keeps k under copy) (same refl) set
-keeps_one key q under under' copy copy' false same set other = other
+holds_one : (stripe : ℕ) (key q : ChunkKey) (under under' : Option (List ℕ)) (copy copy' : Option Chunk) (b : Bool) → (b ≡ true → key ≡ q)
+    → HoldsUnder stripe key under copy → HoldsUnder stripe q under' copy' → HoldsUnder stripe q (cond b under under') (cond b copy copy')
+holds_one stripe key q under under' copy copy' true same set other = subst (λ (k : ChunkKey). HoldsUnder stripe k under copy) (same refl) set
+holds_one stripe key q under under' copy copy' false same set other = other
 
--- where nothing stands, no record stands
-pub nothing_named : (key : ChunkKey) → Keeps key None None
-nothing_named key bytes is = cc
+pub nothing_named : (stripe : ℕ) (key : ChunkKey) (copy : Chunk) → IsRecordOf stripe key None copy → ⊥
+nothing_named stripe key copy is = let no : None ≡ Some (chunk_record stripe key copy) = is.spelled in absurd cc
 
--- ---- entries that were set and taken out again
+-- what is left of a record under its key
+pub left_at : (held : Held) (key : ChunkKey) (left : Option (List ℕ)) (q : ChunkKey) → chunk_at (leaving key left held) q ≡ cond (same_key q key) left (chunk_at held q)
+left_at held key None q = value_at-without_key key_cmp_total held.contents key q
+left_at held key (Some part) q = value_at-with_entry key_cmp_total held.contents key part q
 
-pub absent_again : {X : Type 0} (entries : List (ChunkKey × X)) (key q : ChunkKey) → value_at key_cmp entries key ≡ None → cond (same_key q key) None (value_at key_cmp entries q) ≡ value_at key_cmp entries q
-absent_again {X = X} entries key q none =
-    elim (same_key q key) as (λ b. same_key q key ≡ b → cond b None (value_at key_cmp entries q) ≡ value_at key_cmp entries q) [
-      | true ↦ λ at. sym none ∙ ap (value_at key_cmp entries) (same_key-is q key at)
-      | false ↦ λ apart. refl
-    ] refl
+pub left_life : (held : Held) (key : ChunkKey) (left : Option (List ℕ)) → (leaving key left held).life ≡ held.life
+left_life held key None = refl
+left_life held key (Some part) = refl
 
--- where a key is absent, the first entry is another's, and the key is absent behind it
-absent_head : {X : Type 0} (b : Bool) (value : X) (found : Option X) → cond b (Some value) found ≡ None → (b ≡ false) × (found ≡ None)
-absent_head true value found none = cc
-absent_head false value found none = (refl, none)
+pub left_count : (held : Held) (key : ChunkKey) (left : Option (List ℕ)) → (leaving key left held).handed_out ≡ held.handed_out
+left_count held key None = refl
+left_count held key (Some part) = refl
 
-pub without_absent : {X : Type 0} (entries : List (ChunkKey × X)) (key : ChunkKey) → value_at key_cmp entries key ≡ None → without_key key_cmp entries key ≡ entries
-without_absent [] key none = refl
-without_absent {X = X} (e ∷ es) key none =
-    let head = absent_head (is_eq (key_cmp key e.0)) e.1 (value_at key_cmp es key) none in
-    ap (λ (b : Bool). unless b e (without_key key_cmp es key)) head.0 ∙ ap (λ (others : List (ChunkKey × X)). e ∷ others) (without_absent es key head.1)
+-- ---- the server that a store stands for then
 
-same_itself : (key : ChunkKey) → is_eq (key_cmp key key) ≡ true
-same_itself key = ap is_eq (tied_itself key_cmp_total key)
+-- the copy's record stands under its key
+pub stored_stands : (stripe : ℕ) (held : Held) (known : Known) (server : Server) (key : ChunkKey) (copy : Chunk) → IsChunk stripe key copy → StandsOn stripe held known server
+    → StandsOn stripe (holding key (chunk_record stripe key copy) held) (record known { copies = with_entry key_cmp known.copies key (size_of copy) })
+        (record server { copies = with_entry key_cmp server.copies key copy })
+stored_stands stripe held known server key copy fits stands = record {
+  up = stands.up;
+  form = stands.form;
+  copies = ap (λ (sizes : Sizes). with_entry key_cmp sizes key (size_of copy)) stands.copies ∙ sym (sizes_with server.copies key copy);
+  stands = record {
+    life = stands.stands.life;
+    keys = λ q.
+        holds_along stripe q _ _ _ _
+        (sym (value_at-with_entry key_cmp_total held.contents key (chunk_record stripe key copy) q))
+        (sym (value_at-with_entry key_cmp_total server.copies key copy q))
+        (holds_one stripe key q (Some (chunk_record stripe key copy)) _ (Some copy) _ (same_key q key) (same_key-is q key)
+        (record { fits = fits; spelled = refl }) (stands.stands.keys q));
+  };
+}
 
-pub taken_back : {X : Type 0} (entries : List (ChunkKey × X)) (key : ChunkKey) (value : X) → value_at key_cmp entries key ≡ None → without_key key_cmp (with_entry key_cmp entries key value) key ≡ entries
-taken_back {X = X} [] key value none = ap (λ (b : Bool). unless b (key, value) []) (same_itself key)
-taken_back {X = X} (e ∷ es) key value none =
-    let head = absent_head (is_eq (key_cmp key e.0)) e.1 (value_at key_cmp es key) none in
-    elim (key_cmp key e.0) as (λ (r : Ordering). is_eq r ≡ false → key_cmp key e.0 ≡ r → without_key key_cmp (match_ordering r ((key, value) ∷ e ∷ es) ((e.0, value) ∷ es) (e ∷ with_entry key_cmp es key value)) key ≡ e ∷ es) [
-      | Less ↦ λ apart at. ap (λ (b : Bool). unless b (key, value) (without_key key_cmp (e ∷ es) key)) (same_itself key) ∙ without_absent (e ∷ es) key none
-      | Equal ↦ λ apart at. absurd (true≢false apart)
-      | Greater ↦ λ apart at. ap (λ (b : Bool). unless b e (without_key key_cmp (with_entry key_cmp es key value) key)) head.0 ∙ ap (λ (others : List (ChunkKey × X)). e ∷ others) (taken_back es key value head.1)
-    ] head.0 refl
+-- a torn record under the key of no copy
+pub torn_stands : (stripe : ℕ) (held : Held) (known : Known) (server : Server) (key : ChunkKey) (copy : Chunk) (left : Option (List ℕ)) → IsChunk stripe key copy
+    → has_key key_cmp known.copies key ≡ false → IsTorn (chunk_record stripe key copy) left → StandsOn stripe held known server
+    → StandsOn stripe (leaving key left held) known server
+torn_stands stripe held known server key copy left fits apart torn stands = record {
+  up = stands.up;
+  form = stands.form;
+  copies = stands.copies;
+  stands = record {
+    life = left_life held key left ∙ stands.stands.life;
+    keys = λ q.
+        holds_along stripe q _ _ _ _
+        (sym (left_at held key left q))
+        (absent_again server.copies key q (absent_key server.copies key (sym (known_there known.copies server.copies key stands.copies) ∙ apart)))
+        (holds_one stripe key q left _ None _ (same_key q key) (same_key-is q key) (torn_is_none stripe key copy left fits torn) (stands.stands.keys q));
+  };
+}
 
--- ---- lengths of copies
+-- the copy's key is taken out
+pub erased_stands : (stripe : ℕ) (held : Held) (known : Known) (server : Server) (key : ChunkKey) → StandsOn stripe held known server
+    → StandsOn stripe (lacking key held) (record known { copies = without_key key_cmp known.copies key }) (record server { copies = without_key key_cmp server.copies key })
+erased_stands stripe held known server key stands = record {
+  up = stands.up;
+  form = stands.form;
+  copies = ap (λ (sizes : Sizes). without_key key_cmp sizes key) stands.copies ∙ sym (sizes_without server.copies key);
+  stands = record {
+    life = stands.stands.life;
+    keys = λ q.
+        holds_along stripe q _ _ _ _
+        (sym (value_at-without_key key_cmp_total held.contents key q))
+        (sym (value_at-without_key key_cmp_total server.copies key q))
+        (holds_one stripe key q None _ None _ (same_key q key) (same_key-is q key) (nothing_named stripe key) (stands.stands.keys q));
+  };
+}
 
-lengths_unless : (b : Bool) (copy : ChunkKey × List ℕ) (others : Copies) → lengths_of (unless b copy others) ≡ unless b (copy.0, length copy.1) (lengths_of others)
-lengths_unless true copy others = refl
-lengths_unless false copy others = refl
+-- no key is there
+pub emptied_stands : (stripe : ℕ) (held : Held) (known : Known) (server : Server) → known.up ≡ server.up → known.form ≡ server.form → held.life ≡ server.life
+    → StandsOn stripe (emptied held) (record known { copies = [] }) (record server { life = next_life server.life; copies = [] })
+emptied_stands stripe held known server up form life = record {
+  up = up;
+  form = form;
+  copies = refl;
+  stands = record { life = ap next_life life; keys = nothing_named stripe };
+}
 
-pub lengths_without : (copies : Copies) (key : ChunkKey) → lengths_of (without_key key_cmp copies key) ≡ without_key key_cmp (lengths_of copies) key
-lengths_without [] key = refl
-lengths_without (copy ∷ copies) key =
-    lengths_unless (is_eq (key_cmp key copy.0)) copy (without_key key_cmp copies key)
-    ∙ ap (λ (others : Lengths). unless (is_eq (key_cmp key copy.0)) (copy.0, length copy.1) others) (lengths_without copies key)
-
-pub lengths_with : (copies : Copies) (key : ChunkKey) (bytes : List ℕ) → lengths_of (with_entry key_cmp copies key bytes) ≡ with_entry key_cmp (lengths_of copies) key (length bytes)
-lengths_with [] key bytes = refl
-lengths_with (copy ∷ copies) key bytes =
-    elim (key_cmp key copy.0) as (λ (r : Ordering). lengths_of (match_ordering r ((key, bytes) ∷ copy ∷ copies) ((copy.0, bytes) ∷ copies) (copy ∷ with_entry key_cmp copies key bytes)) ≡ match_ordering r ((key, length bytes) ∷ lengths_of (copy ∷ copies)) ((copy.0, length bytes) ∷ lengths_of copies) ((copy.0, length copy.1) ∷ with_entry key_cmp (lengths_of copies) key (length bytes))) [
-      | Less ↦ refl
-      | Equal ↦ refl
-      | Greater ↦ ap (λ (others : Lengths). (copy.0, length copy.1) ∷ others) (lengths_with copies key bytes)
-    ]
-
-pub length_at : (copies : Copies) (key : ChunkKey) → value_at key_cmp (lengths_of copies) key ≡ option_map length (value_at key_cmp copies key)
-length_at copies key = lookup-map_values length (λ k. is_eq (key_cmp key k)) copies
-
-is_some_map : (copy : Option (List ℕ)) → is_some (option_map length copy) ≡ is_some copy
-is_some_map None = refl
-is_some_map (Some bytes) = refl
-
--- the copies are those whose lengths are known
-pub known_is_there : (held : Held) (shelf : Known) (server : Server) (key : ChunkKey) → StandsOn held shelf server → has_key key_cmp shelf.lengths key ≡ has_key key_cmp server.copies key
-known_is_there held shelf server key stands =
-    ap (λ (lengths : Lengths). has_key key_cmp lengths key) stands.lengths ∙ ap is_some (length_at server.copies key) ∙ is_some_map (value_at key_cmp server.copies key)
-
-pub absent_key : {X : Type 0} (entries : List (ChunkKey × X)) (key : ChunkKey) → has_key key_cmp entries key ≡ false → value_at key_cmp entries key ≡ None
-absent_key {X = X} entries key apart =
-    elim (value_at key_cmp entries key) as (λ (o : Option X). is_some o ≡ false → o ≡ None) [
-      | None ↦ λ h. refl
-      | Some v ↦ λ h. absurd (true≢false h)
-    ] apart
-
--- no copy is there where no length is known
-pub absent_copy : (held : Held) (shelf : Known) (server : Server) (key : ChunkKey) → has_key key_cmp shelf.lengths key ≡ false → StandsOn held shelf server → value_at key_cmp server.copies key ≡ None
-absent_copy held shelf server key apart stands = absent_key server.copies key (sym (known_is_there held shelf server key stands) ∙ apart)
-
--- ---- chunk records
-
--- the bytes of a record before those of its chunk
-abbrev head : ChunkKey → ℕ → List ℕ
-head key count = codes "QFC1" ++ (chunk_key.text key ++ to_be_bytes w32 count)
-
-pub record_is : (key : ChunkKey) (bytes : List ℕ) → chunk_record key bytes ≡ head key (length bytes) ++ bytes
-record_is key bytes = refl
-
-pub record_length : (key : ChunkKey) (bytes : List ℕ) → length (chunk_record key bytes) ≡ 21 + length bytes
-record_length key bytes = length-append (head key (length bytes)) bytes
-
-pub behind_head : (key : ChunkKey) (bytes : List ℕ) (from : ℕ) → drop (21 + from) (chunk_record key bytes) ≡ drop from bytes
-behind_head key bytes from = drop-append-add (head key (length bytes)) bytes from
-
--- the count of bytes that the head of a record states
-abbrev stated : List ℕ → ℕ
-stated front = from_be_bytes w32 (drop 17 front)
-
-stated_is : (key : ChunkKey) (bytes : List ℕ) → length bytes < 2 ^ 32 → stated (take 21 (chunk_record key bytes)) ≡ length bytes
-stated_is key bytes few = from_be_bytes-to_be_bytes_4 (length bytes) few
-
--- no proper first part of a record is a record that names the same key
-prefix_is_none : (key : ChunkKey) (bytes other : List ℕ) (count : ℕ) → length bytes < 2 ^ 32 → count < length (chunk_record key bytes) → take count (chunk_record key bytes) ≡ chunk_record key other → ⊥
-prefix_is_none key bytes other count few part same =
-    let whole = record_length key bytes in
-    let size : count ≡ 21 + length other = sym (length-take-le count (chunk_record key bytes) (omega arith)) ∙ ap length same ∙ record_length key other in
-    let inside : 21 ≤ count = omega arith in
-    let states : length bytes ≡ length other =
-    sym (stated_is key bytes few)
-    ∙ ap stated (sym (take-take 21 count (chunk_record key bytes) inside) ∙ ap (take 21) same)
-    ∙ stated_is key other (omega arith) in
-    omega arith
-
-pub torn_is_none : (key : ChunkKey) (bytes : List ℕ) (left : Option (List ℕ)) → length bytes < 2 ^ 32 → IsTorn (chunk_record key bytes) left → (other : List ℕ) → left ≡ Some (chunk_record key other) → ⊥
-torn_is_none key bytes None few torn other same = cc
-torn_is_none key bytes (Some part) few torn other same =
-    let is : part ≡ chunk_record key other = cc in
-    prefix_is_none key bytes other torn.0 few torn.1 (sym torn.2 ∙ is)
+-- the same keys in the same life
+pub same_stands : (stripe : ℕ) (held now : Held) (server : Server) → now.contents ≡ held.contents → now.life ≡ held.life → StandsFor stripe held server → StandsFor stripe now server
+same_stands stripe held now server contents life stands = record {
+  life = life ∙ stands.life;
+  keys = λ q. subst (λ found. HoldsUnder stripe q found (value_at key_cmp server.copies q)) (ap (λ c. value_at key_cmp c q) (sym contents)) (stands.keys q);
+}

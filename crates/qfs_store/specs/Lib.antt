@@ -1,5 +1,4 @@
-pub mod Chunks
-pub mod Fresh
-pub mod Stands
+pub mod Known
+pub mod Serves
 pub mod Start
 pub mod Stored

@@ -1,95 +1,130 @@
--- How a server that was down finds its copies on its device: it notes each key whose bytes are long enough for a chunk
--- record, with the length that its copy would have, and then takes those out whose bytes don't begin with the head of
--- that record.
-use Rattle.std.specs.Prelude.{ℕ, ◌≡◌, ◌+◌, ◌-◌, ◌*◌, nat_le, Bool, ◌&&◌, if◌then◌else◌, List, [], ◌∷◌, ◌++◌, length, take, codes, Option, Some, None, Result, Ok, Err}
-use Rattle.std.specs.Int.{w32, to_be_bytes}
-use Rattle.std.specs.List.{fold}
-use Rattle.std.specs.Str.{bytes_eq}
+-- What a start finds on a device: the keys under which a chunk record stands that names the key.
+use Rattle.std.specs.Prelude.{ℕ, ◌≡◌, ◌+◌, ◌==◌, ◌&&◌, ◌||◌, ◌≤◌, nat_le, Bool, true, false, if◌then◌else◌, List, length, take, map, sum, filter_map, IsTrue, Option, Some, None, Result, Ok, Err}
+use Rattle.std.specs.List.{fold, AllByRecursion}
+use Rattle.std.specs.List.Sorted.{IsStrictlySortedBy}
+use Rattle.std.specs.Map.{keys_of}
+use Rattle.std.specs.Option.{option_map}
+use Rattle.std.specs.Ordering.{is_eq}
 use Rattle.qfs_base.specs.Key.{key_cmp}
-use Rattle.qfs_base.specs.KeyMap.{value_at, with_entry, without_key}
+use Rattle.qfs_base.specs.Sizes.{FIRST_HEAD_BYTES, SECOND_HEAD_BYTES}
 use Rattle.qfs_base.specs.declared.chunk.ChunkKey.{ChunkKey}
-use Rattle.qfs_device.specs.Held.{Held, LiesIn, bytes_at, sizes_of}
+use Rattle.qfs_base.specs.KeyMap.{has_key, with_entry, without_key}
+use Rattle.qfs_device.specs.Held.{Held, Contents, bytes_at}
 use Rattle.qfs_device.specs.declared.chunk_device.KeySize.{KeySize}
-use Rattle.qfs_record.specs.ChunkRecord.{chunk_key}
-use Rattle.qfs_model_server.specs.Server.{header_bytes}
-use Rattle.qfs_store.specs.Stands.{Lengths, kept}
+use Rattle.qfs_device.specs.declared.errors.DeviceError.{DeviceError}
+use Rattle.qfs_device.specs.declared.errors.DeviceError.TheVariants.{Failed, NoMemory}
+use Rattle.qfs_model_server.specs.Chunk.{head_bytes}
+use Rattle.qfs_model_store.specs.Stands.{kept}
+use Rattle.qfs_record.specs.ChunkRecord.{begins_second, head_in}
+use Rattle.qfs_record.specs.declared.head.Head.{Head}
+use Rattle.qfs_store.specs.Known.{Sizes, resized}
+use Rattle.qfs_store.specs.declared.copies.CopySize.{CopySize}
 
--- the bytes of a chunk record before those of its chunk
-abbrev pub head : ChunkKey → ℕ → List ℕ
-head key count = codes "QFC1" ++ (chunk_key.text key ++ to_be_bytes w32 count)
+-- ---- reading a head
 
--- ---- keys that may have copies
+-- how many bytes are read to know the head of these: none where there are fewer than the shorter head has
+abbrev pub front_bytes : List ℕ → ℕ
+front_bytes bytes =
+    if nat_le FIRST_HEAD_BYTES (length bytes)
+    then (if begins_second bytes && nat_le SECOND_HEAD_BYTES (length bytes) then SECOND_HEAD_BYTES else FIRST_HEAD_BYTES)
+    else 0
 
--- the length of the copy in a chunk record of this size, if there is a record of this size
-abbrev pub length_within : ℕ → Option ℕ
-length_within size = if nat_le 21 size && nat_le size 4294967316 then Some (size - 21) else None
+-- a head names this key, this stripe where its form names one, and as many bytes as there are
+abbrev pub is_head_of : ℕ → ChunkKey → ℕ → Head → Bool
+is_head_of stripe key size head =
+    is_eq (key_cmp head.key key) && ((head.form == 1) || (head.stripe == stripe))
+    && (head_bytes head.form + head.len == size)
 
-abbrev pub noted : ChunkKey → Lengths → Option ℕ → Lengths
-noted key lengths None = lengths
-noted key lengths (Some count) = with_entry key_cmp lengths key count
+abbrev pub size_in : Head → CopySize
+size_in head = record { form = head.form; len = head.len }
 
-abbrev pub noting : Lengths → KeySize → Lengths
-noting lengths chunk = noted chunk.key lengths (length_within chunk.size)
+-- the copy that a head of a record of this size tells of, if it does
+abbrev pub copy_in : ℕ → ChunkKey → ℕ → Option Head → Option CopySize
+copy_in stripe key size None = None
+copy_in stripe key size (Some head) = if is_head_of stripe key size head then Some (size_in head) else None
 
--- the keys that may have copies
-abbrev pub candidates : List KeySize → Lengths
-candidates sizes = fold noting [] sizes
+-- the copy that these bytes under this key are the record of, if they are one
+abbrev pub copy_under : ℕ → ChunkKey → List ℕ → Option CopySize
+copy_under stripe key bytes = copy_in stripe key (length bytes) (head_in (take (front_bytes bytes) bytes))
 
--- ---- keys that have copies
+-- ---- all keys
 
--- the bytes under a key begin with the head of the record of so long a copy
-abbrev pub has_head : Held → ChunkKey → ℕ → Bool
-has_head held key count = bytes_eq (take 21 (bytes_at held key)) (head key count)
+abbrev pub entry_of : ChunkKey → CopySize → ChunkKey × CopySize
+entry_of key size = (key, size)
 
-abbrev pub checked : Held → ChunkKey → Lengths → Option ℕ → Lengths
-checked held key lengths None = lengths
-checked held key lengths (Some count) = if has_head held key count then lengths else without_key key_cmp lengths key
+-- the copies on a device
+abbrev pub copies_in : ℕ → Contents → Sizes
+copies_in stripe contents =
+    filter_map (λ (chunk : ChunkKey × List ℕ). option_map (entry_of chunk.0) (copy_under stripe chunk.0 chunk.1)) contents
 
-abbrev pub checking : Held → Lengths → KeySize → Lengths
-checking held lengths chunk = checked held chunk.key lengths (value_at key_cmp lengths chunk.key)
+-- how many bytes are read to know all heads
+abbrev pub fronts : Contents → ℕ
+fronts contents = sum (map (λ (chunk : ChunkKey × List ℕ). front_bytes chunk.1) contents)
 
--- those of the noted keys that have copies
-abbrev pub found : Held → List KeySize → Lengths
-found held sizes = fold (checking held) (candidates sizes) sizes
+-- ---- one key after another
 
--- ---- reading
+-- what is noted of a key before its head is read
+abbrev pub unread : CopySize
+unread = record { form = 1; len = 0 }
 
--- a device that holds this can read a head under each noted key
-abbrev pub CanRead : Held → Lengths → Type 0
-CanRead held lengths = (key : ChunkKey) (count : ℕ) → value_at key_cmp lengths key ≡ Some count → LiesIn held key 0 21
+-- a key is noted where its bytes are enough for a head
+abbrev pub noting : Sizes → KeySize → Sizes
+noting copies chunk = if nat_le FIRST_HEAD_BYTES chunk.size then with_entry key_cmp copies chunk.key unread else copies
 
--- one head is read for a noted key, and none for another
-abbrev pub head_of : Option ℕ → ℕ
-head_of None = 0
-head_of (Some count) = 1
+-- a noted key gets the size of its copy, or is taken out
+abbrev pub settled : Sizes → ChunkKey → Option CopySize → Sizes
+settled copies key None = without_key key_cmp copies key
+settled copies key (Some size) = resized copies key size
 
--- how many heads the check of a key reads: none where the read fails
-abbrev pub heads_of : {A B : Type 0} → Option ℕ → Result A B → ℕ
-heads_of length (Ok done) = head_of length
-heads_of length (Err error) = 0
+abbrev pub checking : ℕ → Held → Sizes → KeySize → Sizes
+checking stripe held copies chunk =
+    if nat_le FIRST_HEAD_BYTES chunk.size
+    then settled copies chunk.key (copy_under stripe chunk.key (bytes_at held chunk.key)) else copies
 
--- how many heads the checks of these keys read
-abbrev pub heads : Held → Lengths → List KeySize → ℕ
-heads held lengths [] = 0
-heads held lengths (chunk ∷ rest) = head_of (value_at key_cmp lengths chunk.key) + heads held (checking held lengths chunk) rest
+-- how many bytes are read to know the head under a key
+abbrev pub front_under : Held → KeySize → ℕ
+front_under held chunk = front_bytes (bytes_at held chunk.key)
 
--- so many heads were read from a device that held this, and nothing else changed
-pub record ReadHeads (held : Held) (told : Option Held) (reads : ℕ) : Type 0 where
+abbrev pub front_sum : Held → List KeySize → ℕ
+front_sum held sizes = sum (map (front_under held) sizes)
+
+-- a device has so many bytes under a key as it told
+pub record IsSized (held : Held) (chunk : KeySize) : Type 0 where
+  pub there : IsTrue (has_key key_cmp held.contents chunk.key)
+  pub size : chunk.size ≡ length (bytes_at held chunk.key)
+
+-- so many bytes were read from a device that held this, and nothing else changed
+pub record Reads (held : Held) (told : Option Held) (count : ℕ) : Type 0 where
   pub after : Held
   pub told_is : told ≡ Some after
   pub contents : after.contents ≡ held.contents
   pub life : after.life ≡ held.life
-  pub handed : kept after.handed_out ≡ kept (held.handed_out + header_bytes * reads)
+  pub handed : kept after.handed_out ≡ kept (held.handed_out + count)
 
 -- the checks of the keys up to those that are left
-pub record Checked (held : Held) (told : Option Held) (begun now : Lengths) (sizes rest : List KeySize) : Type 0 where
-  pub reads : ℕ
-  pub read : ReadHeads held told reads
-  pub leads : fold (checking held) now rest ≡ fold (checking held) begun sizes
-  pub counts : reads + heads held now rest ≡ heads held begun sizes
-  pub readable : CanRead held now
+pub record Checked (stripe : ℕ) (held : Held) (told : Option Held) (begun now : Sizes) (sizes rest : List KeySize) : Type 0 where
+  pub count : ℕ
+  pub reads : Reads held told count
+  pub leads : fold (checking stripe held) now rest ≡ fold (checking stripe held) begun sizes
+  pub counts : count + front_sum held rest ≡ front_sum held sizes
+  pub readable : AllByRecursion (IsSized held) rest
 
--- the copies on a device were found, and so many heads read; or it failed after some
-abbrev pub IsFound : {E : Type 0} → Held → Option Held → Result Lengths E → Type 0
-IsFound held told (Ok lengths) = (lengths ≡ found held (sizes_of held.contents)) × ReadHeads held told (heads held (candidates (sizes_of held.contents)) (sizes_of held.contents))
-IsFound held told (Err error) = (reads : ℕ) × ReadHeads held told reads
+-- a key's front was read and its copy found, or not all of it was read
+abbrev pub HeadRead : {E : Type 0} → Held → Option Held → KeySize → Result (Option Head) E → Type 0
+HeadRead held told chunk (Ok head) =
+    (head ≡ head_in (take (front_bytes (bytes_at held chunk.key)) (bytes_at held chunk.key))) × Reads held told (front_under held chunk)
+HeadRead held told chunk (Err error) = (count : ℕ) × Reads held told count
+
+abbrev pub KeyChecked : {E : Type 0} → ℕ → Held → Option Held → KeySize → Sizes → Sizes → Result (Unit {0}) E → Type 0
+KeyChecked stripe held told chunk copies copies' (Ok done) =
+    (copies' ≡ checking stripe held copies chunk) × Reads held told (front_under held chunk)
+KeyChecked stripe held told chunk copies copies' (Err error) = (count : ℕ) × Reads held told count
+
+-- the copies on a device were found, and all fronts read; or it failed after some; or no memory was found and nothing read
+abbrev pub FindsOn : ℕ → Result Sizes DeviceError → Option Held → Option Held → Type 0
+FindsOn stripe (Ok copies) told told' =
+    (held : Held) → told ≡ Some held
+    → (copies ≡ copies_in stripe held.contents) × IsStrictlySortedBy key_cmp (keys_of held.contents)
+    × Reads held told' (fronts held.contents)
+FindsOn stripe (Err Failed) told told' = (held : Held) → told ≡ Some held → (count : ℕ) × Reads held told' count
+FindsOn stripe (Err NoMemory) told told' = told' ≡ told

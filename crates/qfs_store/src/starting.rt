@@ -1,120 +1,154 @@
 //! How a server that was down finds its copies on its device.
-ghost use Rattle.std.specs.Prelude.{◌≡◌, ◌≤◌, Some, is_some, IfSome, IfOk, OnOk};
+ghost use Rattle.std.specs.Prelude.{◌≡◌, ℕ, ◌≤◌, [], ◌++◌, Some, is_some, IfOk, OnOk};
 ghost use Rattle.std.specs.Option.{ForSome};
-ghost use Rattle.qfs_base.specs.Key.{key_cmp};
-ghost use Rattle.qfs_base.specs.KeyMap.{value_at};
-ghost use Rattle.qfs_device.specs.Fault.{HasCause, OnNoMemory, TakesNoMemory};
+ghost use Rattle.std.specs.List.{fold};
+ghost use Rattle.qfs_device.specs.Fault.{Counts, TakesNoMemory};
 ghost use Rattle.qfs_device.specs.Held.{Held};
-ghost use Rattle.std.specs.List.Sorted.{IsStrictlySortedBy};
-ghost use Rattle.std.specs.Map.{keys_of};
-ghost use Rattle.qfs_store.specs.Start.{head, length_within, noting, candidates, checked, heads_of, CanRead, ReadHeads, IsFound};
+ghost use Rattle.qfs_model_server.specs.Chunk.{head_bytes};
+ghost use Rattle.qfs_store.specs.Start.{noting, settled, copy_in, FindsOn, IsSized, HeadRead, KeyChecked};
 
+use crate::copies::{Copies, CopySize};
 use qfs_base::chunk::ChunkKey;
-use qfs_base::key_map::KeyMap;
+use qfs_base::sizes::{FIRST_HEAD_BYTES, SECOND_HEAD_BYTES};
 use qfs_device::{ChunkDevice, DeviceError, KeySize, KeySizes};
+use qfs_record::{Head, is_second, read_head};
 use std::alloc::{AllocError, Global};
 
-/// The bytes of a chunk record before those of its chunk.
-const HEAD_BYTES: u64 = 21;
+/// The bytes of the head of a chunk record of this version.
+#[tactic(auto, unfolding(qfs_model_server::specs::Chunk::head_bytes))]
+pub fn head_bytes(form: u8) -> u32
+    ensures { result ≡ head_bytes form }
+{
+    if form == 1 {
+        FIRST_HEAD_BYTES
+    } else {
+        SECOND_HEAD_BYTES
+    }
+}
 
-/// The size of the longest record whose copy has a length in 32 bits.
-const MOST_BYTES: u64 = 4_294_967_316;
-
-/// The copies on a device, each with its length: the keys whose bytes are a chunk record that
-/// names the key. All memory is taken before the first read.
+/// The copies on a device: the keys whose bytes are, whole, a chunk record that names the key, and
+/// this stripe where its version names one. All memory is taken before the first read.
 pub fn copies_on<D: ChunkDevice>(
     alloc: Global,
     device: &mut D,
-) -> Result<KeyMap<ChunkKey, u32>, DeviceError>
-    ensures found { (held : Held) → D.told device.old ≡ Some held → IsFound held (D.told device.new) result }
-    ensures rising { IfOk result (λ lengths. IsStrictlySortedBy key_cmp (keys_of lengths)) }
-    ensures sorted { IfOk result (λ _. IfSome (D.told device.old) (λ held. IsStrictlySortedBy key_cmp (keys_of held.contents))) }
-    ensures no_memory { OnNoMemory result (D.told device.new ≡ D.told device.old) }
+    stripe: u32,
+) -> Result<Copies, DeviceError>
+    ensures found { FindsOn stripe result (D.told device.old) (D.told device.new) }
     ensures tells { is_some (D.told device.new) ≡ is_some (D.told device.old) }
-    ensures never_falls { D.faults device.old ≤ D.faults device.new }
-    ensures cause { HasCause (D.faults device.old) (D.faults device.new) result }
+    ensures counts { Counts (D.faults device.old) (D.faults device.new) result }
 {
     let sizes = device.keys()?;
-    let mut lengths = candidates(alloc, &sizes)?;
+    let mut copies = candidates(alloc, &sizes)?;
     for chunk in &sizes {
-        check_key(device, chunk.key, &mut lengths)?;
+        check(device, stripe, chunk, &mut copies)?;
     }
-    Ok(lengths)
+    Ok(copies)
 }
 
-/// The keys that may have copies: those whose bytes are long enough for a chunk record, each with
-/// the length that its copy would have.
-fn candidates(alloc: Global, sizes: &KeySizes) -> Result<KeyMap<ChunkKey, u32>, AllocError>
-    ensures noted { IfOk result (λ lengths. lengths ≡ candidates sizes.now) }
-    ensures rising { IfOk result (λ lengths. IsStrictlySortedBy key_cmp (keys_of lengths)) }
+/// The keys that may have copies: those whose bytes are enough for a head.
+fn candidates(alloc: Global, sizes: &KeySizes) -> Result<Copies, AllocError>
+    ensures { IfOk result (λ copies. copies ≡ fold noting [] sizes.now) }
 {
-    let mut lengths = KeyMap::new(alloc);
+    let mut copies = Copies::new(alloc);
     for chunk in sizes {
-        note(&mut lengths, chunk)?;
+        note(&mut copies, chunk)?;
     }
-    Ok(lengths)
+    Ok(copies)
 }
 
 /// Notes a key that may have a copy.
-fn note(lengths: &mut KeyMap<ChunkKey, u32>, chunk: &KeySize) -> Result<(), AllocError>
-    ensures noted { OnOk result (lengths.new ≡ noting lengths.old chunk.now) }
-    ensures rising { IsStrictlySortedBy key_cmp (keys_of lengths.old) → IsStrictlySortedBy key_cmp (keys_of lengths.new) }
+fn note(copies: &mut Copies, chunk: &KeySize) -> Result<(), AllocError>
+    ensures { OnOk result (copies.new ≡ noting copies.old chunk.now) }
 {
-    match length_within(chunk.size) {
-        Some(length) => lengths.insert(chunk.key, length),
-        None => Ok(()),
+    if chunk.size < FIRST_HEAD_BYTES as u64 {
+        return Ok(());
     }
+    copies.insert(
+        chunk.key,
+        CopySize {
+            form: 1,
+            len: 0,
+        },
+    )
 }
 
-/// The length of the copy in a chunk record of this size, or None where no record has this size.
-fn length_within(size: u64) -> Option<u32>
-    ensures { result ≡ length_within size }
-{
-    if HEAD_BYTES <= size && size <= MOST_BYTES {
-        Some((size - HEAD_BYTES) as u32)
-    } else {
-        None
-    }
-}
-
-/// Takes a noted key out where the bytes under it don't begin with the head of its copy's record.
-fn check_key<D: ChunkDevice>(
+/// Reads the head under a noted key, and notes the size of the copy, or takes the key out where it
+/// has none.
+fn check<D: ChunkDevice>(
     device: &mut D,
-    key: ChunkKey,
-    lengths: &mut KeyMap<ChunkKey, u32>,
+    stripe: u32,
+    chunk: &KeySize,
+    copies: &mut Copies,
 ) -> Result<(), DeviceError>
-    requires readable { ForSome (D.told device.old) (λ held. CanRead held lengths.old) }
-    ensures checked { OnOk result ((held : Held) → D.told device.old ≡ Some held → lengths.new ≡ checked held key lengths.old (value_at key_cmp lengths.old key)) }
-    ensures reads { (held : Held) → D.told device.old ≡ Some held → ReadHeads held (D.told device.new) (heads_of (value_at key_cmp lengths.old key) result) }
-    ensures rising { IsStrictlySortedBy key_cmp (keys_of lengths.old) → IsStrictlySortedBy key_cmp (keys_of lengths.new) }
+    requires readable { ForSome (D.told device.old) (λ held. IsSized held chunk.now) }
+    ensures checked { (held : Held) → D.told device.old ≡ Some held → KeyChecked stripe held (D.told device.new) chunk.now copies.old copies.new result }
     ensures tells { is_some (D.told device.new) ≡ is_some (D.told device.old) }
-    ensures never_falls { D.faults device.old ≤ D.faults device.new }
-    ensures cause { HasCause (D.faults device.old) (D.faults device.new) result }
+    ensures counts { Counts (D.faults device.old) (D.faults device.new) result }
     ensures no_memory { TakesNoMemory result }
 {
-    let length = match lengths.get(&key) {
-        Some(length) => *length,
-        None => return Ok(()),
-    };
-    let mut bytes = [0u8; 21];
-    device.read(key, 0, &mut bytes)?;
-    if bytes != head(key, length) {
-        let _length = lengths.remove(&key);
+    if chunk.size < FIRST_HEAD_BYTES as u64 {
+        return Ok(());
     }
+    let head = head_under(device, chunk)?;
+    settle(copies, chunk.key, copy_in(stripe, chunk, head));
     Ok(())
 }
 
-/// The bytes of the record of a copy that is so long, before those of the copy.
-fn head(key: ChunkKey, length: u32) -> [u8; 21]
-    ensures { result ≡ head key length }
+/// Notes the size of the copy under a key, or takes the key out where there is none.
+fn settle(copies: &mut Copies, key: ChunkKey, size: Option<CopySize>)
+    ensures { copies.new ≡ settled copies.old key size }
 {
-    let file = key.block.file.to_be_bytes();
-    let index = key.block.index.to_be_bytes();
-    let version = key.version.to_be_bytes();
-    let count = length.to_be_bytes();
-    [
-        b'Q', b'F', b'C', b'1', file[0], file[1], file[2], file[3], index[0], index[1], index[2],
-        index[3], key.slot, version[0], version[1], version[2], version[3], count[0], count[1],
-        count[2], count[3],
-    ]
+    match size {
+        Some(size) => copies.set(key, size),
+        None => copies.remove(&key),
+    }
+}
+
+/// The head under a key whose bytes are enough for one, or None where they begin with none.
+fn head_under<D: ChunkDevice>(
+    device: &mut D,
+    chunk: &KeySize,
+) -> Result<Option<Head>, DeviceError>
+    requires long { 21 ≤ chunk.now.size }
+    requires readable { ForSome (D.told device.old) (λ held. IsSized held chunk.now) }
+    ensures read { (held : Held) → D.told device.old ≡ Some held → HeadRead held (D.told device.new) chunk.now result }
+    ensures tells { is_some (D.told device.new) ≡ is_some (D.told device.old) }
+    ensures counts { Counts (D.faults device.old) (D.faults device.new) result }
+    ensures no_memory { TakesNoMemory result }
+{
+    let mut first = [0u8; 21];
+    device.read(chunk.key, 0, &mut first)?;
+    if !is_second(&first) || chunk.size < SECOND_HEAD_BYTES as u64 {
+        return Ok(read_head(&first));
+    }
+    let mut stripe = [0u8; 4];
+    device.read(chunk.key, FIRST_HEAD_BYTES, &mut stripe)?;
+    Ok(read_head(&joined(&first, &stripe)))
+}
+
+/// The bytes of a head of the second version, whose stripe stands behind the others.
+fn joined(first: &[u8; 21], stripe: &[u8; 4]) -> [u8; 25]
+    ensures { result ≡ first.now ++ stripe.now }
+{
+    let mut front = [0u8; 25];
+    front[..21].copy_from_slice(first);
+    front[21..].copy_from_slice(stripe);
+    front
+}
+
+/// The size of the copy that a head tells of, where it names the key, the stripe, if it names one,
+/// and as many bytes as there are.
+fn copy_in(stripe: u32, chunk: &KeySize, head: Option<Head>) -> Option<CopySize>
+    ensures { result ≡ copy_in stripe chunk.now.key chunk.now.size head }
+{
+    let head = head?;
+    let is_whole = head_bytes(head.form) as u64 + head.len as u64 == chunk.size;
+    if head.key == chunk.key && (head.form == 1 || head.stripe == stripe) && is_whole {
+        Some(CopySize {
+            form: head.form,
+            len: head.len,
+        })
+    } else {
+        None
+    }
 }

@@ -1,14 +1,14 @@
 -- No copies, over a device that holds none, stand for a server without copies.
 use Rattle.std.proofs.Common.{sym, subst}
-use Rattle.qfs_store.specs.Fresh.{empty_server, empty_stands, fresh_stands}
-use Rattle.qfs_store.specs.Stands.{Known, StandsOn}
-use Rattle.qfs_model_server.specs.Server.{fresh_server}
+use Rattle.qfs_store.specs.Known.{Sizes}
+use Rattle.qfs_store.specs.Stored.{IsSound, StandsOn}
 use Rattle.qfs_device.specs.Held.{new_device}
+use Rattle.qfs_model_server.specs.Server.{fresh_server}
+use Rattle.qfs_store.proofs.FreshLaws.{empty_sound, fresh_stands}
 use Rattle.qfs_store.proofs.store.Store.new.Goals as goal
 
 pub invariant_of-result : goal.invariant_of-result
-invariant_of-result g c held told_is =
-    (empty_server held, subst (λ (known : Known). StandsOn held known (empty_server held)) (sym c.new.ensures) (empty_stands held (c.requires.empty held told_is)))
+invariant_of-result g c = rw c.new.ensures (empty_sound c.args.stripe _ _ c.requires.stripe c.requires.empty)
 
 pub returns-clause-fresh : goal.returns-clause-fresh
-returns-clause-fresh g c told_is = subst (λ (known : Known). StandsOn new_device known fresh_server) (sym c.new.ensures) fresh_stands
+returns-clause-fresh g c told_is = rw c.new.ensures (fresh_stands c.args.stripe)
