@@ -163,9 +163,6 @@ module _ (script : Script) (servers : List Server) (m : MetaImage) (commands : �
             }
       ]
 
-  has-grant : (server : ℕ) → is_none (granted_once server).grant ≡ false
-  has-grant server = refl
-
   lacks-none : (server : ℕ) → 1 ≤ server → server ≤ script.servers → (row : SlotRow) → (is_of_file t.file row ≡ true → lacks_grant m.slots (slot_id row) ≡ false)
       → is_of_file t.file row ≡ true → lacks_grant (new_slots server) (slot_id row) ≡ false
   unfolding lacks_grant slot_id is_slot
