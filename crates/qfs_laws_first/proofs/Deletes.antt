@@ -44,6 +44,7 @@ use Rattle.qfs_model_world.specs.Deletion.{NoDeletion, ordered_copy, erased_copy
 use Rattle.qfs_model_world.specs.Replayed.{says_restarted, has_restarted, KeepsAtRestart}
 use Rattle.qfs_model_world.specs.Events.{Event, event_asking, event_by, event_in, events_from, events}
 use Rattle.qfs_model_world.specs.World.{World, numbered_actors, start, numbered, meta_turned, chunk_turned, chunk_turn, node_turn, handed_over, move_asking, move_actor, move}
+use Rattle.qfs_model_world.proofs.OneStep.{turn-keeps}
 use Rattle.qfs_laws_first.specs.Asks.{IsMetaOfFiles, IsChunkOfFiles, IsOfFiles, AsksOfFiles}
 use Rattle.qfs_laws_first.specs.FirstPath.{IsPutOrGet, PutsAndGets}
 use Rattle.qfs_laws_first.proofs.AsksOfGets.{get_work-asks}
@@ -256,18 +257,6 @@ pub after_reply-commands : (actor : Actor) (reply : NodeReply) → (after_reply 
 unfolding after_reply
 after_reply-commands actor reply = moved_on-commands actor reply _
 
-chunk_turn-actors : (world : World) (number : ℕ) (request : ChunkRequest) (outcome : Outcome) (found : Option Server)
-    → (chunk_turn world number request outcome found).world.actors ≡ world.actors
-unfolding chunk_turn chunk_turned
-chunk_turn-actors world number request outcome None = refl
-chunk_turn-actors world number request outcome (Some server) = refl
-
-node_turn-actors : (world : World) (actor : ℕ) (outcome : Outcome) (request : NodeRequest)
-    → (node_turn world actor outcome request).world.actors ≡ world.actors
-unfolding node_turn meta_turned
-node_turn-actors world actor outcome (To.Meta request) = refl
-node_turn-actors world actor outcome (To.Chunk number request) = chunk_turn-actors world number request outcome (numbered world.servers number)
-
 asking-only : (world : World) (number : ℕ) (outcome : Outcome) (actor : Actor) (request : Option NodeRequest) → Each PutsAndGetsOnly world.actors
     → PutsAndGetsOnly actor → Each PutsAndGetsOnly (move_asking world number outcome actor request).actors
 unfolding move_asking handed_over
@@ -275,7 +264,7 @@ asking-only world number outcome actor None all own = all
 asking-only world number outcome actor (Some request) all own =
     let turned = node_turn world number outcome request in
     each_renumbered PutsAndGetsOnly turned.world.actors number (after_reply actor turned.reply)
-    (subst (Each PutsAndGetsOnly) (sym (node_turn-actors world number outcome request)) all)
+    (subst (Each PutsAndGetsOnly) (sym (turn-keeps world number outcome request).actors) all)
     (subst (Each IsPutOrGet) (sym (after_reply-commands actor turned.reply)) own)
 
 move-only : (world : World) (step : Step) → Each PutsAndGetsOnly world.actors → Each PutsAndGetsOnly (move world step).actors

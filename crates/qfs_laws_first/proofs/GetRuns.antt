@@ -46,7 +46,7 @@ use Rattle.qfs_model_world.specs.Puts.{command_of, puts_of}
 use Rattle.qfs_model_world.specs.World.{World, renumbered}
 use Rattle.qfs_model_world.proofs.OneActor.{done_step}
 use Rattle.qfs_laws_first.specs.FirstPath.{IsFirstPath}
-use Rattle.qfs_laws_first.proofs.Gets.{get-refused-there, get-read-there, closed-file, opened_state, open-refused, open-served, get-opened, listed-slot, blocks-one, listed-nine, stays-stored, get-fetched, released_state, release-served, release-gone-served, reads-ended, get-released}
+use Rattle.qfs_laws_first.proofs.Gets.{get-refused-there, get-read-there, closed-file, opened_state, open-refused, open-served, get-opened, listed-slot, blocks-one, listed-nine, stays-stored, get-fetched, released_state, release-served, release-gone-served, later, get-released}
 use Rattle.qfs_laws_first.proofs.Moves.{work_left-heard, work_left-next, meta_goes_on, meta_ends, chunk_goes_on}
 use Rattle.qfs_laws_first.proofs.PutRuns.{short-file}
 use Rattle.qfs_laws_first.proofs.Reading.{IsShort, slot_long}
@@ -87,7 +87,7 @@ module _ (script : Script) (commands : List Command) (steps : List Event) (w : W
         (get-asks script.layout (tries_of script) path)
         (open-refused script w.servers w.meta c b w.rules path why not_free)
         (get-refused script.layout (tries_of script) path why (length w.meta.history)))
-        is (get-refused-there script w.servers w.meta c (c + 1) (c + 1) (2 * c) b.steady path why not_free) b
+        is (get-refused-there script w.servers w.meta c (2 * c + 1) b path why not_free) b
 
     written : (file : ℕ) → (opened_state script.term w.meta file).history ≡ w.meta.history
     unfolding next_turn apply_all apply
@@ -101,7 +101,7 @@ module _ (script : Script) (commands : List Command) (steps : List Event) (w : W
       bytes = puts_of script at.row.actor at.row.command
 
       file-here : IsFile script.layout script.servers w.servers w.meta.slots at.row.file at.row.len bytes
-      file-here = closed-file script w.servers w.meta c (c + 1) (c + 1) (2 * c) b.steady path at
+      file-here = closed-file script w.servers w.meta c (2 * c + 1) b path at
 
       short-bytes : IsShort script.layout (length bytes)
       short-bytes = short-file script commands (length bytes) first_path file-here.some file-here.most
@@ -167,7 +167,7 @@ module _ (script : Script) (commands : List Command) (steps : List Event) (w : W
             before = subst (λ history. o.place ≤ length history) (sym (written at.row.file)) (omega (arith, place));
             right = subst (λ history. reply_at (puts_of script) history o.place (File.Get path None) ≡ Told.Read bytes) (sym (written at.row.file))
                 (subst (λ p. reply_at (puts_of script) w.meta.history p (File.Get path None) ≡ Told.Read bytes) (sym place)
-                (get-read-there script w.servers w.meta c (c + 1) (c + 1) (2 * c) b.steady path at free));
+                (get-read-there script w.servers w.meta c (2 * c + 1) b path at free));
             placed = subst (HasPlace (steps ++ event_asking w done_step r.actor request ∷ []) (c + 1)) (sym place) (place-here steps w r.actor request);
             told_is = refl;
           }))
@@ -301,13 +301,13 @@ module _ (script : Script) (commands : List Command) (steps : List Event) (w : W
               (release-done script.layout f.again f.o f.sources f.bytes f.short f.len (length w.meta.history)) (get-released script w.servers w.meta c f.reads f.o.lease)
           at false gone =
               ends-read w.meta Said.Gone refl refl (release-gone-served script w.servers w.meta c f.reads w.rules f.o.lease gone)
-              (release-gone script.layout f.again f.o f.sources f.bytes f.short f.len) (reads-ended script w.servers w.meta c f.reads)
+              (release-gone script.layout f.again f.o f.sources f.bytes f.short f.len) (later script w.servers w.meta c (2 * c + 2) f.reads (2 * (c + 1) + 1) (omega arith))
 
     -- a get before a slot, or at its end
     pub get-goes : Next script commands steps w
     get-goes =
         elim (cases_lt f.slot 6) [
-          | inl below ↦ let copy = f.copies f.slot below in fetches below copy (f.reads.steady.up copy.server copy.first copy.last)
+          | inl below ↦ let copy = f.copies f.slot below in fetches below copy (f.reads.up copy.server copy.first copy.last)
           | inr above ↦
               let end : f.slot ≡ 6 = omega (arith, above, f.within) in
               releases (subst (λ n. work_left r.actor ≡ Some (at_fetch script.layout f.again f.o f.sources f.bytes n)) end f.left)

@@ -132,19 +132,13 @@ none-stored n (suc k) key = fresh-empty n k key
 between-none : (script : Script) → Between script (replicate script.servers fresh_server) (opening script.servers) 0
 unfolding opening
 between-none script = record {
-  steady = record {
-    views = refl;
-    dropped = refl;
-    up = fresh-numbered script.servers;
-    few_files = omega arith;
-    few_leases = omega arith;
-    few_condemned = omega arith;
-    few_entries = omega arith;
-    some_file = omega arith;
-    written = written-none script;
-    rows = tt;
-    slots_below = tt;
-  };
+  as_first = refl;
+  none_dropped = refl;
+  up = fresh-numbered script.servers;
+  few = record { files = omega arith; leases = omega arith; condemned = omega arith; entries = omega arith };
+  written = written-none script;
+  rows = tt;
+  slots_below = tt;
   none_to_come = λ server key above. none-stored script.servers server key;
 }
 
@@ -174,13 +168,13 @@ module _ (script : Script) (commands : List Command) (steps : List Event) (w : W
   legal-of =
       elim r.stage [
         | inl idle ↦ elim idle.1 [
-          | inl rest ↦ rest.between.steady.written.legal
+          | inl rest ↦ rest.between.written.legal
           | inr busy ↦ elim busy [
             | inl granting ↦ granting.puts.steady.written.legal
             | inr storing ↦ storing.puts.steady.written.legal
           ]
         ]
-        | inr fetching ↦ fetching.reads.steady.written.legal
+        | inr fetching ↦ fetching.reads.written.legal
       ]
 
   borne-agrees : (number : ℕ) (command : FileCommand) (report : Report) → IsBorneOut script w.meta.history number command report

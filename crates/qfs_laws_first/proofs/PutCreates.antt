@@ -1,11 +1,10 @@
 -- A put creates its file.
-use Rattle.std.proofs.Common.{◌≡◌, ℕ, zero, suc, ◌+◌, ◌<◌, ◌≤◌, nat_le, ◌&&◌, true, false, List, [], ◌∷◌, length, Some, None, refl, ap, ◌∙◌, arith}
+use Rattle.std.proofs.Common.{◌≡◌, ℕ, zero, suc, ◌+◌, ◌*◌, ◌<◌, ◌≤◌, nat_le, ◌&&◌, true, false, List, [], ◌∷◌, length, Some, None, refl, ap, ◌∙◌, arith}
 use Rattle.std.proofs.lemmas.Bool.Decides.{nat_tests}
 use Rattle.std.proofs.lemmas.List.{length-append}
 use Rattle.qfs_base.specs.NameTree.{PathNames, row_cmp, added, add_refusal}
 use Rattle.qfs_base.specs.KeyLaws.{block_cmp-Equal}
 use Rattle.qfs_base.specs.Sizes.{MOST_FILE_BYTES}
-use Rattle.qfs_base.specs.Table.{Each}
 use Rattle.qfs_base.specs.declared.chunk.BlockId.{BlockId}
 use Rattle.qfs_base.specs.declared.history.Entry.TheVariants as Wrote
 use Rattle.qfs_base.specs.declared.history.Outcome.TheVariants as Ended
@@ -53,28 +52,20 @@ module _ (rules : Rules) (m : MetaImage) (path : PathNames) (command len : ℕ) 
       step-tells rules m (Ask.Create path command len) none (Told.Refused why (length m.history))
       (create-decided ∙ refused-file (length m.history) _ why _ refused)
 
-  pub create-made : add_refusal (standing m.tree) path ≡ None → AreFew (apply_all (AddFile path 1 command len ∷ []) m)
+  pub create-made : (bound : ℕ) → add_refusal (standing m.tree) path ≡ None → AreFew bound (apply_all (AddFile path 1 command len ∷ []) m) → bound ≤ 100000
       → meta_step rules 1 (Ask.Create path command len) Ended.Done m
       ≡ record { meta = created_state m path command len; reply = Told.Created m.next_file (length m.history) }
   unfolding decide_create
-  create-made free few =
-      step-makes rules m (Ask.Create path command len) none (AddFile path 1 command len ∷ []) (Told.Created m.next_file (length m.history))
-      (create-decided ∙ accepted-file (length m.history) _ _ free) few
+  create-made bound free few small =
+      step-makes rules m (Ask.Create path command len) none (AddFile path 1 command len ∷ []) (Told.Created m.next_file (length m.history)) bound
+      (create-decided ∙ accepted-file (length m.history) _ _ free) few small
 
 module _ (script : Script) (servers : List Server) (m : MetaImage) (commands : ℕ) (path : PathNames) (bytes : List ℕ) (b : Between script servers m commands) where
-  pub create-few : commands ≤ 4096 → AreFew (apply_all (AddFile path 1 (commands + 1) (length bytes) ∷ []) m)
+  pub create-few : AreFew (2 * commands + 2) (apply_all (AddFile path 1 (commands + 1) (length bytes) ∷ []) m)
   unfolding apply_all apply add_file write_entry
-  create-few few =
+  create-few =
       let long = length-append m.history (Wrote.Created m.next_file path ∷ []) in
-      record {
-        files = omega (arith, b.steady.few_files);
-        leases = omega (arith, b.steady.few_leases);
-        condemned = omega (arith, b.steady.few_condemned);
-        entries = omega (arith, b.steady.few_entries, long);
-      }
-
-  above-rows : Each (λ (row : TreeRow). 1 ≤ row.file) m.tree
-  above-rows = each_weaker (IsRow script servers m.slots m.next_file) (λ (row : TreeRow). 1 ≤ row.file) m.tree (λ row is. is.above) b.steady.rows
+      record { files = omega (arith, b.few.files); leases = omega (arith, b.few.leases); condemned = omega (arith, b.few.condemned); entries = omega (arith, b.few.entries, long) }
 
   -- no slot of the new file has a row
   not-slot : (slot : ℕ) (row : SlotRow) → row.block.file < m.next_file → is_slot (first_block m.next_file) slot row ≡ false
@@ -104,42 +95,41 @@ module _ (script : Script) (servers : List Server) (m : MetaImage) (commands : �
   unfolding next_turn apply_all apply add_file write_entry add_row added unclosed_file file_row has_file is_of_file
   put-created free path_is bytes_are some most =
       let row : TreeRow = file_row path m.next_file 1 (commands + 1) (length bytes) in
-      let long = length-append m.history (Wrote.Created m.next_file path ∷ []) in
-      let none = b.steady.written.unborn m.next_file (omega arith) in
+      let none = b.written.unborn m.next_file (omega arith) in
+      let some_file : 1 ≤ m.next_file = omega (arith, b.written.count) in
       record {
         steady = record {
-          views = b.steady.views;
-          dropped = b.steady.dropped;
-          up = b.steady.up;
-          few_files = omega (arith, b.steady.few_files);
-          few_leases = b.steady.few_leases;
-          few_condemned = b.steady.few_condemned;
-          few_entries = omega (arith, b.steady.few_entries, long);
-          some_file = omega arith;
-          written = written-created script m.history m.tree m.next_file commands (commands + 1) (length bytes) path b.steady.written above-rows free;
+          as_first = b.as_first;
+          none_dropped = b.none_dropped;
+          up = b.up;
+          few = create-few;
+          written = written-created script m.history m.tree m.next_file commands (commands + 1) (length bytes) path b.written free;
           rows = each_placed (IsRow script servers m.slots (m.next_file + 1)) (row_cmp row_path) row m.tree
-              (record { above = b.steady.some_file; below = omega arith; whole = λ closed. absurd (cc) })
+              (record { above = some_file; below = omega arith; whole = λ closed. absurd (cc) })
               (each_weaker (IsRow script servers m.slots m.next_file) (IsRow script servers m.slots (m.next_file + 1)) m.tree
-              (λ row is. record { above = is.above; below = omega (arith, is.below); whole = is.whole }) b.steady.rows);
-          slots_below = each_weaker _ _ m.slots (λ (row : SlotRow) (below : row.block.file < m.next_file). omega (arith, below)) b.steady.slots_below;
+              (λ row is. record { above = is.above; below = omega (arith, is.below); whole = is.whole }) b.rows);
+          slots_below = each_weaker _ _ m.slots (λ (row : SlotRow) (below : row.block.file < m.next_file). omega (arith, below)) b.slots_below;
+          none_to_come = λ server key above. b.none_to_come server key (omega (arith, above));
         };
-        next = refl;
-        created = created-now m.next_file path m.history none;
-        path_is = path_is;
-        bytes_are = bytes_are;
-        some = some;
-        most = most;
-        own = each_placed (λ (r : TreeRow). has_file m.next_file r ≡ true → r ≡ row) (row_cmp row_path) row m.tree (λ is. refl)
-            (each_weaker (IsRow script servers m.slots m.next_file) _ m.tree
-            (λ r is own. absurd (omega (arith, is.below, same-key m.next_file r.file own))) b.steady.rows);
-        unclosed = find-alone (λ (r : TreeRow). is_unclosed_of 1 r && has_file m.next_file r) (row_cmp row_path) row m.tree
-            (own-unclosed m.next_file b.steady.some_file)
-            (each_weaker (IsRow script servers m.slots m.next_file) _ m.tree (λ r is. not-unclosed r is.below) b.steady.rows);
+        target = record {
+          above = some_file;
+          next = refl;
+          created = created-now m.next_file path m.history none;
+          path_is = path_is;
+          bytes_are = bytes_are;
+          some = some;
+          most = most;
+          own = each_placed (λ (r : TreeRow). has_file m.next_file r ≡ true → r ≡ row) (row_cmp row_path) row m.tree (λ is. refl)
+              (each_weaker (IsRow script servers m.slots m.next_file) _ m.tree
+              (λ r is own. absurd (omega (arith, is.below, same-key m.next_file r.file own))) b.rows);
+          unclosed = find-alone (λ (r : TreeRow). is_unclosed_of 1 r && has_file m.next_file r) (row_cmp row_path) row m.tree
+              (own-unclosed m.next_file some_file)
+              (each_weaker (IsRow script servers m.slots m.next_file) _ m.tree (λ r is. not-unclosed r is.below) b.rows);
+        };
         grants = λ slot below. absurd (omega arith);
-        ungranted = λ slot above. slot_at-none (first_block m.next_file) slot m.slots (each_weaker _ _ m.slots (not-slot slot) b.steady.slots_below);
+        ungranted = λ slot above. slot_at-none (first_block m.next_file) slot m.slots (each_weaker _ _ m.slots (not-slot slot) b.slots_below);
         all_granted = each_weaker _ _ m.slots
-            (λ (r : SlotRow) (below : r.block.file < m.next_file) own. absurd (omega (arith, below, same-key m.next_file r.block.file own))) b.steady.slots_below;
-        few_grants = let zero = grants-none (first_block m.next_file) m.slots (each_weaker _ _ m.slots not-block b.steady.slots_below) in omega (arith, zero);
-        none_to_come = λ server key above. b.none_to_come server key (omega (arith, above));
+            (λ (r : SlotRow) (below : r.block.file < m.next_file) own. absurd (omega (arith, below, same-key m.next_file r.block.file own))) b.slots_below;
+        few_grants = let zero = grants-none (first_block m.next_file) m.slots (each_weaker _ _ m.slots not-block b.slots_below) in omega (arith, zero);
         unstored = λ server slot above. b.none_to_come server _ (omega arith);
       }

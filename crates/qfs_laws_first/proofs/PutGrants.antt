@@ -1,5 +1,5 @@
 -- A put is granted a server for a slot.
-use Rattle.std.proofs.Common.{◌≡◌, ℕ, ◌+◌, ◌<◌, ◌≤◌, nat_lt, Bool, true, false, List, [], ◌∷◌, length, Some, None, refl, sym, ap, subst, ◌∙◌, arith, inl, inr}
+use Rattle.std.proofs.Common.{◌≡◌, ℕ, ◌+◌, ◌*◌, ◌<◌, ◌≤◌, nat_lt, Bool, true, false, List, [], ◌∷◌, length, Some, None, refl, sym, ap, subst, ◌∙◌, arith, inl, inr}
 use Rattle.std.proofs.lemmas.Bool.{cases_lt}
 use Rattle.std.proofs.lemmas.Bool.Decides.{nat_tests}
 use Rattle.std.specs.Prelude.{is_none}
@@ -68,13 +68,13 @@ module _ (script : Script) (servers : List Server) (m : MetaImage) (commands : �
   grant-chosen enough =
       let barred : List ℕ = with_live_servers m.servers [] (grants_of_block (first_block t.file) m.slots) in
       let few : length barred < script.servers = omega (arith, barred-few m.servers [] (grants_of_block (first_block t.file) m.slots), p.few_grants, enough) in
-      subst (λ views. IsChosen script.servers (choose (census views m.slots) barred)) (sym p.steady.views)
+      subst (λ views. IsChosen script.servers (choose (census views m.slots) barred)) (sym p.steady.as_first)
       (choose-first m.slots script.servers barred few)
 
   known-life : (server : ℕ) → 1 ≤ server → server ≤ script.servers → (server_at m.servers server).life ≡ 1
   unfolding first_server
   known-life server first last =
-      ap (λ views. (server_at views server).life) p.steady.views ∙ ap (λ (v : ServerView). v.life) (view-first script.servers server first last)
+      ap (λ views. (server_at views server).life) p.steady.as_first ∙ ap (λ (v : ServerView). v.life) (view-first script.servers server first last)
 
   granted-record : (server : ℕ) → 1 ≤ server → server ≤ script.servers
       → granted_slot server (server_at m.servers server).life 1 0 (slot_at m.slots (first_block t.file) slot) ≡ granted_once server
@@ -99,28 +99,23 @@ module _ (script : Script) (servers : List Server) (m : MetaImage) (commands : �
       let in_order : nat_lt slot SLOTS ≡ true = grind (arith, nat_tests) in
       let some : nat_lt 0 (block_count layout len) ≡ true = ap (nat_lt 0) (blocks_of-one layout len short) in
       ap (λ b. unless b Told.Nothing (decide_request (rules_of script) 1 m (Ask.Grant t.file 0 slot false))) in_order
-      ∙ ap (need Told.Gone (grant_in layout 1 block slot false m (slot_at m.slots block slot))) p.unclosed
+      ∙ ap (need Told.Gone (grant_in layout 1 block slot false m (slot_at m.slots block slot))) p.target.unclosed
       ∙ ap (λ state. grant_in layout 1 block slot false m state (target_row commands t)) never
       ∙ ap (λ b. unless b Told.NoBlock (need (Told.NoServer block slot) (grant_for_put layout 1 len block slot m None) (chosen_for_put block slot m.servers m.slots never_granted))) some
       ∙ ap (need (Told.NoServer block slot) (grant_for_put layout 1 len block slot m None)) chosen
       ∙ ap (λ g. Makes (GrantSlot block slot server 1 0 ∷ []) (Told.Granted g)) (told server first last)
 
-  grant-few : (server : ℕ) → commands ≤ 4096 → AreFew (apply_all (GrantSlot (first_block t.file) slot server 1 0 ∷ []) m)
+  grant-few : (server : ℕ) → AreFew (2 * commands + 2) (apply_all (GrantSlot (first_block t.file) slot server 1 0 ∷ []) m)
   unfolding apply_all apply grant_slot with_slots
-  grant-few server few = record {
-    files = omega (arith, p.steady.few_files);
-    leases = omega (arith, p.steady.few_leases);
-    condemned = omega (arith, p.steady.few_condemned);
-    entries = omega (arith, p.steady.few_entries);
-  }
+  grant-few server = p.steady.few
 
   pub grant-served : (server : ℕ) → IsShort script.layout (length t.bytes) → commands ≤ 4096 → 1 ≤ server → server ≤ script.servers
       → chosen_for_put (first_block t.file) slot m.servers m.slots never_granted ≡ Some server
       → meta_step (rules_of script) 1 (Ask.Grant t.file 0 slot false) Ended.Done m
       ≡ record { meta = granted_state m t.file slot server; reply = Told.Granted (grant_on script.layout (length t.bytes) t.file slot server) }
   grant-served server short few first last chosen =
-      step-makes (rules_of script) m (Ask.Grant t.file 0 slot false) p.steady.dropped (GrantSlot (first_block t.file) slot server 1 0 ∷ [])
-      (Told.Granted (grant_on script.layout (length t.bytes) t.file slot server)) (grant-decided server short first last chosen) (grant-few server few)
+      step-makes (rules_of script) m (Ask.Grant t.file 0 slot false) p.steady.none_dropped (GrantSlot (first_block t.file) slot server 1 0 ∷ [])
+      (Told.Granted (grant_on script.layout (length t.bytes) t.file slot server)) (2 * commands + 2) (grant-decided server short first last chosen) (grant-few server) (omega (arith, few))
 
   -- ---- the slots then
 
@@ -168,9 +163,6 @@ module _ (script : Script) (servers : List Server) (m : MetaImage) (commands : �
             }
       ]
 
-  has-grant : (server : ℕ) → is_none (granted_once server).grant ≡ false
-  has-grant server = refl
-
   lacks-none : (server : ℕ) → 1 ≤ server → server ≤ script.servers → (row : SlotRow) → (is_of_file t.file row ≡ true → lacks_grant m.slots (slot_id row) ≡ false)
       → is_of_file t.file row ≡ true → lacks_grant (new_slots server) (slot_id row) ≡ false
   unfolding lacks_grant slot_id is_slot
@@ -193,31 +185,20 @@ module _ (script : Script) (servers : List Server) (m : MetaImage) (commands : �
   unfolding next_turn apply_all apply grant_slot with_slots slot_id
   put-granted server first last = record {
     steady = record {
-      views = p.steady.views;
-      dropped = p.steady.dropped;
+      as_first = p.steady.as_first;
+      none_dropped = p.steady.none_dropped;
       up = p.steady.up;
-      few_files = p.steady.few_files;
-      few_leases = p.steady.few_leases;
-      few_condemned = p.steady.few_condemned;
-      few_entries = p.steady.few_entries;
-      some_file = p.steady.some_file;
+      few = p.steady.few;
       written = p.steady.written;
-      rows = each_with (IsRow script servers m.slots m.next_file) _ (IsRow script servers (new_slots server) m.next_file) m.tree (row-kept server) p.steady.rows p.own;
-      slots_below = each_with_slot (λ (row : SlotRow). row.block.file < m.next_file) (first_block t.file) slot _ m.slots (omega (arith, p.next)) p.steady.slots_below;
+      rows = each_with (IsRow script servers m.slots m.next_file) _ (IsRow script servers (new_slots server) m.next_file) m.tree (row-kept server) p.steady.rows p.target.own;
+      slots_below = each_with_slot (λ (row : SlotRow). row.block.file < m.next_file) (first_block t.file) slot _ m.slots (omega (arith, p.target.next)) p.steady.slots_below;
+      none_to_come = p.steady.none_to_come;
     };
-    next = p.next;
-    created = p.created;
-    path_is = p.path_is;
-    bytes_are = p.bytes_are;
-    some = p.some;
-    most = p.most;
-    own = p.own;
-    unclosed = p.unclosed;
+    target = p.target;
     grants = λ number within. grant-one server number first last within;
     ungranted = λ number above. stays-other server t.file number (λ same one. omega (arith, one, above)) ∙ p.ungranted number (omega (arith, above));
     all_granted = each_with_slot (λ (row : SlotRow). is_of_file t.file row ≡ true → lacks_grant (new_slots server) (slot_id row) ≡ false) (first_block t.file) slot _ m.slots
         (λ own. new-has server first last) (each_weaker _ _ m.slots (lacks-none server first last) p.all_granted);
     few_grants = omega (arith, grants-more (first_block t.file) (first_block t.file) slot (granted_slot server (server_at m.servers server).life 1 0 (slot_at m.slots (first_block t.file) slot)) m.slots, p.few_grants);
-    none_to_come = p.none_to_come;
     unstored = p.unstored;
   }

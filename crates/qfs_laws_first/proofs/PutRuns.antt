@@ -126,9 +126,9 @@ module _ (script : Script) (commands : List Command) (steps : List Event) (w : W
         refused-so script commands steps w r request why (File.Put path (Of.Hex bytes)) told_is
         (meta_ends w r.actor work r.alone left (Ask.Create path (c + 1) (length bytes)) w.meta (Said.Refused why (length w.meta.history)) (Says.Refused (length w.meta.history) why)
         (put-asks script.layout (c + 1) path bytes)
-        (create-refused w.rules w.meta path (c + 1) (length bytes) b.steady.dropped most why not_free)
+        (create-refused w.rules w.meta path (c + 1) (length bytes) b.none_dropped most why not_free)
         (put-refused script.layout (c + 1) path bytes why (length w.meta.history)))
-        is (put-refused-there script w.servers w.meta c (c + 1) (c + 1) (2 * c) b.steady path (Of.Hex bytes) why not_free) b
+        is (put-refused-there script w.servers w.meta c (2 * c + 1) b path (Of.Hex bytes) why not_free) b
 
     written : (created_state w.meta path (c + 1) (length bytes)).history ≡ w.meta.history ++ Wrote.Created w.meta.next_file path ∷ []
     unfolding next_turn apply_all apply add_file write_entry
@@ -145,7 +145,7 @@ module _ (script : Script) (commands : List Command) (steps : List Event) (w : W
         (Wrote.Created file path ∷ []) written r.told
         (meta_goes_on w r.actor work r.alone left (Ask.Create path (c + 1) (length bytes)) (created_state w.meta path (c + 1) (length bytes)) reply
         (To.Meta (Ask.Grant file 0 0 false)) (put-asks script.layout (c + 1) path bytes)
-        (create-made w.rules w.meta path (c + 1) (length bytes) b.steady.dropped most free (create-few script w.servers w.meta c path bytes b few))
+        (create-made w.rules w.meta path (c + 1) (length bytes) b.none_dropped most (2 * c + 2) free (create-few script w.servers w.meta c path bytes b) (omega (arith, few)))
         (ap request_in more ∙ slot-asks script.layout bytes file 0 (omega arith)))
         refl r.openings
         (inl (
@@ -191,7 +191,7 @@ module _ (script : Script) (commands : List Command) (steps : List Event) (w : W
     grants-on chosen =
         let layout : Shape = script.layout in
         let server : ℕ = chosen.server in
-        let short = short-file script commands (length g.t.bytes) first_path g.puts.some g.puts.most in
+        let short = short-file script commands (length g.t.bytes) first_path g.puts.target.some g.puts.target.most in
         let reply : MetaReply = Said.Granted (grant_on layout (length g.t.bytes) g.t.file g.slot server) in
         let more = slot-goes_on layout g.t.bytes g.t.file g.slot server below in
         goes-on-to script commands steps w r grant_request w.servers (granted_state w.meta g.t.file g.slot server) (From.Meta reply) []
@@ -283,7 +283,7 @@ module _ (script : Script) (commands : List Command) (steps : List Event) (w : W
         let layout : Shape = script.layout in
         let place : ℕ = length w.meta.history in
         let entry : Entry = Wrote.Closed g.t.file 1 (c + 1) in
-        let short = short-file script commands (length g.t.bytes) first_path g.puts.some g.puts.most in
+        let short = short-file script commands (length g.t.bytes) first_path g.puts.target.some g.puts.target.most in
         let long = length-append w.meta.history (entry ∷ []) in
         let report : Report = Says.Stored place (length g.t.bytes) in
         ends-with script commands steps w r close_request w.servers (closed_state w.meta g.t.file (c + 1)) (From.Meta (Said.Done place)) (entry ∷ [])
@@ -296,7 +296,7 @@ module _ (script : Script) (commands : List Command) (steps : List Event) (w : W
         (record {
           command = g.command;
           is = g.is;
-          says = (omega (arith, long), record { file = g.t.file; written = slice_get-last w.meta.history entry; length_is = ap length (sym g.puts.bytes_are) });
+          says = (omega (arith, long), record { file = g.t.file; written = slice_get-last w.meta.history entry; length_is = ap length (sym g.puts.target.bytes_are) });
           placed = place-here steps w r.actor close_request;
         })
         (put-closed script w.servers w.meta c g.t p)

@@ -77,30 +77,20 @@ module _ (script : Script) (servers : List Server) (m : MetaImage) (commands : �
   pub put-stored : Puts script new_servers m commands t (slot + 1) (slot + 1)
   put-stored = record {
     steady = record {
-      views = p.steady.views;
-      dropped = p.steady.dropped;
+      as_first = p.steady.as_first;
+      none_dropped = p.steady.none_dropped;
       up = are_up-changed servers server u (with_copy u.server (first_key t.file slot) bytes_here) u.up u.life u.form script.servers p.steady.up;
-      few_files = p.steady.few_files;
-      few_leases = p.steady.few_leases;
-      few_condemned = p.steady.few_condemned;
-      few_entries = p.steady.few_entries;
-      some_file = p.steady.some_file;
+      few = p.steady.few;
       written = p.steady.written;
-      rows = each_with (IsRow script servers m.slots m.next_file) _ (IsRow script new_servers m.slots m.next_file) m.tree row-kept p.steady.rows p.own;
+      rows = each_with (IsRow script servers m.slots m.next_file) _ (IsRow script new_servers m.slots m.next_file) m.tree row-kept p.steady.rows p.target.own;
       slots_below = p.steady.slots_below;
+      none_to_come = λ other key above.
+          stays other key (apart_files key t.file slot (λ same. omega (arith, same, above, p.target.next))) ∙ p.steady.none_to_come other key above;
     };
-    next = p.next;
-    created = p.created;
-    path_is = p.path_is;
-    bytes_are = p.bytes_are;
-    some = p.some;
-    most = p.most;
-    own = p.own;
-    unclosed = p.unclosed;
+    target = p.target;
     grants = grant-one;
     ungranted = p.ungranted;
     all_granted = p.all_granted;
     few_grants = p.few_grants;
-    none_to_come = λ other key above. stays other key (apart_files key t.file slot (λ same. omega (arith, same, above))) ∙ p.none_to_come other key above;
     unstored = λ other number above. stays other (first_key t.file number) (apart_slots t.file slot number (λ same. omega (arith, same, above))) ∙ p.unstored other number (omega (arith, above));
   }

@@ -1,5 +1,5 @@
 -- The world of the first path at each step: where its actor is, and what holds there.
-use Rattle.std.proofs.Common.{◌≡◌, ◌⊎◌, ℕ, ◌+◌, ◌<◌, ◌≤◌, List, [], ◌∷◌, ◌++◌, length, Some, None, Ok, refl, sym, ap, subst, ◌∙◌, arith, inl, inr}
+use Rattle.std.proofs.Common.{◌≡◌, ◌⊎◌, ℕ, ◌+◌, ◌*◌, ◌<◌, ◌≤◌, List, [], ◌∷◌, ◌++◌, length, Some, None, Ok, refl, sym, ap, subst, ◌∙◌, arith, inl, inr}
 use Rattle.std.proofs.lemmas.List.{append-nil, length-append}
 use Rattle.std.specs.Prelude.{slice_get}
 use Rattle.std.specs.List.{enumerate_from}
@@ -35,12 +35,12 @@ use Rattle.qfs_model_world.specs.Events.{Event, event_asking, event_by, event_in
 use Rattle.qfs_model_world.specs.Puts.{command_of, puts_of}
 use Rattle.qfs_model_world.specs.World.{World, numbered, move_asking, move_actor, move}
 use Rattle.qfs_model_world.proofs.OneActor.{done_step}
-use Rattle.qfs_laws_first.proofs.Gets.{between-later}
+use Rattle.qfs_laws_first.proofs.Gets.{later}
 use Rattle.qfs_laws_first.proofs.Moves.{heard_more, ended_so, Moved}
 use Rattle.qfs_laws_first.proofs.Reading.{IsShort}
 use Rattle.qfs_laws_first.proofs.Reports.{HasPlace, IsGood, GoodAt, borne-more, goods-more, each_enumerated, opened_in, ReadsWhereOpened, openings-more, no-opening, place-here}
 use Rattle.qfs_laws_first.proofs.Servers.{first_chunk, stored_at}
-use Rattle.qfs_laws_first.proofs.States.{first_block, first_key, first_copy, granted_once, Between, Reads, Target, Puts}
+use Rattle.qfs_laws_first.proofs.States.{first_block, first_key, first_copy, granted_once, Between, Within, Target, Puts}
 use Rattle.qfs_laws_first.proofs.Works.{at_slot, at_store, at_fetch}
 
 -- ---- where the actor is
@@ -93,7 +93,7 @@ pub record Fetching (script : Script) (steps : List Event) (servers : List Serve
   pub slot : ℕ
   pub within : slot ≤ 6
   pub left : work_left actor ≡ Some (at_fetch script.layout again o sources bytes slot)
-  pub reads : Reads script servers m (length actor.ended)
+  pub reads : Within script servers m (length actor.ended)
   pub few : length actor.ended ≤ 4096
   pub len : o.len ≡ length bytes
   pub short : IsShort script.layout (length bytes)
@@ -231,4 +231,4 @@ module _ (script : Script) (commands : List Command) (steps : List Event) (w : W
         says = borne-more script w.meta.history [] number command (Says.Refused place why) (omega arith, there);
         placed = place-here steps w r.actor request;
       })
-      (between-later script w.servers w.meta (length r.actor.ended) between)
+      (later script w.servers w.meta (length r.actor.ended) (2 * length r.actor.ended + 1) between (2 * (length r.actor.ended + 1) + 1) (omega arith))

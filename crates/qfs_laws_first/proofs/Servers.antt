@@ -1,10 +1,9 @@
 -- The chunk servers of a world by number: what a Put or a Fetch leaves on each of them.
-use Rattle.std.proofs.Common.{◌≡◌, ℕ, zero, suc, ◌+◌, ◌≤◌, ◌==◌, nat_le, Bool, true, false, cond, List, [], ◌∷◌, length, take, drop, replicate, Option, Some, None, refl, sym, ap, subst, ◌∙◌, arith}
+use Rattle.std.proofs.Common.{◌≡◌, ℕ, ◌+◌, ◌≤◌, ◌==◌, nat_le, Bool, true, false, cond, List, [], length, take, drop, replicate, Option, Some, None, refl, sym, ap, subst, ◌∙◌, arith}
 use Rattle.std.proofs.Math.Seq.{take-length}
 use Rattle.std.proofs.lemmas.List.{length-replicate}
 use Rattle.std.proofs.lemmas.Bool.{eqb-true}
 use Rattle.std.proofs.lemmas.Bool.Decides.{nat_tests}
-use Rattle.std.specs.Prelude.{slice_get, slice_set}
 use Rattle.std.specs.Cmp.{tied_itself}
 use Rattle.std.specs.Ordering.{is_eq}
 use Rattle.std.specs.Option.{option_and_then}
@@ -19,32 +18,8 @@ use Rattle.qfs_base.specs.declared.request.ChunkRequest.TheVariants as Serve
 use Rattle.qfs_model_server.specs.Chunk.{Chunk}
 use Rattle.qfs_model_server.specs.Server.{Server, bytes_in, has_range, unless_away, chunk_refusal, chunk_served, chunk_attempted, chunk_decided, server_step}
 use Rattle.qfs_model_world.specs.World.{numbered, renumbered}
+use Rattle.qfs_model_world.proofs.OneStep.{set-there, set-elsewhere}
 use Rattle.qfs_laws_first.proofs.Tests.{tie, fails}
-
--- ---- what stands at a number
-
-get_set : {X : Type 0} (xs : List X) (k : ℕ) (x y : X) → slice_get xs k ≡ Some y → slice_get (slice_set xs k x) k ≡ Some x
-get_set [] k x y there = absurd (cc)
-get_set (z ∷ zs) zero x y there = refl
-get_set (z ∷ zs) (suc k) x y there = get_set zs k x y there
-
-get_set-other : {X : Type 0} (xs : List X) (k j : ℕ) (x : X) → (k ≡ j → ⊥) → slice_get (slice_set xs k x) j ≡ slice_get xs j
-get_set-other [] k j x differ = refl
-get_set-other (z ∷ zs) zero zero x differ = absurd (differ refl)
-get_set-other (z ∷ zs) zero (suc j) x differ = refl
-get_set-other (z ∷ zs) (suc k) zero x differ = refl
-get_set-other (z ∷ zs) (suc k) (suc j) x differ = get_set-other zs k j x (λ same. differ (ap suc same))
-
-pub numbered-own : {X : Type 0} (xs : List X) (number : ℕ) (x y : X) → numbered xs number ≡ Some y → numbered (renumbered xs number x) number ≡ Some x
-unfolding numbered renumbered
-numbered-own xs zero x y there = absurd (cc)
-numbered-own xs (suc k) x y there = get_set xs k x y there
-
-pub numbered-other : {X : Type 0} (xs : List X) (number other : ℕ) (x : X) → (number ≡ other → ⊥) → numbered (renumbered xs number x) other ≡ numbered xs other
-unfolding numbered renumbered
-numbered-other xs zero other x differ = refl
-numbered-other xs (suc k) zero x differ = refl
-numbered-other xs (suc k) (suc j) x differ = get_set-other xs k j x (λ same. differ (ap suc same))
 
 -- ---- servers
 
@@ -73,11 +48,11 @@ module _ (servers : List Server) (number : ℕ) (u : IsUp servers number) (chang
   up-one other true is before =
       let same : number ≡ other = eqb-true number other is in
       subst (IsUp (renumbered servers number changed)) same
-      (record { server = changed; there = numbered-own servers number changed u.server u.there; up = up; life = life; form = form })
+      (record { server = changed; there = set-there servers number u.server changed u.there; up = up; life = life; form = form })
   up-one other false is before =
       record {
         server = before.server;
-        there = numbered-other servers number other changed (λ same. let own : (number == other) ≡ true = grind (arith, nat_tests) in absurd (cc)) ∙ before.there;
+        there = set-elsewhere servers number other changed (λ same. let own : (number == other) ≡ true = grind (arith, nat_tests) in absurd (cc)) ∙ before.there;
         up = before.up;
         life = before.life;
         form = before.form;
@@ -93,12 +68,12 @@ stays-one : (servers : List Server) (number other : ℕ) (server changed : Serve
 stays-one servers number other server changed key true is there same =
     let own : number ≡ other = eqb-true number other is in
     subst (λ other. stored_at (renumbered servers number changed) other key ≡ stored_at servers other key) own
-    (ap (option_and_then (λ (server : Server). value_at key_cmp server.copies key)) (numbered-own servers number changed server there)
+    (ap (option_and_then (λ (server : Server). value_at key_cmp server.copies key)) (set-there servers number server changed there)
     ∙ same
     ∙ sym (ap (option_and_then (λ (server : Server). value_at key_cmp server.copies key)) there))
 stays-one servers number other server changed key false is there same =
     ap (option_and_then (λ (server : Server). value_at key_cmp server.copies key))
-    (numbered-other servers number other changed (λ same. let own : (number == other) ≡ true = grind (arith, nat_tests) in absurd (cc)))
+    (set-elsewhere servers number other changed (λ same. let own : (number == other) ≡ true = grind (arith, nat_tests) in absurd (cc)))
 
 pub stored-same : (servers : List Server) (number other : ℕ) (server changed : Server) (key : ChunkKey)
     → numbered servers number ≡ Some server → value_at key_cmp changed.copies key ≡ value_at key_cmp server.copies key
@@ -114,7 +89,7 @@ with_copy server key bytes = record server { copies = with_entry key_cmp server.
 pub stored-own : (servers : List Server) (number : ℕ) (server : Server) (key : ChunkKey) (bytes : List ℕ) → numbered servers number ≡ Some server
     → stored_at (renumbered servers number (with_copy server key bytes)) number key ≡ Some (first_chunk bytes)
 stored-own servers number server key bytes there =
-    ap (option_and_then (λ (server : Server). value_at key_cmp server.copies key)) (numbered-own servers number (with_copy server key bytes) server there)
+    ap (option_and_then (λ (server : Server). value_at key_cmp server.copies key)) (set-there servers number server (with_copy server key bytes) there)
     ∙ value_at-with_entry key_cmp_total server.copies key (first_chunk bytes) key
     ∙ ap (λ o. cond (is_eq o) (Some (first_chunk bytes)) (value_at key_cmp server.copies key)) (tied_itself key_cmp_total key)
 

@@ -146,13 +146,17 @@ enough nine listed =
     let five = (listed 5 (omega arith)).1 in
     rw (none, one, two, three, four, five) (six_or_more _ _ _)
 
+-- each of the nine slots stands at its number
+pub place-of : (slot : ℕ) → slot < 9 → slice_get (range_with_len 0 9) slot ≡ Some slot
+place-of slot below =
+    let sum : 0 + slot ≡ slot = omega arith in
+    slice_get_read (range_with_len 0 9) 9 slot slot refl below (sym (get_or-range_with_len 0 9 slot slot below ∙ sum))
+
 pub source-at : (nine : List (Option Copy)) (slot server : ℕ) → slot < 6 → slice_get nine slot ≡ Some (Some (first_copy server))
     → slice_get (sources_of nine) slot ≡ Some (Ok (first_copy server))
 unfolding sources_of source_of_listed
 source-at nine slot server within listed =
-    let sum : 0 + slot ≡ slot = omega arith in
-    let place : slice_get (range_with_len 0 9) slot ≡ Some slot = slice_get_read (range_with_len 0 9) 9 slot slot refl (omega arith) (sym (get_or-range_with_len 0 9 slot slot (omega arith) ∙ sum)) in
-    slice_get-map (λ slot. source_of_listed (slice_get nine slot)) (range_with_len 0 9) slot ∙ rw place (ap (λ listed. Some (source_of_listed listed)) listed)
+    slice_get-map (λ slot. source_of_listed (slice_get nine slot)) (range_with_len 0 9) slot ∙ rw (place-of slot (omega arith)) (ap (λ listed. Some (source_of_listed listed)) listed)
 
 whole-file : (layout : Shape) (o : Opened) → IsShort layout o.len → o.len ≤ 32 → length o.blocks ≡ 1 → is_whole layout o ≡ true
 unfolding is_whole

@@ -12,9 +12,11 @@ use Rattle.qfs_base.specs.declared.request.SlotId.{SlotId}
 use Rattle.qfs_base.specs.Shape.{Shape}
 use Rattle.qfs_model_meta.specs.Condemned.{condemn_any}
 use Rattle.qfs_model_meta.specs.Decision.{Decision, need}
+use Rattle.qfs_model_meta.specs.Placing.{census, choose}
 use Rattle.qfs_model_meta.specs.PutRequests.{chosen_for_put, grant_for_put}
 use Rattle.qfs_model_meta.specs.Servers.{server_at}
 use Rattle.qfs_model_meta.specs.Slots.{is_on, count_on, is_of_block, with_slot, granted_copy, granted_slot, ungranted_slot, failed_slot, slot_at}
+use Rattle.qfs_meta.specs.Loads.{loads_of}
 
 -- a slot's record once its pending grant's server failed the put, if it has a grant
 abbrev pub freed : Option Grant → SlotRecord → SlotRecord
@@ -57,3 +59,9 @@ granted_beside id slots = flat_map (granted_elsewhere id.slot) (filter (is_of_bl
 abbrev pub IsLeftOut : Option Copy → List SlotRow → List SlotRow → Type 0
 IsLeftOut copy slots others =
     (server life : ℕ) → count_on server life others ≡ count_on server life slots - count_by (is_on server life) (option_to_list copy)
+
+-- a choice by loads that count one copy more than the others' slots have: it is the one by these slots
+abbrev pub IsChoice : List ServerView → List ℕ → Option Copy → List ℕ → Option ℕ → Type 0
+IsChoice servers loads left_out barred choice =
+    (slots others : List SlotRow) → loads ≡ loads_of servers slots → IsLeftOut left_out slots others
+    → choice ≡ choose (census servers others) barred

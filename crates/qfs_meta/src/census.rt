@@ -1,13 +1,12 @@
 //! The choice of a server for a new chunk: the one with the fewest live copies and grants.
-ghost use Rattle.std.specs.Prelude.{◌≡◌, ◌≤◌, List, [], ◌∷◌, length, IfSome};
+ghost use Rattle.std.specs.Prelude.{◌≡◌, ◌≤◌, length, IfSome};
 ghost use Rattle.qfs_base.specs.Table.{IsRising};
-ghost use Rattle.qfs_base.specs.declared.image.SlotRow.{SlotRow};
-ghost use Rattle.qfs_model_meta.specs.Placing.{choose, census, with_live_servers};
+ghost use Rattle.qfs_model_meta.specs.Placing.{with_live_servers};
 ghost use Rattle.qfs_model_meta.specs.Slots.{slot_at, slot_cmp};
 ghost use Rattle.qfs_meta.specs.Kept.{AreGrantedOnServers, IsGrantedOnServer, IsGrantPossible, IsServerNumber};
 ghost use Rattle.qfs_base.specs.Sizes.{MOST_SERVERS};
 ghost use Rattle.qfs_meta.specs.Candidates.{IsCandidate, after_server, lighter_of};
-ghost use Rattle.qfs_meta.specs.Granting.{granted_elsewhere, granted_beside, IsLeftOut};
+ghost use Rattle.qfs_meta.specs.Granting.{granted_elsewhere, granted_beside, IsChoice};
 ghost use Rattle.qfs_meta.specs.Loads.{loads_of};
 ghost use Rattle.qfs_model_meta.specs.PutRequests.{failed_with, chosen_for_put};
 
@@ -114,7 +113,7 @@ fn choose(
 ) -> Option<ServerId>
     requires servers { length servers.now ≤ MOST_SERVERS }
     requires loads { length loads.now ≡ length servers.now }
-    ensures chosen { (slots others : List SlotRow) → loads.now ≡ loads_of servers.now slots → IsLeftOut left_out slots others → result ≡ choose (census servers.now others) barred }
+    ensures chosen { IsChoice servers.now loads.now left_out barred result }
     ensures number { IfSome result IsServerNumber }
 {
     let mut best = None;

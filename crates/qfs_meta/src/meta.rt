@@ -1,10 +1,9 @@
 //! The metaserver: its layout and term, its state, and how it serves.
-ghost use Rattle.std.specs.Prelude.{◌≡◌, ◌≤◌, false, None, replicate, IfOk};
-ghost use Rattle.qfs_base.specs.declared.reply.MetaReply.TheVariants.{NoMemory};
+ghost use Rattle.std.specs.Prelude.{◌≡◌, ◌≤◌, replicate, IfOk};
 ghost use Rattle.qfs_base.specs.Sizes.{MOST_SERVERS};
 ghost use Rattle.qfs_model_meta.specs.Dropped.{dropped_at};
-ghost use Rattle.qfs_model_meta.specs.Step.{opening, first_server};
-ghost use Rattle.qfs_meta.specs.Metaserver.{is_built, Steps};
+ghost use Rattle.qfs_model_meta.specs.Step.{first_server};
+ghost use Rattle.qfs_meta.specs.Metaserver.{first_meta, Steps, IsPutOff};
 ghost use Rattle.qfs_meta.specs.Serving.{IsNoFailure};
 
 use crate::loads::loads_of;
@@ -77,7 +76,7 @@ impl Meta {
     /// for `term` ticks, or until they are given back where that is 0.
     pub fn new(alloc: Global, layout: Layout, servers: u16, term: u32) -> Result<Meta, AllocError>
         requires { servers ≤ MOST_SERVERS }
-        ensures { IfOk result (λ meta. meta ≡ record { layout = layout; term = term; image = opening servers }) }
+        ensures { IfOk result (λ meta. meta ≡ first_meta layout term servers) }
     {
         let servers = first_servers(alloc, servers)?;
         let loads = loads_of(alloc, servers.as_slice(), &[])?;
@@ -114,7 +113,7 @@ impl Meta {
         ensures term { self.new.term ≡ self.old.term }
         ensures step { Steps actor self.old request.now result self.new }
         ensures never_fails { IsNoFailure result }
-        ensures unbuilt { is_built request.now ≡ false → dropped_at actor self.old.image.dropped ≡ None → result ≡ NoMemory }
+        ensures unbuilt { IsPutOff actor self.old request.now result }
     {
         if let Some(turn) = dropped_at(self.image.dropped.as_slice(), actor) {
             return MetaReply::Dropped { turn };

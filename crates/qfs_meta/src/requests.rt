@@ -1,11 +1,9 @@
 //! The requests that are served, each by what it asks.
 ghost use Rattle.std.specs.Prelude.{◌≡◌, true, IfOk, OnErr};
-ghost use Rattle.qfs_base.specs.declared.rules.Rules.{Rules};
-ghost use Rattle.qfs_model_meta.specs.Decide.{decide};
 ghost use Rattle.qfs_meta.specs.Kept.{IsKept};
 ghost use Rattle.qfs_meta.specs.Loads.{loads_of};
 ghost use Rattle.qfs_meta.specs.Metaserver.{is_built};
-ghost use Rattle.qfs_meta.specs.Serving.{Serves};
+ghost use Rattle.qfs_meta.specs.Serving.{ServesBy};
 
 use crate::gets::{open, release};
 use crate::granting::grant;
@@ -48,7 +46,7 @@ pub fn serve_request(
     requires kept { IsKept image.old }
     requires loads { loads.old ≡ loads_of image.old.servers image.old.slots }
     requires built { is_built request.now ≡ true }
-    ensures ok { IfOk result (λ reply. (rules : Rules) → rules.layout ≡ layout.now → rules.term ≡ term → Serves image.old (decide rules actor image.old request.now) image.new reply) }
+    ensures ok { IfOk result (ServesBy layout.now term actor image.old request.now image.new) }
     ensures err { OnErr result (image.new ≡ image.old) }
     ensures kept { IsKept image.new }
     ensures loads { loads.new ≡ loads_of image.new.servers image.new.slots }

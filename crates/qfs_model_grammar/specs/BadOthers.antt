@@ -1,4 +1,5 @@
--- Texts with a line past a limit, a word that is no path or tells no bytes, and a byte that is no text. What stands behind the bad line is left out.
+-- Texts with a line past a limit, a word that is no path or tells no bytes, and a byte that is no text. What
+-- stands behind the bad line is left out.
 use Rattle.std.specs.Prelude.{[], ◌∷◌, ◌++◌, codes}
 use Rattle.qfs_base.specs.declared.script.ScriptCause.TheVariants as Cause
 use Rattle.qfs_model_grammar.specs.Examples.{IsRefused}

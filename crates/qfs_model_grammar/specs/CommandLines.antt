@@ -1,14 +1,11 @@
 -- What command a line says, by the words behind its first one.
-use Rattle.std.specs.Prelude.{ℕ, ◌-◌, List, [], ◌∷◌, slice_index, codes, if◌then◌else◌, Option, Some, None, Ok, Err}
+use Rattle.std.specs.Prelude.{ℕ, ◌-◌, List, [], ◌∷◌, slice_index, codes, if◌then◌else◌, Some, None, Ok, Err}
 use Rattle.std.specs.Str.{bytes_eq}
 use Rattle.qfs_base.specs.NameTree.{PathNames}
 use Rattle.qfs_base.specs.Sizes.{SLOTS, MOST_FILE_BYTES, LAST_U32}
 use Rattle.qfs_base.specs.declared.command.Command.{Command}
 use Rattle.qfs_base.specs.declared.command.Command.TheVariants as Does
-use Rattle.qfs_base.specs.declared.command.FileCommand.{FileCommand}
 use Rattle.qfs_base.specs.declared.command.FileCommand.TheVariants as File
-use Rattle.qfs_base.specs.declared.command.Range.{Range}
-use Rattle.qfs_base.specs.declared.recipe.Form.{Form}
 use Rattle.qfs_base.specs.declared.recipe.Form.TheVariants as Told
 use Rattle.qfs_base.specs.declared.script.ScriptCause.TheVariants as Cause
 use Rattle.qfs_model_script.specs.Limits.{MOST_ACTORS, LAST_INDEX, MOST_BUDGET, MOST_TICKS}
@@ -17,45 +14,45 @@ use Rattle.qfs_model_grammar.specs.CommandWord.{CommandWord}
 use Rattle.qfs_model_grammar.specs.CommandWord as Word
 use Rattle.qfs_model_grammar.specs.Counts.{no_word, one_word, two_words, three_words, four_words}
 use Rattle.qfs_model_grammar.specs.Kinds.{number_in, path_in, bytes_in}
-use Rattle.qfs_model_grammar.specs.Read.{Read, ◌>>=◌}
+use Rattle.qfs_model_grammar.specs.Said.{Said, ◌>>=◌}
 
 -- ---- words of ranges that several commands share
 
-unfoldable pub index_in : List ℕ → Read ℕ
+unfoldable pub index_in : List ℕ → Said ℕ
 index_in word = number_in 0 LAST_INDEX word
 
-unfoldable pub slot_in : List ℕ → Read ℕ
+unfoldable pub slot_in : List ℕ → Said ℕ
 slot_in word = number_in 0 (SLOTS - 1) word
 
-unfoldable pub server_in : ℕ → List ℕ → Read ℕ
+unfoldable pub server_in : ℕ → List ℕ → Said ℕ
 server_in servers word = number_in 1 servers word
 
-unfoldable pub budget_in : List ℕ → Read ℕ
+unfoldable pub budget_in : List ℕ → Said ℕ
 budget_in word = number_in 1 MOST_BUDGET word
 
-unfoldable pub len_in : List ℕ → Read ℕ
+unfoldable pub len_in : List ℕ → Said ℕ
 len_in word = number_in 0 MOST_FILE_BYTES word
 
 -- ---- commands of one path, of nothing, of a budget and of a server
 
-unfoldable pub path_command : (PathNames → Command) → Words → Read Command
+unfoldable pub path_command : (PathNames → Command) → Words → Said Command
 path_command command words = do
   word ← one_word words
   path ← path_in word
   Ok (command path)
 
-unfoldable pub bare_command : Command → Words → Read Command
+unfoldable pub bare_command : Command → Words → Said Command
 bare_command command words = do
   none ← no_word words
   Ok command
 
-unfoldable pub budget_command : (ℕ → Command) → Words → Read Command
+unfoldable pub budget_command : (ℕ → Command) → Words → Said Command
 budget_command command words = do
   word ← one_word words
   budget ← budget_in word
   Ok (command budget)
 
-unfoldable pub server_command : ℕ → (ℕ → Command) → Words → Read Command
+unfoldable pub server_command : ℕ → (ℕ → Command) → Words → Said Command
 server_command servers command words = do
   word ← one_word words
   server ← server_in servers word
@@ -64,7 +61,7 @@ server_command servers command words = do
 -- ---- the others
 
 -- `rename P Q`
-unfoldable pub rename_command : Words → Read Command
+unfoldable pub rename_command : Words → Said Command
 rename_command words = do
   words ← two_words words
   from ← path_in words.0
@@ -72,32 +69,33 @@ rename_command words = do
   Ok (Does.File (File.Rename from to))
 
 -- `get P` or `get P FROM COUNT`
-unfoldable pub get_whole : List ℕ → Read Command
+unfoldable pub get_whole : List ℕ → Said Command
 get_whole word = do
   path ← path_in word
   Ok (Does.File (File.Get path None))
 
-unfoldable pub get_range : List ℕ → List ℕ → List ℕ → Read Command
+unfoldable pub get_range : List ℕ → List ℕ → List ℕ → Said Command
 get_range word from count = do
   path ← path_in word
   from ← len_in from
   count ← len_in count
   Ok (Does.File (File.Get path (Some (record { from = from; count = count }))))
 
-unfoldable pub get_command : Words → Read Command
+unfoldable pub get_command : Words → Said Command
 get_command (path ∷ []) = get_whole path
 get_command (path ∷ from ∷ count ∷ []) = get_range path from count
 get_command _ = Err Cause.Count
 
--- `put P hex H`, `put P fill BB LEN` or `put P pattern P LEN`; behind `put`, the path and the word for the recipe's kind
-unfoldable pub hex_put : List ℕ → Words → Read Command
+-- `put P hex H`, `put P fill BB LEN` or `put P pattern P LEN`; behind `put`, the path and the word for the
+-- recipe's kind
+unfoldable pub hex_put : List ℕ → Words → Said Command
 hex_put path words = do
   digits ← one_word words
   path ← path_in path
   bytes ← bytes_in 1 32 digits
   Ok (Does.File (File.Put path (Told.Hex bytes)))
 
-unfoldable pub fill_put : List ℕ → Words → Read Command
+unfoldable pub fill_put : List ℕ → Words → Said Command
 fill_put path words = do
   words ← two_words words
   path ← path_in path
@@ -105,7 +103,7 @@ fill_put path words = do
   len ← len_in words.1
   Ok (Does.File (File.Put path (Told.Fill (slice_index bytes 0) len)))
 
-unfoldable pub pattern_put : List ℕ → Words → Read Command
+unfoldable pub pattern_put : List ℕ → Words → Said Command
 pattern_put path words = do
   words ← two_words words
   path ← path_in path
@@ -114,7 +112,7 @@ pattern_put path words = do
   Ok (Does.File (File.Put path (Told.Pattern start len)))
 
 -- a kind of recipe that is unknown is a bad word, however many words there are
-unfoldable pub put_command : Words → Read Command
+unfoldable pub put_command : Words → Said Command
 put_command (path ∷ kind ∷ words) =
     if bytes_eq kind (codes "hex") then hex_put path words
     else if bytes_eq kind (codes "fill") then fill_put path words
@@ -123,7 +121,7 @@ put_command (path ∷ kind ∷ words) =
 put_command _ = Err Cause.Count
 
 -- `recover P INDEX SLOT`
-unfoldable pub recover_command : Words → Read Command
+unfoldable pub recover_command : Words → Said Command
 recover_command words = do
   words ← three_words words
   path ← path_in words.0
@@ -132,7 +130,7 @@ recover_command words = do
   Ok (Does.Recover path index slot)
 
 -- `move P INDEX SLOT S`
-unfoldable pub move_command : ℕ → Words → Read Command
+unfoldable pub move_command : ℕ → Words → Said Command
 move_command servers words = do
   words ← four_words words
   path ← path_in words.0
@@ -142,7 +140,7 @@ move_command servers words = do
   Ok (Does.Move path index slot server)
 
 -- `evacuate S BUDGET`
-unfoldable pub evacuate_command : ℕ → Words → Read Command
+unfoldable pub evacuate_command : ℕ → Words → Said Command
 evacuate_command servers words = do
   words ← two_words words
   server ← server_in servers words.0
@@ -150,7 +148,7 @@ evacuate_command servers words = do
   Ok (Does.Evacuate server budget)
 
 -- `hibernate S TICKS`
-unfoldable pub hibernate_command : ℕ → Words → Read Command
+unfoldable pub hibernate_command : ℕ → Words → Said Command
 hibernate_command servers words = do
   words ← two_words words
   server ← server_in servers words.0
@@ -158,14 +156,14 @@ hibernate_command servers words = do
   Ok (Does.Hibernate server ticks)
 
 -- `drop A`
-unfoldable pub drop_command : Words → Read Command
+unfoldable pub drop_command : Words → Said Command
 drop_command words = do
   word ← one_word words
   actor ← number_in 1 MOST_ACTORS word
   Ok (Does.Drop actor)
 
 -- the command of a script with so many servers
-unfoldable pub command_of : ℕ → CommandWord → Words → Read Command
+unfoldable pub command_of : ℕ → CommandWord → Words → Said Command
 command_of servers Word.Mkdir words = path_command (λ path. Does.File (File.Mkdir path)) words
 command_of servers Word.Rmdir words = path_command (λ path. Does.File (File.Rmdir path)) words
 command_of servers Word.Remove words = path_command (λ path. Does.File (File.Remove path)) words

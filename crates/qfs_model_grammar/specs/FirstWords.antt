@@ -4,8 +4,8 @@ use Rattle.std.specs.Str.{bytes_eq}
 use Rattle.qfs_model_grammar.specs.CommandWord as Does
 use Rattle.qfs_model_grammar.specs.FirstWord.{FirstWord}
 use Rattle.qfs_model_grammar.specs.FirstWord as First
-use Rattle.qfs_model_grammar.specs.Place.{Place}
-use Rattle.qfs_model_grammar.specs.Place as Behind
+use Rattle.qfs_model_grammar.specs.LinePlace.{LinePlace}
+use Rattle.qfs_model_grammar.specs.LinePlace as Behind
 
 -- a first word and how it is written
 pub record Spelling : Type 0 where
@@ -53,9 +53,9 @@ spellings =
 unfoldable pub first_word : List ℕ → Option FirstWord
 first_word text = option_map (λ (spelling : Spelling). spelling.word) (find (λ spelling. bytes_eq spelling.text text) spellings)
 
--- whether a line that begins so may stand behind that one. The lines `term` and `audit` may be absent; a phase may have no actors and
--- an actor no commands; nothing stands behind the order
-unfoldable pub may_stand : Place → FirstWord → Bool
+-- whether a line that begins so may stand behind that one. The lines `term` and `audit` may be absent; a phase
+-- may have no actors and an actor no commands; nothing stands behind the order
+unfoldable pub may_stand : LinePlace → FirstWord → Bool
 may_stand Behind.Start First.Qfs = true
 may_stand Behind.Qfs First.Layout = true
 may_stand Behind.Layout First.Servers = true
@@ -75,8 +75,8 @@ may_stand Behind.Actor (First.Command word) = true
 may_stand place word = false
 
 -- whether the text may end behind such a line
-unfoldable pub may_end : Place → Bool
-may_end Behind.Phase = true
-may_end Behind.Actor = true
-may_end Behind.Order = true
-may_end place = false
+unfoldable pub may_be_last : LinePlace → Bool
+may_be_last Behind.Phase = true
+may_be_last Behind.Actor = true
+may_be_last Behind.Order = true
+may_be_last place = false

@@ -1,10 +1,10 @@
 pub mod Lines
-pub mod Read
+pub mod Said
 pub mod Kinds
 pub mod CommandWord
 pub mod FirstWord
 pub mod FirstWords
-pub mod Place
+pub mod LinePlace
 pub mod Counts
 pub mod CommandLines
 pub mod SoFar
@@ -14,3 +14,5 @@ pub mod BadWords
 pub mod BadCounts
 pub mod BadNumbers
 pub mod BadOthers
+pub mod WorkedTexts
+pub mod Laws

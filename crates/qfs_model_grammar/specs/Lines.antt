@@ -30,8 +30,8 @@ is_text line = list_all is_text_byte line
 abbrev pub is_word : List ℕ → Bool
 is_word piece = not (length piece == 0)
 
-unfoldable pub words_of : List ℕ → Words
-words_of line = filter is_word (slice_split is_blank line)
+unfoldable pub line_words : List ℕ → Words
+line_words line = filter is_word (slice_split is_blank line)
 
 -- a line whose first word begins so is a remark
 abbrev pub remark_sign : ℕ

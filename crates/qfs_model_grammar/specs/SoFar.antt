@@ -1,5 +1,5 @@
 -- What was read of a script so far, and how one more line goes on.
-use Rattle.std.specs.Prelude.{ℕ, ◌+◌, ◌*◌, ◌/◌, ◌%◌, ◌&&◌, nat_lt, nat_le, Bool, true, false, List, [], ◌∷◌, ◌++◌, length, Option, Some, None, Ok, Err, ok_or}
+use Rattle.std.specs.Prelude.{ℕ, ◌+◌, ◌*◌, ◌/◌, ◌%◌, ◌&&◌, nat_lt, nat_le, Bool, true, false, List, [], ◌∷◌, ◌++◌, length, Some, None, Ok}
 use Rattle.std.specs.Int.{div_ceil}
 use Rattle.qfs_base.specs.Layout.{row_bytes, block_bytes}
 use Rattle.qfs_base.specs.Order.{steps_of_runs}
@@ -21,14 +21,14 @@ use Rattle.qfs_model_grammar.specs.Counts.{no_word, one_word, two_words}
 use Rattle.qfs_model_grammar.specs.FirstWord.{FirstWord}
 use Rattle.qfs_model_grammar.specs.FirstWord as First
 use Rattle.qfs_model_grammar.specs.Kinds.{number_in, stripe_in, run_in}
-use Rattle.qfs_model_grammar.specs.Place.{Place}
-use Rattle.qfs_model_grammar.specs.Place as Behind
-use Rattle.qfs_model_grammar.specs.Read.{Read, ◌>>=◌, if_kept, read_each}
+use Rattle.qfs_model_grammar.specs.LinePlace.{LinePlace}
+use Rattle.qfs_model_grammar.specs.LinePlace as Behind
+use Rattle.qfs_model_grammar.specs.Said.{Said, ◌>>=◌, if_kept, read_each}
 
--- the script that the lines so far say, behind which of them the next one stands, and what the limits are on: the actors of all
--- phases, the commands of the last actor, and the blocks and chunk bytes of all puts
+-- the script that the lines so far say, behind which of them the next one stands, and what the limits are on:
+-- the actors of all phases, the commands of the last actor, and the blocks and chunk bytes of all puts
 pub record SoFar : Type 0 where
-  pub place : Place
+  pub place : LinePlace
   pub script : Script
   pub actors : ℕ
   pub commands : ℕ
@@ -55,41 +55,42 @@ nothing_yet = record {
 
 -- ---- the lines of the head
 
-unfoldable pub with_head : SoFar → Place → Script → SoFar
+-- with another last line, and another script
+unfoldable pub with_head : SoFar → LinePlace → Script → SoFar
 with_head so_far place script = record so_far { place = place; script = script }
 
 -- `qfs 1`
-unfoldable pub qfs_line : SoFar → Words → Read SoFar
-qfs_line so_far words = do
+unfoldable pub take_qfs : SoFar → Words → Said SoFar
+take_qfs so_far words = do
   word ← one_word words
   version ← number_in 1 1 word
   Ok (with_head so_far Behind.Qfs so_far.script)
 
 -- `layout S R`
-unfoldable pub layout_line : SoFar → Words → Read SoFar
-layout_line so_far words = do
+unfoldable pub take_layout : SoFar → Words → Said SoFar
+take_layout so_far words = do
   words ← two_words words
   stripe ← stripe_in words.0
   rows ← number_in 1 MOST_ROWS words.1
   Ok (with_head so_far Behind.Layout (record so_far.script { layout = record { s = stripe; r = rows } }))
 
 -- `servers N`
-unfoldable pub servers_line : SoFar → Words → Read SoFar
-servers_line so_far words = do
+unfoldable pub take_servers : SoFar → Words → Said SoFar
+take_servers so_far words = do
   word ← one_word words
   servers ← number_in 1 MOST_SERVERS word
   Ok (with_head so_far Behind.Servers (record so_far.script { servers = servers }))
 
 -- `term T`
-unfoldable pub term_line : SoFar → Words → Read SoFar
-term_line so_far words = do
+unfoldable pub take_term : SoFar → Words → Said SoFar
+take_term so_far words = do
   word ← one_word words
   ticks ← number_in 1 MOST_TICKS word
   Ok (with_head so_far Behind.Term (record so_far.script { term = ticks }))
 
 -- `audit`
-unfoldable pub audit_line : SoFar → Words → Read SoFar
-audit_line so_far words = do
+unfoldable pub take_audit : SoFar → Words → Said SoFar
+take_audit so_far words = do
   none ← no_word words
   Ok (with_head so_far Behind.Audit (record so_far.script { audit = true }))
 
@@ -110,13 +111,13 @@ with_command command phases =
     change_last (λ phase. change_last (λ commands. commands ++ command ∷ []) phase) phases
 
 -- `phase`
-unfoldable pub phase_line : SoFar → Words → Read SoFar
-phase_line so_far words = do
+unfoldable pub take_phase : SoFar → Words → Said SoFar
+take_phase so_far words = do
   none ← no_word words
   if_kept (nat_lt (length so_far.script.phases) MOST_PHASES) Cause.Limit
-    (with_head so_far Behind.Phase (record so_far.script { phases = so_far.script.phases ++ [] ∷ [] }))
+      (with_head so_far Behind.Phase (record so_far.script { phases = so_far.script.phases ++ [] ∷ [] }))
 
--- `actor A`, with the next number
+-- with one actor more, who has no commands yet
 unfoldable pub with_next_actor : SoFar → SoFar
 with_next_actor so_far = record so_far {
   place = Behind.Actor;
@@ -125,8 +126,9 @@ with_next_actor so_far = record so_far {
   commands = 0;
 }
 
-unfoldable pub actor_line : SoFar → Words → Read SoFar
-actor_line so_far words = do
+-- `actor A`, with the next number
+unfoldable pub take_actor : SoFar → Words → Said SoFar
+take_actor so_far words = do
   word ← one_word words
   number ← number_in (so_far.actors + 1) (so_far.actors + 1) word
   if_kept (nat_lt so_far.actors MOST_ACTORS) Cause.Limit (with_next_actor so_far)
@@ -141,7 +143,8 @@ unfoldable pub put_len : Command → ℕ
 put_len (Does.File (File.Put path recipe)) = recipe_len recipe
 put_len command = 0
 
--- how many bytes the chunks of a file of so many bytes have together: each slot has the rows of the whole blocks, and those of the rest
+-- how many bytes the chunks of a file of so many bytes have together: each slot has the rows of the whole
+-- blocks, and those of the rest
 abbrev pub chunk_rows : Shape → ℕ → ℕ
 chunk_rows layout len =
     let block = block_bytes layout.s layout.r in
@@ -150,6 +153,7 @@ chunk_rows layout len =
 abbrev pub chunk_bytes_of : Shape → ℕ → ℕ
 chunk_bytes_of layout len = SLOTS * (chunk_rows layout len * layout.s)
 
+-- with one command more, whose bytes are counted if it is a put
 unfoldable pub with_next_command : SoFar → Command → SoFar
 with_next_command so_far command = record so_far {
   place = Behind.Actor;
@@ -167,27 +171,28 @@ keeps_limits now command =
     && nat_le now.blocks MOST_BLOCKS
     && nat_le now.chunk_bytes MOST_BYTES_OF_CHUNKS
 
-unfoldable pub command_line : SoFar → CommandWord → Words → Read SoFar
-command_line so_far word words = do
+-- a command of the last actor
+unfoldable pub take_command : SoFar → CommandWord → Words → Said SoFar
+take_command so_far word words = do
   command ← command_of so_far.script.servers word words
   if_kept (keeps_limits (with_next_command so_far command) command) Cause.Limit (with_next_command so_far command)
 
 -- `order` and any number of runs
-unfoldable pub order_line : SoFar → Words → Read SoFar
-order_line so_far words = do
+unfoldable pub take_order : SoFar → Words → Said SoFar
+take_order so_far words = do
   runs ← read_each run_in words
   Ok (with_head so_far Behind.Order (record so_far.script { order = Some (steps_of_runs runs) }))
 
 -- ---- any line
 
 -- what is read with a line of this first word, and with the words behind it
-unfoldable pub line_of : SoFar → FirstWord → Words → Read SoFar
-line_of so_far First.Qfs words = qfs_line so_far words
-line_of so_far First.Layout words = layout_line so_far words
-line_of so_far First.Servers words = servers_line so_far words
-line_of so_far First.Term words = term_line so_far words
-line_of so_far First.Audit words = audit_line so_far words
-line_of so_far First.Phase words = phase_line so_far words
-line_of so_far First.Actor words = actor_line so_far words
-line_of so_far First.Order words = order_line so_far words
-line_of so_far (First.Command word) words = command_line so_far word words
+unfoldable pub take_line : SoFar → FirstWord → Words → Said SoFar
+take_line so_far First.Qfs words = take_qfs so_far words
+take_line so_far First.Layout words = take_layout so_far words
+take_line so_far First.Servers words = take_servers so_far words
+take_line so_far First.Term words = take_term so_far words
+take_line so_far First.Audit words = take_audit so_far words
+take_line so_far First.Phase words = take_phase so_far words
+take_line so_far First.Actor words = take_actor so_far words
+take_line so_far First.Order words = take_order so_far words
+take_line so_far (First.Command word) words = take_command so_far word words

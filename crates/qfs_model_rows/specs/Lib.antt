@@ -11,6 +11,7 @@ pub mod Meanings
 pub mod Leases
 pub mod Attempts
 pub mod Upgrades
+pub mod Promised
 pub mod DrawnFiles
 pub mod DrawnServers
 pub mod DrawnRules

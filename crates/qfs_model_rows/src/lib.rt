@@ -13,6 +13,7 @@ mod given_orders;
 mod leases;
 mod meanings;
 mod plain_paths;
+mod promised;
 mod refusals;
 mod repairs;
 mod restarts;
