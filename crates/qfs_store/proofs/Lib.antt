@@ -2,3 +2,4 @@ pub mod FreshLaws
 pub mod KeyLaws
 pub mod RecordLaws
 pub mod StandsLaws
+pub mod StepLaws

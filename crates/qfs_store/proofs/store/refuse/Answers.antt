@@ -1,0 +1,2 @@
+use Rattle.qfs_store.proofs.StepLaws.{refused_step}
+use Rattle.qfs_store.proofs.store.refuse.Goals as goal
