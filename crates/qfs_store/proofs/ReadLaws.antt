@@ -1,5 +1,5 @@
 -- The checks of noted keys, one after another, and what they read and leave.
-use Rattle.std.proofs.Common.{◌≡◌, ℕ, ◌+◌, ◌≤◌, Bool, true, false, cond, List, [], ◌∷◌, ◌++◌, length, map, Option, Some, None, is_some, unwrap_or, IfSome, refl, sym, ap, subst, ◌∙◌, true≢false, arith, append_assoc}
+use Rattle.std.proofs.Common.{◌≡◌, ℕ, ◌+◌, ◌≤◌, Bool, true, false, cond, List, [], ◌∷◌, ◌++◌, length, map, Option, Some, None, is_some, unwrap_or, IfSome, ◌<◌, ◌⊎◌, inl, inr, drop, refl, sym, ap, subst, ◌∙◌, true≢false, arith, append_assoc}
 use Rattle.std.specs.Prelude.{nat_le, take, sum_by, ◌&&◌}
 use Rattle.std.proofs.lemmas.List.Sums.{sum_by-cons}
 use Rattle.std.specs.List.{fold, AllByRecursion, filter_map, cons_option}
@@ -9,6 +9,7 @@ use Rattle.std.specs.Option.{option_map}
 use Rattle.std.specs.Cmp.{tied_itself}
 use Rattle.std.specs.Ordering.{is_eq, ordering_reverse, match_ordering}
 use Rattle.std.proofs.lemmas.List.{append-nil}
+use Rattle.std.proofs.Math.Seq.{take-add}
 use Rattle.std.specs.declared.cmp.Ordering.{Ordering}
 use Rattle.std.specs.declared.cmp.Ordering.TheVariants.{Less, Equal, Greater}
 use Rattle.std.proofs.lemmas.Map.Keys.{sorted_head, sorted_tail}
@@ -17,12 +18,17 @@ use Rattle.qfs_base.specs.Key.{key_cmp}
 use Rattle.qfs_base.specs.KeyLaws.{key_cmp_total}
 use Rattle.qfs_base.specs.KeyMap.{value_at, has_key, with_entry, without_key, unless}
 use Rattle.qfs_base.specs.declared.chunk.ChunkKey.{ChunkKey}
-use Rattle.qfs_device.specs.Held.{Held, Contents, bytes_at, sizes_of}
+use Rattle.qfs_device.specs.Held.{Held, Contents, bytes_at, handing, sizes_of}
 use Rattle.qfs_device.specs.declared.chunk_device.KeySize.{KeySize}
+use Rattle.std.proofs.lemmas.Bool.Decides.{nat_tests}
+use Rattle.std.specs.Prelude.{Err}
+use Rattle.qfs_device.specs.Fault.{TakesNoMemory}
+use Rattle.qfs_device.specs.declared.errors.DeviceError.{DeviceError}
+use Rattle.qfs_device.specs.declared.errors.DeviceError.TheVariants as Error
 use Rattle.qfs_record.specs.Part.{AreBytes}
 use Rattle.qfs_record.specs.ChunkRecord.{begins_second, head_in}
 use Rattle.qfs_store.specs.Known.{Sizes, resized}
-use Rattle.qfs_store.specs.Start.{front_bytes, copy_in, copy_under, entry_of, copies_in, fronts, unread, noting, settled, checking, front_under, front_sum, HasBytes, AreFronts, IsSized, Reads, Found, Checked, KeyChecked}
+use Rattle.qfs_store.specs.Start.{front_bytes, copy_in, copy_under, entry_of, copies_in, fronts, unread, noting, settled, checking, front_under, front_sum, HasBytes, AreFronts, IsSized, Reads, Found, Checked, KeyChecked, FindsOn}
 use Rattle.qfs_store.specs.declared.copies.CopySize.{CopySize}
 use Rattle.qfs_store.proofs.KeyLaws.{same_key, same_key-is, same_itself}
 
@@ -313,3 +319,83 @@ all_end stripe held told begun now sizes rest checks none noted are rising =
       bytes = are_fronts held held.contents stand (subst (AllByRecursion (HasBytes held)) are (checks.fronts_are (subst (AllByRecursion (HasBytes held)) (sym none) tt)));
       reads = subst (Reads held told) (omega arith) checks.reads;
     }
+
+-- ---- one head
+
+second_front : (bytes : List ℕ) → begins_second (take 21 bytes) ≡ begins_second bytes
+second_front [] = refl
+second_front (a ∷ []) = refl
+second_front (a ∷ b ∷ []) = refl
+second_front (a ∷ b ∷ c ∷ []) = refl
+second_front (a ∷ b ∷ c ∷ d ∷ rest) = refl
+
+long_enough : (size : ℕ) → 21 ≤ size → nat_le 21 size ≡ true
+long_enough size long = grind (arith, nat_tests)
+
+front_size : (bytes : List ℕ) (more : Bool) → 21 ≤ length bytes → (begins_second bytes && nat_le 25 (length bytes)) ≡ more → front_bytes bytes ≡ cond more 25 21
+front_size bytes more long is =
+    ap (λ (b : Bool). cond b (cond (begins_second bytes && nat_le 25 (length bytes)) 25 21) 0) (long_enough (length bytes) long)
+    ∙ ap (λ (b : Bool). cond b 25 21) is
+
+-- so many bytes from the front were read, and are those that tell the head
+pub head_was_read : (held : Held) (told' : Option Held) (chunk : KeySize) (front : List ℕ) (count : ℕ) → front_under held chunk ≡ count
+    → front ≡ take count (bytes_at held chunk.key) → AreBytes front → Reads held told' count
+    → (head_in front ≡ head_in (take (front_under held chunk) (bytes_at held chunk.key))) × HasBytes held chunk × Reads held told' (front_under held chunk)
+head_was_read held told' chunk front count is front_is are reads =
+    let same : front ≡ take (front_under held chunk) (bytes_at held chunk.key) = front_is ∙ ap (λ (n : ℕ). take n (bytes_at held chunk.key)) (sym is) in
+    (ap head_in same, subst AreBytes same are, subst (Reads held told') (sym is) reads)
+
+-- the errors of a check are faults
+pub found_err : (stripe : ℕ) (error : DeviceError) (told told' : Option Held) → TakesNoMemory {T = Unit {0}} (Err error)
+    → ((held : Held) → told ≡ Some held → (count : ℕ) × Reads held told' count) → FindsOn stripe (Err error) told told'
+found_err stripe Error.Failed told told' some reads = reads
+found_err stripe Error.NoMemory told told' some reads = absurd some
+
+-- the device read so much and told it
+one_read : (held : Held) (told told' : Option Held) (count : ℕ) → told ≡ Some held → told' ≡ option_map (handing count) told → Reads held told' count
+one_read held told told' count told_is handed = record {
+  after = handing count held;
+  told_is = handed ∙ ap (option_map (handing count)) told_is;
+  contents = refl;
+  life = refl;
+  handed = omega arith;
+}
+
+none_more : (bytes : List ℕ) (size : ℕ) → (begins_second bytes ≡ false) ⊎ (size < 25) → (begins_second bytes && nat_le 25 size) ≡ false
+none_more bytes size (inl first) = ap (λ (b : Bool). b && nat_le 25 size) first
+none_more bytes size (inr short) = grind (arith, nat_tests)
+
+-- a head of the first version, or the front of another, was read at once
+pub first_was_read : (held : Held) (told told' : Option Held) (chunk : KeySize) (front : List ℕ) → told ≡ Some held → IsSized held chunk → 21 ≤ chunk.size
+    → told' ≡ option_map (handing 21) told → IfSome told (λ held. front ≡ take 21 (drop 0 (bytes_at held chunk.key))) → AreBytes front
+    → (begins_second front ≡ false) ⊎ (chunk.size < 25)
+    → (head_in front ≡ head_in (take (front_under held chunk) (bytes_at held chunk.key))) × HasBytes held chunk × Reads held told' (front_under held chunk)
+first_was_read held told told' chunk front told_is sized long handed read are which =
+    let bytes = bytes_at held chunk.key in
+    let front_is : front ≡ take 21 bytes = if_some_at (λ (held : Held). front ≡ take 21 (bytes_at held chunk.key)) told held told_is read in
+    let size = sized.size in
+    let least : 21 ≤ length bytes = omega arith in
+    let not_more : (begins_second bytes && nat_le 25 (length bytes)) ≡ false =
+    ap (λ (t : Bool × ℕ). t.0 && nat_le 25 t.1) (λ i. ((sym (second_front bytes) ∙ ap begins_second (sym front_is)) i, sym size i)) ∙ none_more front chunk.size which in
+    head_was_read held told' chunk front 21 (front_size bytes false least not_more) front_is are (one_read held told told' 21 told_is handed)
+
+-- one of the second version was read in two parts
+pub second_was_read : (held : Held) (told told1 told2 : Option Held) (chunk : KeySize) (front stripe whole : List ℕ) → told ≡ Some held → IsSized held chunk → 25 ≤ chunk.size
+    → told1 ≡ option_map (handing 21) told → IfSome told (λ held. front ≡ take 21 (drop 0 (bytes_at held chunk.key)))
+    → told2 ≡ option_map (handing 4) told1 → IfSome told1 (λ held. stripe ≡ take 4 (drop 21 (bytes_at held chunk.key)))
+    → whole ≡ front ++ stripe → AreBytes whole → begins_second front ≡ true
+    → (head_in whole ≡ head_in (take (front_under held chunk) (bytes_at held chunk.key))) × HasBytes held chunk × Reads held told2 (front_under held chunk)
+second_was_read held told told1 told2 chunk front stripe whole told_is sized long handed read handed2 read2 joined are second =
+    let bytes = bytes_at held chunk.key in
+    let first = one_read held told told1 21 told_is handed in
+    let front_is : front ≡ take 21 bytes = if_some_at (λ (held : Held). front ≡ take 21 (bytes_at held chunk.key)) told held told_is read in
+    let stripe_is : stripe ≡ take 4 (drop 21 bytes) = if_some_at (λ (held : Held). stripe ≡ take 4 (drop 21 (bytes_at held chunk.key))) told1 (handing 21 held) (handed ∙ ap (option_map (handing 21)) told_is) read2 in
+    let size = sized.size in
+    let least : 25 ≤ length bytes = omega arith in
+    let enough : nat_le 25 (length bytes) ≡ true = grind (arith, nat_tests) in
+    let more : (begins_second bytes && nat_le 25 (length bytes)) ≡ true =
+    ap (λ (t : Bool × Bool). t.0 && t.1) (λ i. ((sym (second_front bytes) ∙ ap begins_second (sym front_is) ∙ second) i, enough i)) in
+    let whole_is : whole ≡ take 25 bytes =
+    joined ∙ ap (λ (t : List ℕ × List ℕ). t.0 ++ t.1) (λ i. (front_is i, stripe_is i)) ∙ sym (take-add 21 4 bytes) in
+    head_was_read held told2 chunk whole 25 (front_size bytes true (omega arith) more) whole_is are
+    (read_more held told1 told2 21 4 first (λ now now_is. one_read now told1 told2 4 now_is handed2))
