@@ -1,11 +1,11 @@
 -- What an actor keeps is that of the actor of the definitions, at its first command and after each reply.
-use Rattle.std.proofs.Common.{◌<◌, ◌^◌, ◌+◌, ◌-◌, ◌≡◌, ◌∙◌, refl, sym, ap, subst, arith, zero, suc, true, false, ℕ, List, [], ◌∷◌, ◌++◌, length, Option, Some, None, IfSome, length-append}
+use Rattle.std.proofs.Common.{◌<◌, ◌≤◌, ◌^◌, ◌+◌, ◌-◌, ◌≡◌, ◌∙◌, refl, sym, ap, subst, arith, zero, suc, true, false, ℕ, List, [], ◌∷◌, ◌++◌, length, Option, Some, None, IfSome, length-append}
 use Rattle.std.specs.Prelude.{slice_get, drop, All, is_some, IsSome, option_map, option_and_then, Result, Ok, Err, OnOk, vec_len, vec_capacity}
 use Rattle.std.specs.Vec.Iter.{into_iter_items}
 use Rattle.std.proofs.lemmas.List.{length-drop}
 use Rattle.std.proofs.lemmas.List.Elements.{All-drop}
 use Rattle.std.proofs.lemmas.Option.{slice_get_within}
-use Rattle.qfs_base.specs.Shape.{Shape}
+use Rattle.qfs_base.specs.declared.rules.Rules.{Rules}
 use Rattle.qfs_base.specs.declared.command.Command.{Command}
 use Rattle.qfs_base.specs.declared.command.Command.TheVariants as Does
 use Rattle.qfs_base.specs.declared.command.FileCommand.TheVariants as File
@@ -16,17 +16,17 @@ use Rattle.qfs_machine.specs.declared.machine.Readiness.TheVariants.{Unready, Re
 use Rattle.qfs_model_actor.specs.Actor.{Actor, starting, work_left, request_of, node_of, moved_on, after_reply}
 use Rattle.qfs_model_actor.specs.Ask.{ask}
 use Rattle.qfs_model_actor.specs.Command.{work_of, file_work}
-use Rattle.qfs_model_actor.specs.Get.{get_work}
+use Rattle.qfs_model_actor.specs.Get.{attempt, get_work}
 use Rattle.qfs_model_actor.specs.Hold.{ask_or}
 use Rattle.qfs_model_actor.specs.Put.{put_work}
 use Rattle.qfs_model_actor.specs.Shown.{kept_report, lines_from}
 use Rattle.qfs_model_actor.specs.Work.{Report, Work, ends, asks, goes_on, follow, request_in, node_of_request}
-use Rattle.qfs_actor.specs.Course.{readiness_in, HasTaken, IsOf}
-use Rattle.qfs_actor.specs.Doing.{rest_of, readiness_of}
+use Rattle.qfs_actor.specs.State.{readiness_in, HasTaken, IsOf}
+use Rattle.qfs_actor.specs.CommandMachine.{rest_of, readiness_of}
 use Rattle.qfs_actor.specs.Forms.{IsBuilt}
 use Rattle.qfs_actor.specs.Standing.{CanAskAs}
-use Rattle.qfs_actor.specs.declared.course.Course.{Course}
-use Rattle.qfs_actor.specs.declared.doing.Doing.{Doing}
+use Rattle.qfs_actor.specs.declared.state.ActorState.{ActorState}
+use Rattle.qfs_actor.specs.declared.command_machine.CommandMachine.{CommandMachine}
 
 -- ---- lists
 
@@ -79,12 +79,12 @@ has_ended (ends report) none = (report, refl)
 has_ended (asks request next) none = absurd (cc)
 
 -- each command begins with a request
-pub work_of-asks : (layout : Shape) (number : ℕ) (command : Command) → IsBuilt command → IsSome (request_in (work_of layout number command))
-unfolding work_of file_work put_work get_work ask ask_or request_in
-work_of-asks layout number (Does.File (File.Put path recipe)) built = refl
-work_of-asks layout number (Does.File (File.Get path range)) built = refl
-work_of-asks layout number (Does.File command) built = absurd built
-work_of-asks layout number command built = absurd built
+pub work_of-asks : (rules : Rules) (number : ℕ) (command : Command) → IsBuilt command → IsSome (request_in (work_of rules number command))
+unfolding work_of file_work put_work get_work attempt ask ask_or request_in
+work_of-asks rules number (Does.File (File.Put path recipe)) built = refl
+work_of-asks rules number (Does.File (File.Get path range)) built = refl
+work_of-asks rules number (Does.File command) built = absurd built
+work_of-asks rules number command built = absurd built
 
 -- ---- the present command
 
@@ -94,20 +94,20 @@ unfolding work_left
 work_left-push actor reply = pushed (slice_get actor.commands (length actor.ended))
   where
     pushed : (o : Option Command)
-        → option_map (λ command. follow (work_of actor.layout (length actor.ended + 1) command) (actor.heard ++ reply ∷ [])) o
-        ≡ option_map (λ work. goes_on work reply) (option_map (λ command. follow (work_of actor.layout (length actor.ended + 1) command) actor.heard) o)
+        → option_map (λ command. follow (work_of actor.rules (length actor.ended + 1) command) (actor.heard ++ reply ∷ [])) o
+        ≡ option_map (λ work. goes_on work reply) (option_map (λ command. follow (work_of actor.rules (length actor.ended + 1) command) actor.heard) o)
     pushed None = refl
-    pushed (Some command) = ap Some (follow-push (work_of actor.layout (length actor.ended + 1) command) actor.heard reply)
+    pushed (Some command) = ap Some (follow-push (work_of actor.rules (length actor.ended + 1) command) actor.heard reply)
 
 -- an actor that has heard nothing yet
 work_left-fresh : (actor : Actor) → actor.heard ≡ []
-    → work_left actor ≡ option_map (λ command. work_of actor.layout (length actor.ended + 1) command) (slice_get actor.commands (length actor.ended))
+    → work_left actor ≡ option_map (λ command. work_of actor.rules (length actor.ended + 1) command) (slice_get actor.commands (length actor.ended))
 unfolding work_left follow
 work_left-fresh actor nothing = rw nothing (unheard (slice_get actor.commands (length actor.ended)))
   where
     unheard : (o : Option Command)
-        → option_map (λ command. follow (work_of actor.layout (length actor.ended + 1) command) []) o
-        ≡ option_map (λ command. work_of actor.layout (length actor.ended + 1) command) o
+        → option_map (λ command. follow (work_of actor.rules (length actor.ended + 1) command) []) o
+        ≡ option_map (λ command. work_of actor.rules (length actor.ended + 1) command) o
     unheard None = refl
     unheard (Some command) = refl
 
@@ -116,52 +116,52 @@ unfolding work_left
 has_command actor work left = found (slice_get actor.commands (length actor.ended)) refl left
   where
     found : (o : Option Command) → slice_get actor.commands (length actor.ended) ≡ o
-        → option_map (λ command. follow (work_of actor.layout (length actor.ended + 1) command) actor.heard) o ≡ Some work
+        → option_map (λ command. follow (work_of actor.rules (length actor.ended + 1) command) actor.heard) o ≡ Some work
         → length actor.ended < length actor.commands
     found None is left = absurd (cc)
     found (Some command) is left = slice_get_within actor.commands (length actor.ended) command is
 
 -- ---- what is kept, and the next request
 
-pub request_of-course : (actor : Actor) (course : Course) → IsOf actor course
-    → request_of actor ≡ option_and_then request_in (option_map rest_of course.doing)
+pub request_of-state : (actor : Actor) (state : ActorState) → IsOf actor state
+    → request_of actor ≡ option_and_then request_in (option_map rest_of state.machine)
 unfolding request_of
-request_of-course actor course of = ap (λ left. option_and_then request_in left) (sym of.doing)
+request_of-state actor state of = ap (λ left. option_and_then request_in left) (sym of.machine)
 
-pub node_of-course : (actor : Actor) (course : Course) → IsOf actor course
-    → node_of actor ≡ option_map node_of_request (option_and_then request_in (option_map rest_of course.doing))
+pub node_of-state : (actor : Actor) (state : ActorState) → IsOf actor state
+    → node_of actor ≡ option_map node_of_request (option_and_then request_in (option_map rest_of state.machine))
 unfolding node_of
-node_of-course actor course of = ap (λ request. option_map node_of_request request) (request_of-course actor course of)
+node_of-state actor state of = ap (λ request. option_map node_of_request request) (request_of-state actor state of)
 
 -- who may ask, may ask by its machine
-pub may_ask : (actor : Actor) (course : Course) → IsOf actor course → CanAskAs actor (readiness_in course.doing)
-    → IfSome course.doing (λ doing. MayAsk (readiness_of doing) (rest_of doing))
-may_ask actor course of can = by_doing course.doing (request_of-course actor course of) can
+pub may_ask : (actor : Actor) (state : ActorState) → IsOf actor state → CanAskAs actor (readiness_in state.machine)
+    → IfSome state.machine (λ machine. MayAsk (readiness_of machine) (rest_of machine))
+may_ask actor state of can = by_doing state.machine (request_of-state actor state of) can
   where
-    by_readiness : (doing : Doing) (readiness : Readiness) → request_of actor ≡ request_in (rest_of doing) → CanAskAs actor readiness → MayAsk readiness (rest_of doing)
-    by_readiness doing Unready is finished = sym is ∙ finished
-    by_readiness doing Ready is can = tt
-    by_readiness doing Out is can = can
+    by_readiness : (machine : CommandMachine) (readiness : Readiness) → request_of actor ≡ request_in (rest_of machine) → CanAskAs actor readiness → MayAsk readiness (rest_of machine)
+    by_readiness machine Unready is finished = sym is ∙ finished
+    by_readiness machine Ready is can = tt
+    by_readiness machine Out is can = can
 
-    by_doing : (doing : Option Doing) → request_of actor ≡ option_and_then request_in (option_map rest_of doing) → CanAskAs actor (readiness_in doing)
-        → IfSome doing (λ it. MayAsk (readiness_of it) (rest_of it))
+    by_doing : (machine : Option CommandMachine) → request_of actor ≡ option_and_then request_in (option_map rest_of machine) → CanAskAs actor (readiness_in machine)
+        → IfSome machine (λ it. MayAsk (readiness_of it) (rest_of it))
     by_doing None is can = tt
-    by_doing (Some doing) is can = by_readiness doing (readiness_of doing) is can
+    by_doing (Some machine) is can = by_readiness machine (readiness_of machine) is can
 
 -- an actor whose machine is ready may ask, and so may one that has none
-pub can_ask : (actor : Actor) (course : Course) → IsOf actor course → IfSome course.doing (λ doing. readiness_of doing ≡ Ready)
-    → CanAskAs actor (readiness_in course.doing)
-can_ask actor course of ready = by_doing course.doing (request_of-course actor course of) ready
+pub can_ask : (actor : Actor) (state : ActorState) → IsOf actor state → IfSome state.machine (λ machine. readiness_of machine ≡ Ready)
+    → CanAskAs actor (readiness_in state.machine)
+can_ask actor state of ready = by_doing state.machine (request_of-state actor state of) ready
   where
-    by_doing : (doing : Option Doing) → request_of actor ≡ option_and_then request_in (option_map rest_of doing)
-        → IfSome doing (λ it. readiness_of it ≡ Ready) → CanAskAs actor (readiness_in doing)
+    by_doing : (machine : Option CommandMachine) → request_of actor ≡ option_and_then request_in (option_map rest_of machine)
+        → IfSome machine (λ it. readiness_of it ≡ Ready) → CanAskAs actor (readiness_in machine)
     by_doing None is ready = is
-    by_doing (Some doing) is ready = rw ready tt
+    by_doing (Some machine) is ready = rw ready tt
 
-pub ok-can_ask : {A B : Type 0} (result : Result A B) (actor : Actor) (course : Course) → IsOf actor course
-    → OnOk result (IfSome course.doing (λ doing. readiness_of doing ≡ Ready)) → OnOk result (CanAskAs actor (readiness_in course.doing))
-ok-can_ask (Ok it) actor course of ready = can_ask actor course of ready
-ok-can_ask (Err error) actor course of ready = tt
+pub ok-can_ask : {A B : Type 0} (result : Result A B) (actor : Actor) (state : ActorState) → IsOf actor state
+    → OnOk result (IfSome state.machine (λ machine. readiness_of machine ≡ Ready)) → OnOk result (CanAskAs actor (readiness_in state.machine))
+ok-can_ask (Ok it) actor state of ready = can_ask actor state of ready
+ok-can_ask (Err error) actor state of ready = tt
 
 -- who may ask and asks something has taken the memory for it
 pub has_taken : (readiness : Readiness) (work : Work) → MayAsk readiness work → IsSome (request_in work) → HasTaken readiness
@@ -170,19 +170,20 @@ has_taken Ready work may asking = tt
 has_taken Out work may asking = absurd may
 
 -- another machine of which the same is left
-pub same_rest : (actor : Actor) (course next : Course) (doing at : Doing) → IsOf actor course → course.doing ≡ Some doing
-    → next.post ≡ course.post → into_iter_items next.ahead ≡ into_iter_items course.ahead → next.doing ≡ Some at → rest_of at ≡ rest_of doing
-    → next.replies.items ≡ course.replies.items → vec_len next.replies < vec_capacity next.replies
+pub same_rest : (actor : Actor) (state next : ActorState) (machine at : CommandMachine) → IsOf actor state → state.machine ≡ Some machine
+    → next.setting ≡ state.setting → into_iter_items next.ahead ≡ into_iter_items state.ahead → next.machine ≡ Some at → rest_of at ≡ rest_of machine
+    → next.replies.items ≡ state.replies.items → vec_len next.replies < vec_capacity next.replies
     → IsOf actor next
-same_rest actor course next doing at of is post ahead then rest lines room =
-    let asking : IsSome (request_in (rest_of doing)) = rw is at of.asks in
+same_rest actor state next machine at of is setting ahead then rest lines room =
+    let asking : IsSome (request_in (rest_of machine)) = rw is at of.asks in
     record {
-      number = rw post of.number;
-      layout = rw post of.layout;
+      number = rw setting of.number;
+      rules = rw setting of.rules;
+      tries = of.tries;
       few = of.few;
       built = of.built;
       ahead = ahead ∙ of.ahead;
-      doing = rw (then, rest, ← of.doing, is) refl;
+      machine = rw (then, rest, ← of.machine, is) refl;
       asks = rw (then, rest) asking;
       lines = lines ∙ of.lines;
       room = λ taken. room;
@@ -209,21 +210,22 @@ all_first P x xs all = all 0 x (omega arith)
 
 -- ---- the first command
 
-pub starts : (course : Course) (commands : List Command) → length commands < 2 ^ 16 → All IsBuilt commands
-    → into_iter_items course.ahead ≡ drop 1 commands
-    → option_map rest_of course.doing ≡ option_map (λ command. work_of course.post.layout 1 command) (slice_get commands 0)
-    → IfSome course.doing (λ doing. IsSome (request_in (rest_of doing)))
-    → course.replies.items ≡ [] → readiness_in course.doing ≡ Unready
-    → IsOf (starting course.post.layout course.post.number commands) course
+pub starts : (state : ActorState) (commands : List Command) → 1 ≤ state.setting.rules.tries → length commands < 2 ^ 16 → All IsBuilt commands
+    → into_iter_items state.ahead ≡ drop 1 commands
+    → option_map rest_of state.machine ≡ option_map (λ command. work_of state.setting.rules 1 command) (slice_get commands 0)
+    → IfSome state.machine (λ machine. IsSome (request_in (rest_of machine)))
+    → state.replies.items ≡ [] → readiness_in state.machine ≡ Unready
+    → IsOf (starting state.setting.rules state.setting.number commands) state
 unfolding starting lines_from
-starts course commands few built ahead rest asking none unready =
+starts state commands tries few built ahead rest asking none unready =
     record {
       number = refl;
-      layout = refl;
+      rules = refl;
+      tries = tries;
       few = few;
       built = built;
       ahead = ahead;
-      doing = rest ∙ sym (work_left-fresh (starting course.post.layout course.post.number commands) refl);
+      machine = rest ∙ sym (work_left-fresh (starting state.setting.rules state.setting.number commands) refl);
       asks = asking;
       lines = none;
       room = λ taken. absurd (subst HasTaken unready taken);
@@ -232,18 +234,21 @@ starts course commands few built ahead rest asking none unready =
 -- ---- a reply
 
 -- one command is present, and the others that haven't ended are ahead
-pub few_ahead : (actor : Actor) (course : Course) (doing : Doing) → IsOf actor course → course.doing ≡ Some doing
-    → length course.replies.items + 1 + length (into_iter_items course.ahead) < 2 ^ 16
-few_ahead actor course doing of is =
-    let within = has_command actor (rest_of doing) (sym of.doing ∙ ap (λ o. option_map rest_of o) is) in
-    let lines : length course.replies.items ≡ length actor.ended = ap length of.lines ∙ length-lines actor.number 1 actor.ended in
-    let ahead : length (into_iter_items course.ahead) ≡ length actor.commands - (length actor.ended + 1) =
+pub few_ahead : (actor : Actor) (state : ActorState) (machine : CommandMachine) → IsOf actor state → state.machine ≡ Some machine
+    → length state.replies.items + 1 + length (into_iter_items state.ahead) < 2 ^ 16
+few_ahead actor state machine of is =
+    let within = has_command actor (rest_of machine) (sym of.machine ∙ ap (λ o. option_map rest_of o) is) in
+    let lines : length state.replies.items ≡ length actor.ended = ap length of.lines ∙ length-lines actor.number 1 actor.ended in
+    let ahead : length (into_iter_items state.ahead) ≡ length actor.commands - (length actor.ended + 1) =
     ap length of.ahead ∙ length-drop (length actor.ended + 1) actor.commands in
     let few = of.few in
     omega (arith, within, lines, ahead, few)
 
-pub built_ahead : (actor : Actor) (course : Course) → IsOf actor course → All IsBuilt (into_iter_items course.ahead)
-built_ahead actor course of = subst (All IsBuilt) (sym of.ahead) (All-drop IsBuilt (length actor.ended + 1) actor.commands of.built)
+pub some_tries : (actor : Actor) (state : ActorState) → IsOf actor state → 1 ≤ state.setting.rules.tries
+some_tries actor state of = rw of.rules of.tries
+
+pub built_ahead : (actor : Actor) (state : ActorState) → IsOf actor state → All IsBuilt (into_iter_items state.ahead)
+built_ahead actor state of = subst (All IsBuilt) (sym of.ahead) (All-drop IsBuilt (length actor.ended + 1) actor.commands of.built)
 
 after_reply-moved : (actor : Actor) (reply : NodeReply) (work : Work) → work_left actor ≡ Some work
     → after_reply actor reply ≡ moved_on actor reply (Some (goes_on work reply))
@@ -262,24 +267,25 @@ unfolding moved_on
 moved_on-ends actor reply report = refl
 
 -- the present command asks on
-pub asks_on : (actor : Actor) (reply : NodeReply) (course next : Course) (doing : Doing) (at : Doing) → IsOf actor course → course.doing ≡ Some doing
-    → next ≡ record course { doing = Some at }
-    → rest_of at ≡ goes_on (rest_of doing) reply → IsSome (request_in (rest_of at)) → readiness_of at ≡ Unready
+pub asks_on : (actor : Actor) (reply : NodeReply) (state next : ActorState) (machine : CommandMachine) (at : CommandMachine) → IsOf actor state → state.machine ≡ Some machine
+    → next ≡ record state { machine = Some at }
+    → rest_of at ≡ goes_on (rest_of machine) reply → IsSome (request_in (rest_of at)) → readiness_of at ≡ Unready
     → IsOf (after_reply actor reply) next
-asks_on actor reply course next doing at of is same goes asking unready =
-    let left : work_left actor ≡ Some (rest_of doing) = sym of.doing ∙ ap (λ o. option_map rest_of o) is in
+asks_on actor reply state next machine at of is same goes asking unready =
+    let left : work_left actor ≡ Some (rest_of machine) = sym of.machine ∙ ap (λ o. option_map rest_of o) is in
     let after : after_reply actor reply ≡ record actor { heard = actor.heard ++ reply ∷ [] } =
-    after_reply-moved actor reply (rest_of doing) left ∙ ap (λ work. moved_on actor reply (Some work)) (sym goes) ∙ moved_on-asks actor reply (rest_of at) asking in
+    after_reply-moved actor reply (rest_of machine) left ∙ ap (λ work. moved_on actor reply (Some work)) (sym goes) ∙ moved_on-asks actor reply (rest_of at) asking in
     let more : Some (rest_of at) ≡ work_left (record actor { heard = actor.heard ++ reply ∷ [] }) =
     sym (work_left-push actor reply ∙ ap (λ o. option_map (λ work. goes_on work reply) o) left ∙ ap Some (sym goes)) in
-    let holds : IsOf (record actor { heard = actor.heard ++ reply ∷ [] }) (record course { doing = Some at }) =
+    let holds : IsOf (record actor { heard = actor.heard ++ reply ∷ [] }) (record state { machine = Some at }) =
     record {
       number = of.number;
-      layout = of.layout;
+      rules = of.rules;
+      tries = of.tries;
       few = of.few;
       built = of.built;
       ahead = of.ahead;
-      doing = more;
+      machine = more;
       asks = asking;
       lines = of.lines;
       room = λ taken. absurd (subst HasTaken unready taken);
@@ -287,38 +293,39 @@ asks_on actor reply course next doing at of is same goes asking unready =
     rw (after, same) holds
 
 -- the present command ends, and the next one begins
-pub record Ends (course next : Course) (at : Doing) : Type 0 where
-  pub post : next.post ≡ course.post
+pub record Ends (state next : ActorState) (at : CommandMachine) : Type 0 where
+  pub setting : next.setting ≡ state.setting
   pub line : (report : Report) → rest_of at ≡ ends report
-      → next.replies.items ≡ course.replies.items ++ record { actor = course.post.number; command = length course.replies.items + 1; reply = kept_report report } ∷ []
-  pub rest : option_map rest_of next.doing
-      ≡ option_map (λ command. work_of course.post.layout (length course.replies.items + 2) command) (slice_get (into_iter_items course.ahead) 0)
-  pub asks : IfSome next.doing (λ doing. IsSome (request_in (rest_of doing)))
-  pub ahead : into_iter_items next.ahead ≡ drop 1 (into_iter_items course.ahead)
-  pub unready : readiness_in next.doing ≡ Unready
+      → next.replies.items ≡ state.replies.items ++ record { actor = state.setting.number; command = length state.replies.items + 1; reply = kept_report report } ∷ []
+  pub rest : option_map rest_of next.machine
+      ≡ option_map (λ command. work_of state.setting.rules (length state.replies.items + 2) command) (slice_get (into_iter_items state.ahead) 0)
+  pub asks : IfSome next.machine (λ machine. IsSome (request_in (rest_of machine)))
+  pub ahead : into_iter_items next.ahead ≡ drop 1 (into_iter_items state.ahead)
+  pub unready : readiness_in next.machine ≡ Unready
 
-pub ends_with : (actor : Actor) (reply : NodeReply) (course next : Course) (doing : Doing) (at : Doing) → IsOf actor course → course.doing ≡ Some doing
-    → rest_of at ≡ goes_on (rest_of doing) reply → request_in (rest_of at) ≡ None → Ends course next at
+pub ends_with : (actor : Actor) (reply : NodeReply) (state next : ActorState) (machine : CommandMachine) (at : CommandMachine) → IsOf actor state → state.machine ≡ Some machine
+    → rest_of at ≡ goes_on (rest_of machine) reply → request_in (rest_of at) ≡ None → Ends state next at
     → IsOf (after_reply actor reply) next
-ends_with actor reply course next doing at of is goes none ended =
-    let left : work_left actor ≡ Some (rest_of doing) = sym of.doing ∙ ap (λ o. option_map rest_of o) is in
+ends_with actor reply state next machine at of is goes none ended =
+    let left : work_left actor ≡ Some (rest_of machine) = sym of.machine ∙ ap (λ o. option_map rest_of o) is in
     let over = has_ended (rest_of at) none in
     let report : Report = over.0 in
     let then : Actor = record actor { ended = actor.ended ++ report ∷ []; heard = [] } in
     let after : after_reply actor reply ≡ then =
-    after_reply-moved actor reply (rest_of doing) left ∙ ap (λ work. moved_on actor reply (Some work)) (sym goes ∙ over.1) ∙ moved_on-ends actor reply report in
-    let lines : length course.replies.items ≡ length actor.ended = ap length of.lines ∙ length-lines actor.number 1 actor.ended in
+    after_reply-moved actor reply (rest_of machine) left ∙ ap (λ work. moved_on actor reply (Some work)) (sym goes ∙ over.1) ∙ moved_on-ends actor reply report in
+    let lines : length state.replies.items ≡ length actor.ended = ap length of.lines ∙ length-lines actor.number 1 actor.ended in
     let more : length (actor.ended ++ report ∷ []) ≡ length actor.ended + 1 = length-append actor.ended (report ∷ []) in
     let one : 1 + length actor.ended ≡ length actor.ended + 1 = omega arith in
     let two : length actor.ended + 1 + 1 ≡ length actor.ended + 2 = omega arith in
     let holds : IsOf then next =
     record {
-      number = rw ended.post of.number;
-      layout = rw ended.post of.layout;
+      number = rw ended.setting of.number;
+      rules = rw ended.setting of.rules;
+      tries = of.tries;
       few = of.few;
       built = of.built;
       ahead = rw (more, ended.ahead, of.ahead) (drop-more (length actor.ended + 1) actor.commands);
-      doing = rw (ended.rest, work_left-fresh then refl, more, of.layout, lines, of.ahead, first_of-drop (length actor.ended + 1) actor.commands, two) refl;
+      machine = rw (ended.rest, work_left-fresh then refl, more, of.rules, lines, of.ahead, first_of-drop (length actor.ended + 1) actor.commands, two) refl;
       asks = ended.asks;
       lines = rw (ended.line report over.1, of.lines, lines-push actor.number 1 actor.ended report, of.number, length-lines actor.number 1 actor.ended, one) refl;
       room = λ taken. absurd (subst HasTaken ended.unready taken);

@@ -3,4 +3,4 @@ use Rattle.std.specs.Prelude.{[]}
 use Rattle.qfs_model_actor.specs.Actor.{Actor, starting}
 
 abbrev pub nobody : Actor
-nobody = starting (record { s = 16; r = 1 }) 0 []
+nobody = starting (record { layout = record { s = 16; r = 1 }; term = 0; tries = 1 }) 0 []

@@ -11,12 +11,12 @@ ghost use Rattle.qfs_machine.specs.Askable.{IsAskable};
 ghost use Rattle.qfs_machine.specs.Asking.{IsOut, MayAsk, after_asking};
 ghost use Rattle.qfs_model_actor.specs.Shown.{kept_report};
 ghost use Rattle.qfs_machine.specs.declared.machine.Readiness.{Readiness};
-ghost use Rattle.qfs_actor.specs.Course.{IsOf, readiness_in};
-ghost use Rattle.qfs_actor.specs.Doing.{rest_of, readiness_of};
+ghost use Rattle.qfs_actor.specs.State.{IsOf, readiness_in};
+ghost use Rattle.qfs_actor.specs.CommandMachine.{rest_of, readiness_of};
 ghost use Rattle.qfs_actor.specs.Forms.{IsBuilt};
 
-use crate::doing::Doing;
-use crate::plain::Post;
+use crate::command_machine::CommandMachine;
+use crate::actor_model::Setting;
 use qfs_base::command::{Command, ReplyLine};
 use qfs_base::numbers::NodeId;
 use qfs_base::reply::NodeReply;
@@ -27,13 +27,13 @@ use std::vec;
 
 /// What an actor keeps.
 #[derive(Drop)]
-pub struct Course {
+pub struct ActorState {
     pub alloc: Global,
-    pub post: Post,
+    pub setting: Setting,
     /// The commands that haven't begun.
     pub ahead: vec::IntoIter<Command>,
     /// The present command; None where all have ended.
-    pub doing: Option<Doing>,
+    pub machine: Option<CommandMachine>,
     /// The reports of the commands that have ended.
     pub replies: Vec<ReplyLine>,
 }
@@ -41,56 +41,58 @@ pub struct Course {
 /// Begins the next command behind so many that have ended, if there is one.
 fn begin_next(
     alloc: Global,
-    post: &Post,
+    setting: &Setting,
     ended: usize,
     ahead: &mut vec::IntoIter<Command>,
-) -> Option<Doing>
+) -> Option<CommandMachine>
+    requires tries { 1 ≤ setting.now.rules.tries }
     requires few { ended + length (into_iter_items ahead.old) < 2 ^ 16 }
     requires built { All IsBuilt (into_iter_items ahead.old) }
-    ensures rest { option_map rest_of result ≡ option_map (λ command. work_of post.now.layout (ended + 1) command) (slice_get (into_iter_items ahead.old) 0) }
-    ensures asks { IfSome result (λ doing. IsSome (request_in (rest_of doing))) }
+    ensures rest { option_map rest_of result ≡ option_map (λ command. work_of setting.now.rules (ended + 1) command) (slice_get (into_iter_items ahead.old) 0) }
+    ensures asks { IfSome result (λ machine. IsSome (request_in (rest_of machine))) }
     ensures ahead { into_iter_items ahead.new ≡ drop 1 (into_iter_items ahead.old) }
     ensures unready { readiness_in result ≡ Readiness.Unready }
 {
     match ahead.next() {
         Some(command) => {
             let number = (ended + 1) as u16;
-            Some(Doing::begin(alloc, post.layout, number, command))
+            Some(CommandMachine::begin(alloc, setting.rules, number, command))
         }
         None => None,
     }
 }
 
-impl Course {
+impl ActorState {
     /// At the first command. Takes no memory.
-    pub fn new(alloc: Global, post: Post, commands: Vec<Command>) -> Course
+    pub fn new(alloc: Global, setting: Setting, commands: Vec<Command>) -> ActorState
+        requires tries { 1 ≤ setting.rules.tries }
         requires few { length commands.items < 2 ^ 16 }
         requires built { All IsBuilt commands.items }
-        ensures of { IsOf (starting post.layout post.number commands.items) result }
-        ensures unready { readiness_in result.doing ≡ Readiness.Unready }
+        ensures of { IsOf (starting setting.rules setting.number commands.items) result }
+        ensures unready { readiness_in result.machine ≡ Readiness.Unready }
     {
         let mut ahead = commands.into_iter();
-        let doing = begin_next(alloc, &post, 0, &mut ahead);
-        Course {
+        let machine = begin_next(alloc, &setting, 0, &mut ahead);
+        ActorState {
             alloc,
-            post,
+            setting,
             ahead,
-            doing,
+            machine,
             replies: Vec::new(alloc),
         }
     }
 
     /// Takes the memory for the next request, for its reply and for the line of the command's report.
     pub fn ready(&mut self) -> Result<(), AllocError>
-        requires { IsOut (readiness_in self.old.doing) → ⊥ }
+        requires { IsOut (readiness_in self.old.machine) → ⊥ }
         ensures of { (actor : Actor) → IsOf actor self.old → IsOf actor self.new }
-        ensures ok { OnOk result (IfSome self.new.doing (λ doing. readiness_of doing ≡ Readiness.Ready)) }
-        ensures err { OnErr result (readiness_in self.new.doing ≡ readiness_in self.old.doing) }
+        ensures ok { OnOk result (IfSome self.new.machine (λ machine. readiness_of machine ≡ Readiness.Ready)) }
+        ensures err { OnErr result (readiness_in self.new.machine ≡ readiness_in self.old.machine) }
     {
-        match &mut self.doing {
-            Some(doing) => {
+        match &mut self.machine {
+            Some(machine) => {
                 self.replies.reserve(1)?;
-                doing.ready()
+                machine.ready()
             }
             None => Ok(()),
         }
@@ -100,40 +102,40 @@ impl Course {
     pub fn goes_to(&self) -> Option<NodeId>
         ensures { (actor : Actor) → IsOf actor self.now → result ≡ node_of actor }
     {
-        match &self.doing {
-            Some(doing) => doing.goes_to(),
+        match &self.machine {
+            Some(machine) => machine.goes_to(),
             None => None,
         }
     }
 
     /// Hands the next request out.
     pub fn next(&mut self) -> Option<NodeRequest>
-        requires { IfSome self.old.doing (λ doing. MayAsk (readiness_of doing) (rest_of doing)) }
+        requires { IfSome self.old.machine (λ machine. MayAsk (readiness_of machine) (rest_of machine)) }
         ensures of { (actor : Actor) → IsOf actor self.old → IsOf actor self.new }
         ensures request { (actor : Actor) → IsOf actor self.old → result ≡ request_of actor }
-        ensures out { readiness_in self.new.doing ≡ after_asking result (readiness_in self.old.doing) }
+        ensures out { readiness_in self.new.machine ≡ after_asking result (readiness_in self.old.machine) }
         ensures askable { IfSome result IsAskable }
     {
-        match &mut self.doing {
-            Some(doing) => doing.next(),
+        match &mut self.machine {
+            Some(machine) => machine.next(),
             None => None,
         }
     }
 
     /// Goes on with a node's reply.
     pub fn took(&mut self, reply: NodeReply)
-        requires out { IsOut (readiness_in self.old.doing) }
+        requires out { IsOut (readiness_in self.old.machine) }
         requires of { (actor : Actor) × IsOf actor self.old }
         ensures of { (actor : Actor) → IsOf actor self.old → IsOf (after_reply actor reply) self.new }
-        ensures unready { readiness_in self.new.doing ≡ Readiness.Unready }
+        ensures unready { readiness_in self.new.machine ≡ Readiness.Unready }
     {
-        match self.doing.take() {
-            Some(mut doing) => {
-                doing.took(reply);
-                if doing.goes_to().is_some() {
-                    self.doing = Some(doing);
+        match self.machine.take() {
+            Some(mut machine) => {
+                machine.took(reply);
+                if machine.goes_to().is_some() {
+                    self.machine = Some(machine);
                 } else {
-                    self.end(doing);
+                    self.end(machine);
                 }
             }
             None => unreachable!(),
@@ -141,27 +143,28 @@ impl Course {
     }
 
     /// Keeps the report of the present command, which has ended, and begins the next one.
-    fn end(&mut self, doing: Doing)
-        requires ended { request_in (rest_of doing) ≡ None }
+    fn end(&mut self, machine: CommandMachine)
+        requires ended { request_in (rest_of machine) ≡ None }
         requires room { vec_len self.old.replies < vec_capacity self.old.replies }
+        requires tries { 1 ≤ self.old.setting.rules.tries }
         requires few { length self.old.replies.items + 1 + length (into_iter_items self.old.ahead) < 2 ^ 16 }
         requires built { All IsBuilt (into_iter_items self.old.ahead) }
-        ensures post { self.new.post ≡ self.old.post }
-        ensures line { (report : Report) → rest_of doing ≡ ends report → self.new.replies.items ≡ self.old.replies.items ++ record { actor = self.old.post.number; command = length self.old.replies.items + 1; reply = kept_report report } ∷ [] }
-        ensures rest { option_map rest_of self.new.doing ≡ option_map (λ command. work_of self.old.post.layout (length self.old.replies.items + 2) command) (slice_get (into_iter_items self.old.ahead) 0) }
-        ensures asks { IfSome self.new.doing (λ doing. IsSome (request_in (rest_of doing))) }
+        ensures setting { self.new.setting ≡ self.old.setting }
+        ensures line { (report : Report) → rest_of machine ≡ ends report → self.new.replies.items ≡ self.old.replies.items ++ record { actor = self.old.setting.number; command = length self.old.replies.items + 1; reply = kept_report report } ∷ [] }
+        ensures rest { option_map rest_of self.new.machine ≡ option_map (λ command. work_of self.old.setting.rules (length self.old.replies.items + 2) command) (slice_get (into_iter_items self.old.ahead) 0) }
+        ensures asks { IfSome self.new.machine (λ machine. IsSome (request_in (rest_of machine))) }
         ensures ahead { into_iter_items self.new.ahead ≡ drop 1 (into_iter_items self.old.ahead) }
-        ensures unready { readiness_in self.new.doing ≡ Readiness.Unready }
+        ensures unready { readiness_in self.new.machine ≡ Readiness.Unready }
     {
         let ended = self.replies.len() + 1;
         let line = ReplyLine {
-            actor: self.post.number,
+            actor: self.setting.number,
             command: ended as u16,
-            reply: doing.into_reply(),
+            reply: machine.into_reply(),
         };
         if self.replies.push(line).is_err() {
             unreachable!()
         }
-        self.doing = begin_next(self.alloc, &self.post, ended, &mut self.ahead);
+        self.machine = begin_next(self.alloc, &self.setting, ended, &mut self.ahead);
     }
 }

@@ -1,6 +1,6 @@
 use Rattle.qfs_model_actor.specs.Command.{file_work}
-use Rattle.qfs_actor.specs.Doing.{rest_of}
-use Rattle.qfs_actor.proofs.doing.begin_file.Goals as goal
+use Rattle.qfs_actor.specs.CommandMachine.{rest_of}
+use Rattle.qfs_actor.proofs.command_machine.begin_file.Goals as goal
 
 pub returns-in-Put-clause-rest : goal.returns-in-Put-clause-rest
 unfolding rest_of file_work

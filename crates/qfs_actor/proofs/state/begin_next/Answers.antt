@@ -2,8 +2,8 @@ use Rattle.std.proofs.Common.{subst, sym}
 use Rattle.std.specs.Prelude.{IsSome}
 use Rattle.qfs_model_actor.specs.Work.{Work, request_in}
 use Rattle.qfs_actor.specs.Forms.{IsBuilt}
-use Rattle.qfs_actor.proofs.Courses.{all_first, work_of-asks}
-use Rattle.qfs_actor.proofs.course.begin_next.Goals as goal
+use Rattle.qfs_actor.proofs.States.{all_first, work_of-asks}
+use Rattle.qfs_actor.proofs.state.begin_next.Goals as goal
 
 pub returns-in-Some-clause-asks : goal.returns-in-Some-clause-asks
 returns-in-Some-clause-asks c =

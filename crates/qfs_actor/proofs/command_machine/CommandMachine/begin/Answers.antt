@@ -1,5 +1,5 @@
 use Rattle.qfs_model_actor.specs.Command.{work_of}
-use Rattle.qfs_actor.proofs.doing.Doing.begin.Goals as goal
+use Rattle.qfs_actor.proofs.command_machine.CommandMachine.begin.Goals as goal
 
 pub returns-clause-rest : goal.returns-clause-rest
 unfolding work_of
