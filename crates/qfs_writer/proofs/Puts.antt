@@ -20,7 +20,7 @@ use Rattle.qfs_model_slot.specs.Slot.{slot_of}
 use Rattle.qfs_writer.specs.declared.stage.Put.{Put}
 use Rattle.qfs_writer.specs.declared.stage.PutSlot.{PutSlot}
 use Rattle.qfs_writer.specs.declared.stage.Stage.TheVariants as At
-use Rattle.qfs_writer.specs.Moves.{behind_grant, on_grant, on_store}
+use Rattle.qfs_writer.specs.Moves.{behind_grant, behind_store, on_grant}
 use Rattle.qfs_writer.specs.Rest.{bytes_put, rest_at, rest_of_grant, behind, grant_of}
 
 -- a slot that has had no server yet
@@ -121,11 +121,11 @@ created-other put (Said.Created file place) other = absurd (other file place ref
 created-other put answer other = refl
 
 -- a slot that wasn't stored is granted again
-pub on_store-failed : (put : Put) (at : PutSlot) (answer : ChunkAnswer)
+pub behind_store-failed : (put : Put) (at : PutSlot) (answer : ChunkAnswer)
     → (answer ≡ Did.Down) ⊎ (((asked : ℕ) × (now : ℕ) × (answer ≡ Did.Lost asked now)) ⊎ (answer ≡ Did.Fault))
-    → rest_of_grant put at at.grants true ≡ on_store put at answer
-unfolding on_store on_served after_store
-on_store-failed put at answer failed =
+    → rest_of_grant put at at.grants true ≡ behind_store put at answer
+unfolding behind_store after_store
+behind_store-failed put at answer failed =
     elim failed [
       | inl down ↦ rw down refl
       | inr more ↦ elim more [ inl lost ↦ rw lost.2 refl | inr fault ↦ rw fault refl ]
