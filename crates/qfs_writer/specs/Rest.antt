@@ -1,5 +1,5 @@
 -- What is left of a put at each of its stages.
-use Rattle.std.specs.Prelude.{ℕ, ◌+◌, ◌<◌, Bool, true, List, [], length, ⊤}
+use Rattle.std.specs.Prelude.{ℕ, ◌+◌, ◌<◌, Bool, true, false, List, [], length, ⊤}
 use Rattle.qfs_base.specs.Layout.{blocks_of}
 use Rattle.qfs_base.specs.Recipe.{bytes_of}
 use Rattle.qfs_base.specs.Sizes.{SLOTS}
@@ -9,7 +9,7 @@ use Rattle.qfs_base.specs.declared.reply.Granted.{Granted}
 use Rattle.qfs_base.specs.declared.request.MetaRequest.TheVariants as Ask
 use Rattle.qfs_model_actor.specs.Ask.{ask}
 use Rattle.qfs_model_actor.specs.Hold.{nothing, unclosed, end_with}
-use Rattle.qfs_model_actor.specs.Put.{aborted, store, store_slot, put_slots_from, close_file, put_work}
+use Rattle.qfs_model_actor.specs.Put.{MOST_GRANTS, aborted, store, store_slot, put_slots_from, close_file, put_work}
 use Rattle.qfs_model_actor.specs.Work.{Report, Work, ends}
 use Rattle.qfs_machine.specs.Endings.{report_of as common_report}
 use Rattle.qfs_writer.specs.declared.stage.PutEnding.{PutEnding}
@@ -29,6 +29,11 @@ report_of (With.Stored place len) = Report.Stored place len
 report_of (With.NoServer place index slot) = Report.PutNoServer place index slot
 report_of (With.Refused place refusal) = Report.Refused place refusal
 report_of (With.Common ending) = common_report ending
+
+-- a slot that has had no server yet
+abbrev pub fresh_slot : ℕ → ℕ → ℕ → PutSlot
+fresh_slot file index slot =
+    record { file = file; index = index; slot = slot; grants = MOST_GRANTS; again = false }
 
 -- a grant of a copy
 unfoldable pub grant_of : PutSlot → Copy → Granted

@@ -29,7 +29,8 @@ pub fn chunk_of(
 ) -> Result<Bytes, AllocError>
     requires block { index < blocks_of layout.now.s layout.now.r (length (bytes_of recipe.now)) }
     requires slot { slot < SLOTS }
-    ensures value { IfOk result (λ chunk. chunk ≡ slot_of layout.now (bytes_of recipe.now) index slot) }
+    ensures value { IfOk result (λ chunk.
+        chunk ≡ slot_of layout.now (bytes_of recipe.now) index slot) }
     ensures bound { IfOk result (λ chunk. length chunk ≤ MOST_CHUNK_BYTES) }
 {
     let rows = layout.rows_of(recipe.len(), index);
@@ -98,7 +99,8 @@ fn fill_parity(
 
 /// Fills `out` with the recipe's bytes from `from` on, and with zeros past the last of them.
 fn fill_from(recipe: &Recipe, from: usize, out: &mut [u8])
-    ensures { EachIndex out.new (λ i. slice_index out.new i ≡ slice_index (bytes_of recipe.now) (from + i)) }
+    ensures { EachIndex out.new (λ i. slice_index out.new i
+        ≡ slice_index (bytes_of recipe.now) (from + i)) }
 {
     let len = recipe.len() as usize;
     let start = from.min(len);

@@ -38,7 +38,8 @@ impl Put {
 
     /// How many blocks the file has.
     pub fn blocks(&self) -> u32
-        ensures { result ≡ blocks_of self.now.layout.s self.now.layout.r (length (bytes_put self.now)) }
+        ensures { result
+            ≡ blocks_of self.now.layout.s self.now.layout.r (length (bytes_put self.now)) }
     {
         self.layout.blocks_of(self.len())
     }

@@ -10,7 +10,7 @@ ghost use Rattle.qfs_model_actor.specs.Tree.{refused};
 ghost use Rattle.qfs_model_actor.specs.Work.{ends, goes_on};
 ghost use Rattle.qfs_machine.specs.Endings.{ended, report_of as common_report};
 ghost use Rattle.qfs_writer.specs.Moves.{behind_store, hold_at, on_answer_at, on_grant, on_store, AsksMeta};
-ghost use Rattle.qfs_writer.specs.Rest.{bytes_put, behind, rest_at, rest_of_grant, IsAt, IsPutSlot};
+ghost use Rattle.qfs_writer.specs.Rest.{bytes_put, behind, fresh_slot, rest_at, IsAt, IsPutSlot};
 
 use crate::stage::{Put, PutEnding, PutSlot, Stage};
 use qfs_base::chunk::Copy;
@@ -34,7 +34,7 @@ fn ended(ending: Ending) -> Stage
 
 /// The stage of a put at a slot that has had no server yet.
 fn at_slot(file: FileId, index: u32, slot: Slot) -> Stage
-    ensures { result ≡ Stage.Granting (record { file = file; index = index; slot = slot; grants = 64; again = false }) }
+    ensures { result ≡ Stage.Granting (fresh_slot file index slot) }
 {
     Stage::Granting(PutSlot {
         file,
@@ -47,7 +47,8 @@ fn at_slot(file: FileId, index: u32, slot: Slot) -> Stage
 
 /// The stage of a put whose file is there.
 fn begun(put: &Put, file: FileId) -> Stage
-    ensures rest { rest_at put.now result ≡ put_blocks_from put.now.layout (bytes_put put.now) file 0 }
+    ensures rest { rest_at put.now result
+        ≡ put_blocks_from put.now.layout (bytes_put put.now) file 0 }
     ensures at { IsAt put.now result }
 {
     if put.blocks() == 0 {
@@ -186,7 +187,8 @@ fn on_chunk(put: &Put, at: PutSlot, answer: &ChunkAnswer) -> Stage
 
 /// The ending of a put at the answer to its request to close the file.
 fn closed(put: &Put, answer: &MetaReply) -> PutEnding
-    ensures { rest_at put.now (Stage.Ended result) ≡ closed (length (bytes_put put.now)) answer.now }
+    ensures { rest_at put.now (Stage.Ended result)
+        ≡ closed (length (bytes_put put.now)) answer.now }
 {
     match answer {
         MetaReply::Done { place } => PutEnding::Stored {
@@ -266,7 +268,8 @@ fn answered(put: &Put, stage: Stage, answer: &MetaReply) -> Stage
 /// The stage of a put at an answer of the metaserver.
 fn on_meta(put: &Put, stage: Stage, answer: &MetaReply) -> Stage
     requires { IsAt put.now stage }
-    ensures rest { rest_at put.now result ≡ on_answer (end_with (hold_at stage)) (on_answer_at put.now stage) answer.now }
+    ensures rest { rest_at put.now result
+        ≡ on_answer (end_with (hold_at stage)) (on_answer_at put.now stage) answer.now }
     ensures at { IsAt put.now result }
 {
     match Ending::of_meta(answer) {
@@ -291,7 +294,8 @@ fn after_question(put: &Put, stage: Stage, reply: &NodeReply) -> Stage
 /// The stage of a put that asked a server to store a slot, at a node's reply.
 fn after_store(put: &Put, at: PutSlot, reply: &NodeReply) -> Stage
     requires { IsPutSlot put.now at }
-    ensures rest { (copy : Copy) → rest_at put.now result ≡ goes_on (rest_at put.now (Stage.Storing at copy)) reply.now }
+    ensures rest { (copy : Copy) →
+        rest_at put.now result ≡ goes_on (rest_at put.now (Stage.Storing at copy)) reply.now }
     ensures at { IsAt put.now result }
 {
     match reply {

@@ -42,7 +42,8 @@ impl Model for Writer {
     ghost use Rattle.qfs_machine.specs.Asking.{IsPending};
     ghost use Rattle.qfs_writer.specs.Rest.{rest_at, IsAt};
 
-    ghost view = { λ it. record { put = it.put; stage = it.stage; readiness = it.pending.readiness } };
+    ghost view = { λ it.
+        record { put = it.put; stage = it.stage; readiness = it.pending.readiness } };
 
     ghost invariant = { λ it.
         IsAt it.put it.stage
