@@ -5,13 +5,8 @@ use Rattle.std.proofs.lemmas.Bool.{and_parts}
 use Rattle.std.proofs.lemmas.List.{drop_more}
 use Rattle.std.proofs.lemmas.Nat.{xor_comm, xor_lt}
 use Rattle.qfs_galois.specs.Field.{product, power}
-use Rattle.qfs_galois.proofs.FieldLaws.{one-product, product-lt, product_assoc, product-zero, product-xor_right, power-zero}
+use Rattle.qfs_galois.proofs.FieldLaws.{power-lt, one-product, product-lt, product_assoc, product-zero, product-xor_right, power-zero}
 use Rattle.qfs_model_slot.specs.CodeWord.{weighted_sum, parity}
-
-power-lt : (n : ℕ) → power 2 n < 256
-unfolding power
-power-lt zero = lit< tt
-power-lt (suc n) = product-lt 2 (power 2 n) (lit< tt) (power-lt n)
 
 power_add : (m n : ℕ) → power 2 (m + n) ≡ product (power 2 m) (power 2 n)
 unfolding power

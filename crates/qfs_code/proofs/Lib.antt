@@ -1,5 +1,5 @@
 mod Dot
-mod Columns
+pub mod Columns
 mod Parity
 mod Spares
 mod Counts

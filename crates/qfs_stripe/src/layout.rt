@@ -72,7 +72,8 @@ pub trait LayoutCalls: Sized {
         requires slot { slot < DATA_SLOTS }
         requires at { at < stripe self.now * rows self.now }
         ensures value { result ≡ offset_of (stripe self.now) (rows self.now) index slot at }
-        ensures back { place_of (stripe self.now) (rows self.now) result ≡ spot_at (stripe self.now) index slot at };
+        ensures back { place_of (stripe self.now) (rows self.now) result
+            ≡ spot_at (stripe self.now) index slot at };
 
     /// The blocks that the bytes from `from` up to `to` touch, the last of which is the last one of a
     /// file of `to` bytes.
