@@ -3,5 +3,6 @@ pub mod KeyLaws
 pub mod PutLaws
 pub mod ReadLaws
 pub mod RecordLaws
+pub mod SoundLaws
 pub mod StandsLaws
 pub mod StepLaws

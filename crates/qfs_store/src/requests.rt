@@ -23,7 +23,7 @@ pub fn put<D: ChunkDevice>(
     device: &mut D,
     copies: &mut Copies,
     key: ChunkKey,
-    bytes: &[u8],
+    bytes: &Bytes,
     form: u8,
     stripe: u32,
 ) -> ChunkAnswer
@@ -41,7 +41,7 @@ pub fn put<D: ChunkDevice>(
         form,
         len: bytes.len() as u32,
     };
-    match spelled(alloc, key, bytes, form, stripe) {
+    match spelled(alloc, key, bytes.as_slice(), form, stripe) {
         Ok(record) => store(device, copies, key, size, &record),
         Err(_) => ChunkAnswer::NoMemory,
     }
