@@ -59,7 +59,8 @@ fn spelled(
     requires size { length bytes.now ≤ 67108864 }
     requires form { (form ≡ 1) ⊎ (form ≡ 2) }
     requires stripe { IsStripe stripe }
-    ensures { IfOk result (λ made. made.items ≡ chunk_record stripe key (record { form = form; bytes = bytes.now })) }
+    ensures fits { IsChunk stripe key (record { form = form; bytes = bytes.now }) }
+    ensures made { IfOk result (λ made. made.items ≡ chunk_record stripe key (record { form = form; bytes = bytes.now })) }
 {
     let mut record = Vec::new(alloc);
     let named = if form == 1 { 0 } else { stripe };
