@@ -1,3 +1,5 @@
+pub mod EntryLaws
+pub mod FoundLaws
 pub mod FreshLaws
 pub mod HeadLaws
 pub mod KeyLaws
@@ -6,4 +8,5 @@ pub mod ReadLaws
 pub mod RecordLaws
 pub mod SoundLaws
 pub mod StandsLaws
+pub mod StartStep
 pub mod StepLaws
