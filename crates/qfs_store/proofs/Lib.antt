@@ -1,8 +1,12 @@
+pub mod EntryLaws
+pub mod FoundLaws
 pub mod FreshLaws
+pub mod HeadLaws
 pub mod KeyLaws
 pub mod PutLaws
 pub mod ReadLaws
 pub mod RecordLaws
 pub mod SoundLaws
 pub mod StandsLaws
+pub mod StartStep
 pub mod StepLaws

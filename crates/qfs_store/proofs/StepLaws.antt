@@ -34,11 +34,11 @@ abbrev pub Led : ChunkRequest → ChunkReply → ℕ → Held → Option Held �
 Led request reply stripe held told known server step = (now : Held) × (told ≡ Some now) × Steps request reply stripe held now known server step
 
 -- a life that was told is the one of the device
-life_told : (life : ℕ) (told : Option Held) (held : Held) → told ≡ Some held → IsLife life told → life ≡ held.life
+pub life_told : (life : ℕ) (told : Option Held) (held : Held) → told ≡ Some held → IsLife life told → life ≡ held.life
 life_told life told held is life_is = subst (λ (t : Option Held). IsLife life t) is life_is
 
 -- nothing was handed out
-none_more : (more : Bool) (old count : ℕ) → HandsOut more old (old + (count - count))
+pub none_more : (more : Bool) (old count : ℕ) → HandsOut more old (old + (count - count))
 none_more false old count = omega arith
 none_more true old count = omega arith
 
