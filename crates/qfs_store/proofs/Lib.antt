@@ -1,4 +1,5 @@
 pub mod FreshLaws
+pub mod HeadLaws
 pub mod KeyLaws
 pub mod PutLaws
 pub mod ReadLaws
