@@ -7,3 +7,4 @@ pub mod RecordLaws
 pub mod SoundLaws
 pub mod StandsLaws
 pub mod StepLaws
+pub mod UnreadLaws

@@ -1,6 +1,6 @@
 -- A stopped server over any device: a Start finds the chunks whose records stand there, and the two stand for the server
 -- that has those copies.
-use Rattle.std.proofs.Common.{◌≡◌, ℕ, ◌+◌, Bool, true, false, cond, List, [], ◌∷◌, drop, take, Option, Some, None, is_some, inl, inr, refl, sym, ap, subst, ◌∙◌, arith}
+use Rattle.std.proofs.Common.{◌≡◌, ℕ, ◌+◌, Bool, true, cond, List, [], ◌∷◌, drop, take, Option, Some, None, is_some, inl, inr, refl, sym, ap, subst, ◌∙◌, arith}
 use Rattle.std.specs.List.{AllByRecursion, cons_option}
 use Rattle.std.specs.List.Sorted.{IsStrictlySortedBy}
 use Rattle.std.specs.Map.{keys_of}
@@ -84,7 +84,7 @@ below_none stripe key (e ∷ es) above =
     elim (copy_under stripe e.0 e.1) as (λ (o : Option CopySize). value_at key_cmp (with_chunk e.0 e.1 o (chunks_in stripe es)) key ≡ None) [
       | None ↦ below_none stripe key es above.1
       | Some size ↦
-        ap (λ (r : Ordering). cond (is_eq r) (Some (chunk_of e.1 size)) (value_at key_cmp (chunks_in stripe es) key)) above.0 ∙ below_none stripe key es above.1
+          ap (λ (r : Ordering). cond (is_eq r) (Some (chunk_of e.1 size)) (value_at key_cmp (chunks_in stripe es) key)) above.0 ∙ below_none stripe key es above.1
     ]
 
 value_with : (key : ChunkKey) (bytes : List ℕ) (size : Option CopySize) (others : Copies) (q : ChunkKey) → value_at key_cmp others key ≡ None
@@ -108,7 +108,7 @@ all_sizes stripe [] fronts = refl
 all_sizes stripe (e ∷ es) fronts =
     let rest = all_sizes stripe es fronts.1 in
     elim (copy_under stripe e.0 e.1) as (λ (o : Option CopySize). copy_under stripe e.0 e.1 ≡ o
-        → cons_option (option_map (entry_of e.0) o) (copies_in stripe es) ≡ sizes_in (with_chunk e.0 e.1 o (chunks_in stripe es))) [
+    → cons_option (option_map (entry_of e.0) o) (copies_in stripe es) ≡ sizes_in (with_chunk e.0 e.1 o (chunks_in stripe es))) [
       | None ↦ λ is. rest
       | Some size ↦ λ is.
           let same = (chunk_stands stripe e.0 e.1 size fronts.0 is).1 in
