@@ -10,3 +10,4 @@ pub mod SoundLaws
 pub mod StandsLaws
 pub mod StartStep
 pub mod StepLaws
+pub mod UnreadLaws
