@@ -44,11 +44,11 @@ handed_as false old new out reads count least exact handed = let same = exact re
 handed_as true old new out reads count least exact handed = omega arith
 
 start_done : (stripe life : ℕ) (up : Bool) (held : Held) (told told' : Option Held) (known : Known) (copies' : Sizes) (server : Server)
-    → told ≡ Some held → IsStrictlySortedBy key_cmp (keys_of known.copies) → StandsOn stripe held known server → known.up ≡ up → IsLife life told'
+    → told ≡ Some held → StandsOn stripe held known server → known.up ≡ up → IsLife life told'
     → FindsCopies stripe up known.copies copies' told told'
     → Led Ask.Start (without_room (Answer.Started life)) stripe held told' (record known { up = true; copies = copies' }) server (chunk_served server Ask.Start)
 unfolding chunk_served
-start_done stripe life true held told told' known copies' server told_is rising stands up life_is found =
+start_done stripe life true held told told' known copies' server told_is stands up life_is found =
     let now_is : told' ≡ Some held = found.1 ∙ told_is in (
       held,
       now_is,
@@ -58,10 +58,10 @@ start_done stripe life true held told told' known copies' server told_is rising 
         handed = nothing_more (has_strays held server) held.handed_out server.handed_out (start_reads server) (none_up server (sym stands.up ∙ up));
       },
     )
-start_done stripe life false held told told' known copies' server told_is rising stands up life_is found =
-    let finds : Found stripe held copies' told' = found held told_is in
+start_done stripe life false held told told' known copies' server told_is stands up life_is found =
+    let finds : Found stripe held copies' told' = found.1 held told_is in
     let now = finds.reads.after in
-    let known_rise = subst (λ (t : Sizes). IsStrictlySortedBy key_cmp (keys_of t)) stands.copies rising in
+    let known_rise = subst (λ (t : Sizes). IsStrictlySortedBy key_cmp (keys_of t)) stands.copies found.0 in
     let same : copies_in stripe held.contents ≡ sizes_in server.copies = copies_found stripe held server stands.stands finds.rising known_rise finds.bytes in
     let reads : ReadsAs held server = reads_as stripe held server stands.stands (sym stands.up ∙ up) finds.rising finds.bytes same in (
       now,
@@ -83,13 +83,13 @@ some_more : (old new out count : ℕ) → kept new ≡ kept (old + count) → ke
 some_more old new out count handed = omega arith
 
 pub start_step : (stripe : ℕ) (answer : ChunkAnswer) (held : Held) (told told' : Option Held) (known : Known) (copies' : Sizes) (server : Server)
-    → told ≡ Some held → IsStrictlySortedBy key_cmp (keys_of known.copies) → StandsOn stripe held known server
+    → told ≡ Some held → StandsOn stripe held known server
     → StartLeaves stripe known.up answer known.copies copies' told told'
     → Led Ask.Start (without_room answer) stripe held told' (record known { up = up_after answer known.up; copies = copies' }) server (chunk_attempted server Ask.Start (chunk_outcome answer))
 unfolding chunk_attempted chunk_outcome room_of
-start_step stripe (Answer.Started life) held told told' known copies' server told_is rising stands left =
-    start_done stripe life known.up held told told' known copies' server told_is rising stands refl left.0 left.1
-start_step stripe Answer.Fault held told told' known copies' server told_is rising stands left =
+start_step stripe (Answer.Started life) held told told' known copies' server told_is stands left =
+    start_done stripe life known.up held told told' known copies' server told_is stands refl left.0 left.1
+start_step stripe Answer.Fault held told told' known copies' server told_is stands left =
     let read = left.1 held told_is in
     let reads : Reads held told' read.0 = read.1 in (
       reads.after,
@@ -100,7 +100,7 @@ start_step stripe Answer.Fault held told told' known copies' server told_is risi
         handed = some_more held.handed_out reads.after.handed_out server.handed_out read.0 reads.handed;
       },
     )
-start_step stripe Answer.NoMemory held told told' known copies' server told_is rising stands left = (
+start_step stripe Answer.NoMemory held told told' known copies' server told_is stands left = (
   held,
   left.1 ∙ told_is,
   record {
@@ -109,4 +109,4 @@ start_step stripe Answer.NoMemory held told told' known copies' server told_is r
     handed = none_more false held.handed_out server.handed_out;
   },
 )
-start_step stripe _ held told told' known copies' server told_is rising stands left = absurd left
+start_step stripe _ held told told' known copies' server told_is stands left = absurd left

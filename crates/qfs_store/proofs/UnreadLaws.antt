@@ -149,7 +149,7 @@ pub start_unread : (stripe : ℕ) (answer : ChunkAnswer) (told told' : Option He
 start_unread stripe (Answer.Started life) told told' known copies' waits left tells now now_is =
     let before = some_of told (sym tells ∙ ap is_some now_is) in
     let finds = subst (λ (up : Bool). FindsCopies stripe up known.copies copies' told told') waits.down left.1 in
-    inl (server_on stripe known.form now, started_stands stripe known.form before.0 now told' copies' (finds before.0 before.1) now_is)
+    inl (server_on stripe known.form now, started_stands stripe known.form before.0 now told' copies' (finds.1 before.0 before.1) now_is)
 start_unread stripe Answer.Fault told told' known copies' waits left tells now now_is =
     inr (record { down = waits.down; none = left.0 ∙ waits.none })
 start_unread stripe Answer.NoMemory told told' known copies' waits left tells now now_is =

@@ -200,7 +200,7 @@ pub fn start<D: ChunkDevice>(
     }
     match copies_on(alloc, device, stripe) {
         Ok(found) => {
-            *copies = found;
+            copies.replace(found);
             *up = true;
             ChunkAnswer::Started {
                 life: device.life(),
