@@ -211,7 +211,7 @@ all_found stripe held server [] stands there none = tt
 all_found stripe held server (e ∷ es) stands there none =
     let parts = neither (not (has_key key_cmp server.copies e.0)) (list_any (λ (chunk : ChunkKey × List ℕ). not (has_key key_cmp server.copies chunk.0)) es) none in (
       one_found stripe e.0 e.1 (value_at key_cmp server.copies e.0)
-      (subst (λ (found : Option (List ℕ)). HoldsUnder stripe e.0 found (value_at key_cmp server.copies e.0)) there.0 (stands.keys e.0)) parts.0,
+          (subst (λ (found : Option (List ℕ)). HoldsUnder stripe e.0 found (value_at key_cmp server.copies e.0)) there.0 (stands.keys e.0)) parts.0,
       all_found stripe held server es stands there.1 parts.1,
     )
 

@@ -1,11 +1,11 @@
 -- A start tells the record of a copy by its head: where a record stands its head tells the copy, and where a head tells
 -- one, its record stands there.
-use Rattle.std.proofs.Common.{◌≡◌, ℕ, ◌+◌, ◌-◌, ◌≤◌, Bool, true, false, cond, List, [], ◌++◌, length, take, drop, append_assoc, Option, Some, None, inl, inr, refl, sym, ap, subst, ◌∙◌, arith}
+use Rattle.std.proofs.Common.{◌≡◌, ℕ, ◌+◌, ◌≤◌, Bool, true, false, cond, List, [], ◌++◌, length, take, drop, append_assoc, Option, Some, None, inl, inr, refl, sym, ap, subst, ◌∙◌, arith}
 use Rattle.std.specs.Prelude.{nat_le, ◌==◌, ◌&&◌, ◌||◌}
 use Rattle.std.specs.Option.{option_map}
-use Rattle.std.specs.Ordering.{is_eq, match_ordering}
+use Rattle.std.specs.Ordering.{is_eq}
 use Rattle.std.proofs.lemmas.Bool.Decides.{nat_tests, Decides-eqb}
-use Rattle.std.proofs.lemmas.List.{append-nil, length-append, take-append-drop, take_at, drop_at}
+use Rattle.std.proofs.lemmas.List.{append-nil, length-append, take-append-drop, take_at}
 use Rattle.std.proofs.lemmas.Option.{same_Some}
 use Rattle.qfs_base.specs.Key.{key_cmp}
 use Rattle.qfs_base.specs.declared.chunk.ChunkKey.{ChunkKey}
@@ -71,11 +71,11 @@ pub record_front : (stripe : ℕ) (key : ChunkKey) (copy : Chunk) → IsHead (he
 record_front stripe key copy fits =
     elim fits.named [
       | inl one ↦
-        subst (λ (form : ℕ). length (chunk_record stripe key (with_form form copy.bytes)) ≡ head_bytes form + length copy.bytes → front_bytes (chunk_record stripe key (with_form form copy.bytes)) ≡ head_bytes form)
-        (sym one.0) (first_front stripe key copy.bytes) (record_long stripe key copy fits)
+          subst (λ (form : ℕ). length (chunk_record stripe key (with_form form copy.bytes)) ≡ head_bytes form + length copy.bytes → front_bytes (chunk_record stripe key (with_form form copy.bytes)) ≡ head_bytes form)
+          (sym one.0) (first_front stripe key copy.bytes) (record_long stripe key copy fits)
       | inr two ↦
-        subst (λ (form : ℕ). length (chunk_record stripe key (with_form form copy.bytes)) ≡ head_bytes form + length copy.bytes → front_bytes (chunk_record stripe key (with_form form copy.bytes)) ≡ head_bytes form)
-        (sym two.0) (second_front stripe key copy.bytes) (record_long stripe key copy fits)
+          subst (λ (form : ℕ). length (chunk_record stripe key (with_form form copy.bytes)) ≡ head_bytes form + length copy.bytes → front_bytes (chunk_record stripe key (with_form form copy.bytes)) ≡ head_bytes form)
+          (sym two.0) (second_front stripe key copy.bytes) (record_long stripe key copy fits)
     ]
 
 head_again : (head : Head) → IsHead head → head_in (head_text head) ≡ Some head
@@ -125,8 +125,8 @@ stripe_of form stripe named is test =
     elim is [
       | inl one ↦ ap (λ (n : ℕ). named_stripe n stripe) one.0 ∙ sym one.1
       | inr two ↦
-        ap (λ (n : ℕ). named_stripe n stripe) two.0
-        ∙ sym ((Decides-eqb named stripe).0 (ap (λ (n : ℕ). (n == 1) || (named == stripe)) (sym two.0) ∙ test))
+          ap (λ (n : ℕ). named_stripe n stripe) two.0
+          ∙ sym ((Decides-eqb named stripe).0 (ap (λ (n : ℕ). (n == 1) || (named == stripe)) (sym two.0) ∙ test))
     ]
 
 same_head : (stripe : ℕ) (key : ChunkKey) (head : Head) (bytes : List ℕ) → head.key ≡ key → named_stripe head.form stripe ≡ head.stripe → length bytes ≡ head.len
@@ -155,11 +155,13 @@ found_record stripe key bytes size are found =
     let bytes_long : length bytes ≡ length (head_text head) + length behind = ap length parts ∙ length-append (head_text head) behind in
     let long : length behind ≡ head.len = omega (arith, whole, text_long, bytes_long) in
     let same : head_of stripe key (with_form head.form behind) ≡ head =
-    same_head stripe key head behind (sym (same_key-is head.key key tests.0)) (stripe_of head.form stripe head.stripe fits.named tests.1) long in (
+    same_head stripe key head behind (sym (same_key-is head.key key tests.0)) (stripe_of head.form stripe head.stripe fits.named tests.1) long in
+    let spelled : bytes ≡ head_text (head_of stripe key (with_form head.form behind)) ++ behind = parts ∙ ap (λ (h : Head). head_text h ++ behind) (sym same) in
+    let known : size_of (with_form head.form behind) ≡ size_in head = ap (λ (n : ℕ). record { form = head.form; len = n }) long in (
       with_form head.form behind,
       record {
         fits = subst IsHead (sym same) fits;
-        spelled = ap (λ (b : List ℕ). Some b) (parts ∙ ap (λ (h : Head). head_text h ++ behind) (sym same));
+        spelled = ap (λ (b : List ℕ). Some b) spelled;
       },
-      ap (λ (n : ℕ). record { form = head.form; len = n }) long ∙ told.2.1,
+      known ∙ told.2.1,
     )

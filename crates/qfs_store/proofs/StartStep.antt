@@ -1,5 +1,5 @@
 -- A Start is the step of the server that the store stood for.
-use Rattle.std.proofs.Common.{◌≡◌, ℕ, ◌+◌, ◌-◌, ◌≤◌, Bool, true, false, List, [], Option, Some, None, refl, sym, ap, subst, ◌∙◌, arith}
+use Rattle.std.proofs.Common.{◌≡◌, ℕ, ◌+◌, ◌-◌, ◌≤◌, Bool, true, false, Option, Some, refl, sym, ap, subst, ◌∙◌, arith}
 use Rattle.std.specs.List.Sorted.{IsStrictlySortedBy}
 use Rattle.std.specs.Map.{keys_of}
 use Rattle.qfs_base.specs.Key.{key_cmp}
@@ -9,7 +9,7 @@ use Rattle.qfs_base.specs.declared.reply.ChunkAnswer.TheVariants as Answer
 use Rattle.qfs_base.specs.declared.request.ChunkRequest.TheVariants as Ask
 use Rattle.qfs_device.specs.Held.{Held}
 use Rattle.qfs_model_server.specs.Server.{Server, chunk_attempted, chunk_served, room_of, start_reads, without_room}
-use Rattle.qfs_model_store.specs.Stands.{HandsOut, StandsFor, kept}
+use Rattle.qfs_model_store.specs.Stands.{HandsOut, kept}
 use Rattle.qfs_store.specs.Known.{Known, Sizes, sizes_in}
 use Rattle.qfs_store.specs.Serves.{IsLife, FindsCopies, StartLeaves, has_strays, up_after}
 use Rattle.qfs_store.specs.Start.{Reads, Found, copies_in, fronts}
