@@ -1,9 +1,11 @@
+pub mod DoesLaws
 pub mod EntryLaws
 pub mod FoundLaws
 pub mod FreshLaws
 pub mod HeadLaws
 pub mod KeyLaws
 pub mod PutLaws
+pub mod RangeLaws
 pub mod ReadLaws
 pub mod RecordLaws
 pub mod SoundLaws
