@@ -8,6 +8,7 @@ pub mod PutLaws
 pub mod RangeLaws
 pub mod ReadLaws
 pub mod RecordLaws
+pub mod ServeLaws
 pub mod SoundLaws
 pub mod StandsLaws
 pub mod StartStep

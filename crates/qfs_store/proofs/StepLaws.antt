@@ -63,7 +63,7 @@ refused_step request answer outcome before held server told_is stands due =
     (stayed request before.stripe held before.told before.known server answer (room_of request) told_is stands)
 
 -- what is let through is attempted
-attempted : (request : ChunkRequest) (outcome : Outcome) (stripe : ℕ) (held : Held) (known : Known) (server : Server) → StandsOn stripe held known server
+pub attempted : (request : ChunkRequest) (outcome : Outcome) (stripe : ℕ) (held : Held) (known : Known) (server : Server) → StandsOn stripe held known server
     → refusal known held.life request ≡ None → server_step request outcome server ≡ chunk_attempted server request outcome
 unfolding server_step chunk_decided
 attempted request outcome stripe held known server stands none =
