@@ -8,6 +8,7 @@
 ghost use Rattle.std.specs.Prelude.{◌≡◌, ◌*◌, length, vec_len, IfOk};
 
 use qfs_base::mask::Mask;
+use qfs_base::sizes::{DATA_SLOTS, SLOTS};
 use qfs_code::{encode, restore};
 use qfs_recipe::{Form, Recipe, RecipeCalls};
 use std::rt::Runtime;
@@ -21,7 +22,7 @@ const SIZE: usize = 65_536;
 const BLOCKS: u32 = 400;
 
 /// The data bytes of all these blocks.
-const DATA: u32 = BLOCKS * 6 * 65_536;
+const DATA: u32 = BLOCKS * DATA_SLOTS as u32 * 65_536;
 
 fn main(rt: HostRuntime) -> io::Result<()> {
     let mut words = env::args(&rt)?;
@@ -34,7 +35,7 @@ fn main(rt: HostRuntime) -> io::Result<()> {
 
 /// Prints all rates.
 fn measure<R: Runtime>(rt: &R) -> io::Result<()> {
-    let mut nine = buffer(rt, 9 * SIZE)?;
+    let mut nine = buffer(rt, SLOTS as usize * SIZE)?;
     let mut out = buffer(rt, SIZE)?;
     let encoding = time_encoding(rt, nine.as_mut_slice())?;
     let restoring = time_restoring(rt, nine.as_slice(), out.as_mut_slice())?;
@@ -72,9 +73,9 @@ fn buffer<R: Runtime>(rt: &R, len: usize) -> io::Result<Vec<u8, R::A>>
 
 /// How long the blocks take to encode.
 fn time_encoding<R: Runtime>(rt: &R, nine: &mut [u8]) -> io::Result<Duration>
-    requires { length nine.old ≡ 9 * 65536 }
+    requires { length nine.old ≡ SLOTS * 65536 }
 {
-    let (six, parity) = nine.split_at_mut(6 * SIZE);
+    let (six, parity) = nine.split_at_mut(DATA_SLOTS as usize * SIZE);
     let start = Instant::now(rt)?;
     for _block in 0..BLOCKS {
         encode(six, SIZE, parity);
@@ -84,12 +85,12 @@ fn time_encoding<R: Runtime>(rt: &R, nine: &mut [u8]) -> io::Result<Duration>
 
 /// How long slots 0, 1 and 2 of the blocks take to restore.
 fn time_restoring<R: Runtime>(rt: &R, nine: &[u8], out: &mut [u8]) -> io::Result<Duration>
-    requires nine { length nine.now ≡ 9 * 65536 }
+    requires nine { length nine.now ≡ SLOTS * 65536 }
     requires out { length out.old ≡ 65536 }
 {
     let have = Mask::none().with(3).with(4).with(5).with(6).with(7).with(8);
     let start = Instant::now(rt)?;
-    if have.count() >= 6 {
+    if have.count() >= DATA_SLOTS as usize {
         for _block in 0..BLOCKS {
             for want in 0..3u8 {
                 restore(have, nine, SIZE, want, out);

@@ -1,5 +1,5 @@
 -- The bytes of slots at one offset, and the sum of weighed slots by its bytes.
-use Rattle.std.proofs.Common.{◌≡◌, ℕ, zero, suc, ◌*◌, ◌<◌, List, [], ◌∷◌, length, get_or, take, drop, refl, arith}
+use Rattle.std.proofs.Common.{◌≡◌, ℕ, zero, suc, ◌*◌, ◌<◌, List, [], ◌∷◌, length, get_or, take, drop, refl, arith, ap, ◌∙◌, ◌+◌, get_or-take, get_or-drop}
 use Rattle.std.proofs.lemmas.List.{length-map}
 use Rattle.std.proofs.lemmas.List.FromFn.{length-map-range_with_len, get_or-map-range_with_len, fill_by_all}
 use Rattle.qfs_model_slot.specs.CodeWord.{column, slot_at}
@@ -37,3 +37,9 @@ pub weighed_by_bytes : (out weights : List ℕ) (size : ℕ) (slots : List (List
     → ((t : ℕ) → t < size → get_or out t 0 ≡ dot weights (column slots t)) → out ≡ weighed weights size slots
 unfolding weighed
 weighed_by_bytes out weights size slots long bytes = fill_by_all (λ t. dot weights (column slots t)) out size 0 long bytes
+
+-- the byte of a slot at an offset, in the list of all
+pub byte_of_slots : (count size : ℕ) (bytes : List ℕ) (j t : ℕ) → j < count → t < size → get_or (column (slots_of count size bytes) t) j 0 ≡ get_or bytes (j * size + t) 0
+byte_of_slots count size bytes j t slot inside =
+    get_or-column (slots_of count size bytes) t j ∙ ap (λ (s : List ℕ). get_or s t 0) (slot_at-slots_of count size bytes j slot)
+    ∙ get_or-take size (drop (j * size) bytes) t 0 inside ∙ get_or-drop (j * size) bytes t 0

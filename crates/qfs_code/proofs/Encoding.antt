@@ -8,11 +8,10 @@ use Rattle.std.proofs.lemmas.List.FromFn.{get_or-map-range_with_len}
 use Rattle.std.specs.List.{list_all}
 use Rattle.qfs_galois.specs.Field.{polynomial_product, remainder, product, power}
 use Rattle.qfs_model_slot.specs.CodeWord.{parity, column, slot_at, IsCodeWord, AreCodeWords}
-use Rattle.qfs_model_slot.specs.Restored.{weighed}
 use Rattle.qfs_code.specs.Code.{parity_row, parity_slot, parity_slots, slots_of}
 use Rattle.qfs_code.proofs.Parity.{parity_by_row}
 use Rattle.qfs_code.proofs.Dot.{dot-lt, all_bytes}
-use Rattle.qfs_code.proofs.Columns.{length-column, get_or-column, length-slots_of, length-weighed, get_or-weighed}
+use Rattle.qfs_code.proofs.Columns.{length-column, get_or-column, length-slots_of, length-weighed, get_or-weighed, weighed_by_bytes}
 
 -- ---- bytes
 
@@ -30,7 +29,7 @@ bytes-append (x ∷ xs) ys h k =
 byte_at : (slot : List ℕ) (t : ℕ) → All (λ byte. byte < 256) slot → get_or slot t 0 < 256
 byte_at slot t bytes = ⊎_elim (λ inside. bytes t 0 inside) (λ past. omega (arith, get_or_past slot t 0 past)) (cases_lt t (length slot))
 
-column_bytes : (slots : List (List ℕ)) (t : ℕ) → All (λ slot. All (λ byte. byte < 256) slot) slots → list_all (λ x. ltb x 256) (column slots t) ≡ true
+pub column_bytes : (slots : List (List ℕ)) (t : ℕ) → All (λ slot. All (λ byte. byte < 256) slot) slots → list_all (λ x. ltb x 256) (column slots t) ≡ true
 unfolding column
 column_bytes [] t _ = refl
 column_bytes (s ∷ ss) t bytes =
@@ -142,11 +141,13 @@ three_slots size a b c la lb lc =
     ∙ ap (take size) (sym (append-nil c)) ∙ take_at c [] size lc in
     λ i. first i ∷ second i ∷ third i ∷ []
 
--- a sum by what the data slots count in a parity slot is that parity slot
-pub as_parity_slot : (e size : ℕ) (six row out : List ℕ) → row ≡ parity_row e → out ≡ weighed row size (slots_of (length row) size six)
-    → out ≡ parity_slot e size (slots_of 6 size six)
-unfolding parity_slot parity_row
-as_parity_slot e size six row out is sum = sum ∙ ap (λ r. weighed r size (slots_of (length r) size six)) is
+-- a slot whose bytes are parity bytes is that parity slot
+pub parity_slot-by_bytes : (e size : ℕ) (six : List (List ℕ)) (out : List ℕ) → length six ≡ 6 → length out ≡ size
+    → ((t : ℕ) → t < length out → get_or out t 0 ≡ parity e (column six t)) → out ≡ parity_slot e size six
+unfolding parity_slot
+parity_slot-by_bytes e size six out long wide bytes =
+    weighed_by_bytes out (parity_row e) size six wide
+    (λ t l. bytes t (omega arith) ∙ parity_by_row e (column six t) (length-column six t ∙ long))
 
 pub length-parity_slot : (e size : ℕ) (six : List (List ℕ)) → length (parity_slot e size six) ≡ size
 unfolding parity_slot

@@ -1,8 +1,9 @@
 mod Dot
-mod Columns
+pub mod Columns
 mod Parity
 mod Spares
 mod Counts
+mod Horner
 mod LeftOut
 mod Words
 mod WantedSlot

@@ -6,37 +6,18 @@
 ghost use Rattle.std.specs.Prelude.{◌≡◌, ◌<◌, ◌≤◌, length, false};
 ghost use Rattle.qfs_base.specs.Mask.{IsMask, has_slot};
 ghost use Rattle.qfs_model_slot.specs.Restored.{combination, counts_of, equation, is_spare, last_besides, left_out, weight, weights, without_slots};
-ghost use Rattle.qfs_code.specs.Code.{parity_row};
 
 use crate::combine::dot;
 use qfs_base::mask::Mask;
-use qfs_base::numbers::{SLOTS, Slot};
+use qfs_base::numbers::Slot;
+use qfs_base::sizes::{DATA_SLOTS, SLOTS};
 use qfs_galois::{inv, mul, pow2};
-
-/// How many slots hold data; those behind them hold parity.
-const DATA_SLOTS: Slot = 6;
-
-/// What the data slots count in parity slot 6 + `e`: slot i counts 2^(e * i).
-#[tactic(auto, unfolding(crate::specs::Code::parity_row))]
-pub fn parity_row(e: u32) -> [u8; 6]
-    requires { e < 3 }
-    ensures { result ≡ parity_row e }
-{
-    [
-        pow2(0),
-        pow2(e),
-        pow2(e * 2),
-        pow2(e * 3),
-        pow2(e * 4),
-        pow2(e * 5),
-    ]
-}
 
 /// What each slot counts in slot `want`, which isn't at hand: nothing where it isn't at hand itself.
 pub fn weights(have: Mask, want: Slot) -> [u8; 9]
     requires mask { IsMask have }
-    requires enough { 6 ≤ length have }
-    requires want { want < 9 }
+    requires enough { DATA_SLOTS ≤ length have }
+    requires want { want < SLOTS }
     requires missing { has_slot have want ≡ false }
     ensures { result ≡ weights have want }
 {
@@ -51,7 +32,7 @@ pub fn weights(have: Mask, want: Slot) -> [u8; 9]
 /// What a slot counts in the wanted one by its equation: nothing where it isn't at hand.
 #[tactic(auto, unfolding(qfs_model_slot::specs::Restored::weight))]
 fn weight(have: Mask, equation: &[u8; 3], slot: Slot) -> u8
-    requires { slot < 9 }
+    requires { slot < SLOTS }
     ensures { result ≡ weight have equation.now slot }
 {
     if have.contains(slot) {
@@ -65,8 +46,8 @@ fn weight(have: Mask, equation: &[u8; 3], slot: Slot) -> u8
 #[tactic(auto, unfolding(qfs_model_slot::specs::Restored::combination, qfs_model_slot::specs::Restored::equation, qfs_model_slot::specs::Restored::scaled_to, qfs_model_slot::specs::Restored::cross, qfs_model_slot::specs::Restored::without_slots))]
 fn equation(have: Mask, want: Slot) -> [u8; 3]
     requires mask { IsMask have }
-    requires enough { 6 ≤ length have }
-    requires want { want < 9 }
+    requires enough { DATA_SLOTS ≤ length have }
+    requires want { want < SLOTS }
     requires missing { has_slot have want ≡ false }
     ensures { result ≡ equation have want }
 {
@@ -83,8 +64,8 @@ fn equation(have: Mask, want: Slot) -> [u8; 3]
 /// A combination of the three equations from which slots `b` and `c` drop out.
 #[tactic(auto, unfolding(qfs_model_slot::specs::Restored::minor, qfs_model_slot::specs::Restored::cross, qfs_model_slot::specs::Restored::without_slots))]
 fn without_slots(b: Slot, c: Slot) -> [u8; 3]
-    requires b { b < 9 }
-    requires c { c < 9 }
+    requires b { b < SLOTS }
+    requires c { c < SLOTS }
     ensures { result ≡ without_slots b c }
 {
     let b = counts_of(b);
@@ -99,7 +80,7 @@ fn without_slots(b: Slot, c: Slot) -> [u8; 3]
 /// What a slot counts in the equations of the three parity slots.
 #[tactic(auto, unfolding(qfs_model_slot::specs::Restored::counts_of, qfs_model_slot::specs::Restored::counts))]
 fn counts_of(slot: Slot) -> [u8; 3]
-    requires { slot < 9 }
+    requires { slot < SLOTS }
     ensures { result ≡ counts_of slot }
 {
     if slot < DATA_SLOTS {
@@ -117,7 +98,7 @@ fn counts_of(slot: Slot) -> [u8; 3]
 #[tactic(auto, unfolding(qfs_model_slot::specs::Restored::left_out))]
 fn left_out(have: Mask, want: Slot, other: Slot) -> Slot
     ensures value { result ≡ left_out have want other }
-    ensures slot { result < 9 }
+    ensures slot { result < SLOTS }
 {
     for slot in 0..SLOTS {
         if is_spare(have, want, other, slot) {
@@ -139,7 +120,7 @@ fn is_spare(have: Mask, want: Slot, other: Slot, slot: Slot) -> bool
 #[tactic(auto, unfolding(qfs_model_slot::specs::Restored::last_besides))]
 fn last_besides(want: Slot, other: Slot) -> Slot
     ensures value { result ≡ last_besides want other }
-    ensures slot { result < 9 }
+    ensures slot { result < SLOTS }
 {
     if want != 8 && other != 8 {
         8

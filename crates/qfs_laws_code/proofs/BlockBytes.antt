@@ -4,9 +4,10 @@ use Rattle.std.specs.Prelude.{nat_lt}
 use Rattle.std.proofs.lemmas.Nat.{xor_lt}
 use Rattle.qfs_base.specs.Layout.{offset_of}
 use Rattle.qfs_base.specs.Shape.{Shape}
+use Rattle.qfs_base.specs.Sizes.{DATA_SLOTS}
 use Rattle.qfs_galois.specs.Field.{product, power}
-use Rattle.qfs_galois.proofs.FieldLaws.{product-lt}
-use Rattle.qfs_model_slot.specs.CodeWord.{DATA_SLOTS, data_slots, weighted_sum, parity}
+use Rattle.qfs_galois.proofs.FieldLaws.{power-lt, product-lt}
+use Rattle.qfs_model_slot.specs.CodeWord.{data_slots, weighted_sum, parity}
 use Rattle.qfs_model_slot.specs.Slot.{data_byte, data_bytes, byte_of_kind, slot_byte}
 
 -- what stands at a place of bytes is a byte, also behind their end
@@ -15,18 +16,13 @@ byte_at [] i each = lit< tt
 byte_at (b ∷ bs) zero each = each 0 0 (omega arith)
 byte_at (b ∷ bs) (suc i) each = byte_at bs i (λ k d inside. each (suc k) d (omega arith))
 
-power_lt : (n : ℕ) → power 2 n < 256
-unfolding power
-power_lt zero = lit< tt
-power_lt (suc n) = product-lt 2 (power 2 n) (lit< tt) (power_lt n)
-
 -- a weighted sum of bytes is a byte
 sum_lt : (f : ℕ → ℕ) → ((j : ℕ) → f j < 256) → (e i : ℕ) (js : List ℕ) → weighted_sum e i (map f js) < 256
 unfolding weighted_sum
 sum_lt f fits e i [] = lit< tt
 sum_lt f fits e i (j ∷ js) =
     xor_lt 8 (product (power 2 (e * i)) (f j)) (weighted_sum e (i + 1) (map f js))
-    (product-lt (power 2 (e * i)) (f j) (power_lt (e * i)) (fits j))
+    (product-lt (power 2 (e * i)) (f j) (power-lt (e * i)) (fits j))
     (sum_lt f fits e (i + 1) js)
 
 module _ (layout : Shape) (bytes : List ℕ) (k a : ℕ) (each : All (λ byte. byte < 256) bytes) where

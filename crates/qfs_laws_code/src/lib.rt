@@ -4,6 +4,7 @@
 ghost use Rattle.std.specs.Prelude.{◌≡◌, ℕ, ◌+◌, ◌<◌, ◌≤◌, List, All, length, map, true};
 ghost use Rattle.qfs_base.specs.Mask.{IsMask, has_slot};
 ghost use Rattle.qfs_base.specs.Shape.{Shape};
+ghost use Rattle.qfs_base.specs.Sizes.{SLOTS, DATA_SLOTS};
 ghost use Rattle.qfs_model_slot.specs.CodeWord.{AreCodeWords, slot_at};
 ghost use Rattle.qfs_model_slot.specs.Restored.{restored};
 ghost use Rattle.qfs_model_slot.specs.Slot.{chunk_len};
@@ -17,16 +18,19 @@ pub fn slots_of_blocks_are_code_words()
 
 /// The same part of each of nine slots that are code words is one too.
 pub fn parts_are_code_words()
-    ensures { (size at count : ℕ) (slots : List (List ℕ)) → at + count ≤ size → AreCodeWords size slots
+    ensures { (size at count : ℕ) (slots : List (List ℕ))
+        → at + count ≤ size → AreCodeWords size slots
         → AreCodeWords count (map (part at count) slots) }
 {}
 
 /// Six or more right slots of a block, read over any part of their bytes, give that part of each
 /// slot, whatever stands in the places of the others.
 pub fn six_slots_give_each()
-    ensures { (layout : Shape) (bytes : List ℕ) (k at count : ℕ) (have : List ℕ) (nine : List (List ℕ)) (want : ℕ)
+    ensures { (layout : Shape) (bytes : List ℕ) (k at count : ℕ)
+        (have : List ℕ) (nine : List (List ℕ)) (want : ℕ)
         → All (λ byte. byte < 256) bytes → at + count ≤ chunk_len layout (length bytes) k
-        → IsMask have → 6 ≤ length have → want < 9 → length nine ≡ 9
-        → ((j : ℕ) → j < 9 → has_slot have j ≡ true → slot_at nine j ≡ part_of_slot layout bytes k at count j)
+        → IsMask have → DATA_SLOTS ≤ length have → want < SLOTS → length nine ≡ SLOTS
+        → ((j : ℕ) → j < SLOTS → has_slot have j ≡ true
+        → slot_at nine j ≡ part_of_slot layout bytes k at count j)
         → restored have count nine want ≡ part_of_slot layout bytes k at count want }
 {}

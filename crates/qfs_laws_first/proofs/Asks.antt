@@ -58,12 +58,16 @@ IsOfFile (unclosed file) = Unit {0}
 IsOfFile (opened lease) = Unit {0}
 IsOfFile (granted g) = ⊥
 
+pub give_back-asks : (next : Work) (hold : Hold) → IsOfFile hold → AsksOfFiles next → AsksOfFiles (give_back next hold)
+unfolding give_back
+give_back-asks next nothing of h = h
+give_back-asks next (unclosed file) of h = ask_or-asks ends _ _ tt (λ r. tt) (was_given_back-asks next h)
+give_back-asks next (opened lease) of h = ask_or-asks ends _ _ tt (λ r. tt) (was_released-asks next h)
+give_back-asks next (granted g) of h = absurd of
+
 pub end_with-asks : (hold : Hold) → IsOfFile hold → (r : Report) → AsksOfFiles (end_with hold r)
-unfolding end_with give_back
-end_with-asks nothing of r = tt
-end_with-asks (unclosed file) of r = ask_or-asks ends _ _ tt (λ r. tt) (was_given_back-asks (ends r) tt)
-end_with-asks (opened lease) of r = ask_or-asks ends _ _ tt (λ r. tt) (was_released-asks (ends r) tt)
-end_with-asks (granted g) of r = absurd of
+unfolding end_with
+end_with-asks hold of r = give_back-asks (ends r) hold of tt
 
 pub ask-asks : (hold : Hold) (request : MetaRequest) (next : MetaReply → Work) → IsOfFile hold → IsMetaOfFiles request
     → ((a : MetaReply) → AsksOfFiles (next a)) → AsksOfFiles (ask hold request next)

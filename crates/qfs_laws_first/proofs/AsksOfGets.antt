@@ -1,5 +1,5 @@
 -- A get asks only requests of gets.
-use Rattle.std.proofs.Common.{ℕ, zero, suc, ◌++◌, Bool, true, false, List, [], ◌∷◌, Option, Some, None, Ok, Err, slice_get, slice_set}
+use Rattle.std.proofs.Common.{ℕ, zero, suc, ◌-◌, ◌++◌, Bool, true, false, List, [], ◌∷◌, Option, Some, None, Ok, Err, slice_get, slice_set}
 use Rattle.qfs_base.specs.Shape.{Shape}
 use Rattle.qfs_base.specs.declared.chunk.Copy.{Copy}
 use Rattle.qfs_base.specs.declared.command.Range.{Range}
@@ -10,15 +10,15 @@ use Rattle.qfs_base.specs.declared.reply.MetaReply.{MetaReply}
 use Rattle.qfs_base.specs.declared.reply.MetaReply.TheVariants as Said
 use Rattle.qfs_base.specs.declared.reply.Opened.{Opened}
 use Rattle.qfs_base.specs.Mask.{all_slots}
-use Rattle.qfs_model_slot.specs.CodeWord.{DATA_SLOTS}
-use Rattle.qfs_model_actor.specs.Work.{Work}
+use Rattle.qfs_base.specs.Sizes.{DATA_SLOTS}
+use Rattle.qfs_model_actor.specs.Work.{Report, Work}
 use Rattle.qfs_model_actor.specs.Hold.{nothing, opened}
 use Rattle.qfs_model_actor.specs.Pieces.{Piece}
 use Rattle.qfs_base.specs.Layout.{blocks_touched, windows_touched}
 use Rattle.qfs_model_actor.specs.Read.{Source, Reading, go_on_or_stop, with_enough, are_too_few, at_source, read_slots, read_windows, read_block, sources_of}
-use Rattle.qfs_model_actor.specs.Get.{reading_of, listed_in, read_blocks, read_if_any, read_range, read_if_whole, is_whole, was_opened, range_of, get_work}
+use Rattle.qfs_model_actor.specs.Get.{reading_of, listed_in, read_blocks, read_if_any, read_range, read_if_whole, is_whole, was_opened, attempt, attempts, range_of, get_work}
 use Rattle.qfs_laws_first.specs.Asks.{AsksOfFiles}
-use Rattle.qfs_laws_first.proofs.Asks.{IsOfFile, ask-asks, end_with-asks, fetch-asks, refused-asks}
+use Rattle.qfs_laws_first.proofs.Asks.{IsOfFile, ask-asks, give_back-asks, end_with-asks, fetch-asks, refused-asks}
 
 with_enough-asks : (reading : Reading) (next : List Source → Work) → ((causes : List SlotCause) → AsksOfFiles (reading.too_few causes))
     → ((left : List Source) → AsksOfFiles (next left)) → (sources : List Source) → AsksOfFiles (with_enough reading next sources)
@@ -67,28 +67,39 @@ module _ (reading : Reading) (held : IsOfFile reading.hold) (t : (causes : List 
   read_block-asks windows nine got next h =
       with_enough-asks reading _ t (λ sources. read_windows-asks next h windows sources got) (sources_of nine)
 
-read_blocks-asks : (layout : Shape) (o : Opened) (from to : ℕ) (blocks got : List ℕ) → AsksOfFiles (read_blocks layout o from to blocks got)
-unfolding read_blocks reading_of
-read_blocks-asks layout o from to [] got = end_with-asks (opened o.lease) tt _
-read_blocks-asks layout o from to (k ∷ ks) got =
-    read_block-asks (reading_of layout o from to k) tt (λ causes. end_with-asks (opened o.lease) tt _)
-    (windows_touched layout.s layout.r from to k) (listed_in o k) got _ (λ more. read_blocks-asks layout o from to ks more)
+-- what a get does behind its opening, where it goes on so after too few copies
+module _ (layout : Shape) (again : Report → Work) (a : (r : Report) → AsksOfFiles (again r)) where
+  read_blocks-asks : (o : Opened) (from to : ℕ) (blocks got : List ℕ) → AsksOfFiles (read_blocks layout again o from to blocks got)
+  unfolding read_blocks reading_of
+  read_blocks-asks o from to [] got = end_with-asks (opened o.lease) tt _
+  read_blocks-asks o from to (k ∷ ks) got =
+      read_block-asks (reading_of layout again o from to k) tt (λ causes. give_back-asks _ (opened o.lease) tt (a _))
+      (windows_touched layout.s layout.r from to k) (listed_in o k) got _ (λ more. read_blocks-asks o from to ks more)
 
-read_if_any-asks : (layout : Shape) (o : Opened) (from to : ℕ) (b : Bool) → AsksOfFiles (read_if_any layout o from to b)
-unfolding read_if_any
-read_if_any-asks layout o from to true = read_blocks-asks layout o from to (blocks_touched layout.s layout.r from to) []
-read_if_any-asks layout o from to false = end_with-asks (opened o.lease) tt _
+  read_if_any-asks : (o : Opened) (from to : ℕ) (b : Bool) → AsksOfFiles (read_if_any layout again o from to b)
+  unfolding read_if_any
+  read_if_any-asks o from to true = read_blocks-asks o from to (blocks_touched layout.s layout.r from to) []
+  read_if_any-asks o from to false = end_with-asks (opened o.lease) tt _
 
-read_if_whole-asks : (layout : Shape) (range : Range) (o : Opened) (b : Bool) → AsksOfFiles (read_if_whole layout range o b)
-unfolding read_if_whole read_range
-read_if_whole-asks layout range o true = read_if_any-asks layout o range.from _ _
-read_if_whole-asks layout range o false = tt
+  read_if_whole-asks : (range : Range) (o : Opened) (b : Bool) → AsksOfFiles (read_if_whole layout again range o b)
+  unfolding read_if_whole read_range
+  read_if_whole-asks range o true = read_if_any-asks o range.from _ _
+  read_if_whole-asks range o false = tt
 
-was_opened-asks : (layout : Shape) (range : Range) (a : MetaReply) → AsksOfFiles (was_opened layout range a)
-unfolding was_opened
-was_opened-asks layout range (Said.Opened o) = read_if_whole-asks layout range o (is_whole layout o)
-was_opened-asks layout range answer = refused-asks answer
+  was_opened-asks : (range : Range) (answer : MetaReply) → AsksOfFiles (was_opened layout again range answer)
+  unfolding was_opened
+  was_opened-asks range (Said.Opened o) = read_if_whole-asks range o (is_whole layout o)
+  was_opened-asks range answer = refused-asks answer
 
-pub get_work-asks : (layout : Shape) (path : List (List ℕ)) (range : Option Range) → AsksOfFiles (get_work layout path range)
+  attempt-asks : (path : List (List ℕ)) (range : Range) → AsksOfFiles (attempt layout again path range)
+  unfolding attempt
+  attempt-asks path range = ask-asks nothing _ (was_opened layout again range) tt tt (was_opened-asks range)
+
+attempts-asks : (more : ℕ) (layout : Shape) (path : List (List ℕ)) (range : Range) (r : Report) → AsksOfFiles (attempts more layout path range r)
+unfolding attempts
+attempts-asks zero layout path range r = tt
+attempts-asks (suc more) layout path range r = attempt-asks layout (attempts more layout path range) (attempts-asks more layout path range) path range
+
+pub get_work-asks : (layout : Shape) (tries : ℕ) (path : List (List ℕ)) (range : Option Range) → AsksOfFiles (get_work layout tries path range)
 unfolding get_work
-get_work-asks layout path range = ask-asks nothing _ (was_opened layout (range_of range)) tt tt (was_opened-asks layout (range_of range))
+get_work-asks layout tries path range = attempt-asks layout _ (attempts-asks (tries - 1) layout path (range_of range)) path (range_of range)

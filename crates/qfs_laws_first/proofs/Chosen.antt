@@ -1,13 +1,16 @@
 -- Some server is chosen where there are more servers, all of them up, than are barred.
-use Rattle.std.proofs.Common.{◌≡◌, ℕ, zero, suc, ◌+◌, ◌<◌, ◌≤◌, nat_le, nat_lt, nat_eq, Bool, true, false, cond, not, ◌&&◌, List, [], ◌∷◌, length, map, filter, fold, replicate, Option, Some, refl, ap, subst, arith}
+use Rattle.std.proofs.Common.{◌≡◌, ℕ, zero, suc, ◌+◌, ◌<◌, ◌≤◌, nat_lt, nat_eq, Bool, true, false, cond, not, ◌&&◌, List, [], ◌∷◌, length, map, filter, fold, replicate, Option, Some, refl, sym, ap, subst, ◌∙◌, arith}
 use Rattle.std.specs.Option.{option_map}
-use Rattle.std.specs.List.{reduce, enumerate_from}
+use Rattle.std.specs.List.{IsDistinct, AllByRecursion, range_with_len, reduce, enumerate_from}
+use Rattle.std.specs.Set.{is_member}
+use Rattle.std.proofs.lemmas.Cmp.{nat_eq_equiv}
+use Rattle.std.proofs.lemmas.List.FromFn.{length-range_with_len}
+use Rattle.std.proofs.lemmas.Map.Made.{length-le_from_is_member}
 use Rattle.std.proofs.lemmas.Bool.{eqb-true}
 use Rattle.std.proofs.lemmas.Bool.Decides.{nat_tests}
-use Rattle.std.specs.Ordering.{nat_cmp}
 use Rattle.std.specs.BTreeSet.{insert_key}
 use Rattle.std.specs.declared.cmp.Ordering.TheVariants.{Less, Equal, Greater}
-use Rattle.std.specs.Ordering.{match_ordering}
+use Rattle.std.specs.Ordering.{nat_cmp, match_ordering}
 use Rattle.qfs_base.specs.NumberSet.{has, with_member}
 use Rattle.qfs_base.specs.Table.{Each}
 use Rattle.qfs_base.specs.declared.chunk.Copy.{Copy}
@@ -20,55 +23,6 @@ use Rattle.qfs_model_meta.specs.Step.{first_server}
 use Rattle.qfs_laws_first.proofs.Rows.{each_weaker}
 use Rattle.qfs_laws_first.proofs.Tests.{and-false}
 
--- ---- barred numbers
-
--- how many of these numbers are k or more
-abbrev from_on : ℕ → List ℕ → ℕ
-from_on k numbers = length (filter (λ n. nat_le k n) numbers)
-
-from_on-step : (k n : ℕ) (ns : List ℕ) (a b : Bool) → nat_le (k + 1) n ≡ a → nat_le k n ≡ b → from_on (k + 1) ns ≤ from_on k ns
-    → from_on (k + 1) (n ∷ ns) ≤ from_on k (n ∷ ns)
-from_on-step k n ns true true p q h = rw (p, q) (omega (arith, h))
-from_on-step k n ns true false p q h = absurd (grind (arith, nat_tests))
-from_on-step k n ns false true p q h = rw (p, q) (omega (arith, h))
-from_on-step k n ns false false p q h = rw (p, q) h
-
-from_on-next : (k : ℕ) (numbers : List ℕ) → from_on (k + 1) numbers ≤ from_on k numbers
-from_on-next k [] = omega arith
-from_on-next k (n ∷ ns) = from_on-step k n ns (nat_le (k + 1) n) (nat_le k n) refl refl (from_on-next k ns)
-
-from_on-fewer : (k n : ℕ) (ns : List ℕ) (a b : Bool) → nat_le (k + 1) n ≡ a → nat_le k n ≡ b → from_on (k + 1) ns + 1 ≤ from_on k ns
-    → from_on (k + 1) (n ∷ ns) + 1 ≤ from_on k (n ∷ ns)
-from_on-fewer k n ns true true p q h = rw (p, q) (omega (arith, h))
-from_on-fewer k n ns true false p q h = absurd (grind (arith, nat_tests))
-from_on-fewer k n ns false true p q h = rw (p, q) (omega (arith, h))
-from_on-fewer k n ns false false p q h = rw (p, q) h
-
-from_on-here : (k n : ℕ) (ns : List ℕ) → n ≡ k → from_on (k + 1) ns ≤ from_on k ns → from_on (k + 1) (n ∷ ns) + 1 ≤ from_on k (n ∷ ns)
-from_on-here k n ns same h =
-    let above : nat_le (k + 1) n ≡ false = grind (arith, nat_tests) in
-    let at : nat_le k n ≡ true = grind (arith, nat_tests) in
-    rw (above, at) (omega (arith, h))
-
-from_on-split : (k n : ℕ) (ns : List ℕ) (b : Bool) → nat_eq n k ≡ b → has (n ∷ ns) k ≡ true → from_on (k + 1) ns ≤ from_on k ns
-    → (has ns k ≡ true → from_on (k + 1) ns + 1 ≤ from_on k ns) → from_on (k + 1) (n ∷ ns) + 1 ≤ from_on k (n ∷ ns)
-from_on-split k n ns true p member less further = from_on-here k n ns (eqb-true n k p) less
-from_on-split k n ns false p member less further =
-    from_on-fewer k n ns (nat_le (k + 1) n) (nat_le k n) refl refl (further (rw p at member))
-
--- a number that is among them counts
-from_on-has : (k : ℕ) (numbers : List ℕ) → has numbers k ≡ true → from_on (k + 1) numbers + 1 ≤ from_on k numbers
-from_on-has k [] member = absurd (cc)
-from_on-has k (n ∷ ns) member = from_on-split k n ns (nat_eq n k) refl member (from_on-next k ns) (from_on-has k ns)
-
-from_on-one : (k n : ℕ) (ns : List ℕ) (b : Bool) → nat_le k n ≡ b → from_on k ns ≤ length ns → from_on k (n ∷ ns) ≤ length (n ∷ ns)
-from_on-one k n ns true p h = rw p (omega (arith, h))
-from_on-one k n ns false p h = rw p (omega (arith, h))
-
-from_on-all : (k : ℕ) (numbers : List ℕ) → from_on k numbers ≤ length numbers
-from_on-all k [] = omega arith
-from_on-all k (n ∷ ns) = from_on-one k n ns (nat_le k n) refl (from_on-all k ns)
-
 -- ---- open servers
 
 -- a server that takes chunks
@@ -76,25 +30,37 @@ abbrev IsReady : Load → Type 0
 IsReady load = (load.up ≡ true) × (load.leaving ≡ false)
 
 -- where none is open, all of them are barred
-none_open-next : (barred : List ℕ) (number : ℕ) (load : Load) (loads : List Load) (b : Bool) → has barred number ≡ b → IsReady load
-    → filter (is_open barred) (enumerate_from number (load ∷ loads)) ≡ []
-    → (filter (is_open barred) (enumerate_from (number + 1) loads) ≡ [] → length loads ≤ from_on (number + 1) barred)
-    → length (load ∷ loads) ≤ from_on number barred
+none_open : (barred : List ℕ) (number : ℕ) (loads : List Load) → Each IsReady loads → filter (is_open barred) (enumerate_from number loads) ≡ []
+    → (q : ℕ) → is_member nat_eq (range_with_len number (length loads)) q ≡ true → has barred q ≡ true
 unfolding is_open
-none_open-next barred number load loads true p ready none rest =
-    let shut : is_open barred (number, load) ≡ false = rw p (and-false (load.up && not load.leaving)) in
-    let further = rest (rw shut at none) in
-    omega (arith, further, from_on-has number barred p)
-none_open-next barred number load loads false p ready none rest =
-    let open_now : is_open barred (number, load) ≡ true = rw (ready.0, ready.1, p) refl in
-    let nothing : (number, load) ∷ filter (is_open barred) (enumerate_from (number + 1) loads) ≡ [] = rw open_now at none in
-    absurd (cc)
+none_open barred number [] ready none q member = absurd (cc)
+none_open barred number (load ∷ loads) ready none q member = one (has barred number) (nat_eq q number) refl refl (none_open barred (number + 1) loads ready.1)
+  where
+    one : (b here : Bool) → has barred number ≡ b → nat_eq q number ≡ here
+        → (filter (is_open barred) (enumerate_from (number + 1) loads) ≡ [] → (q : ℕ) → is_member nat_eq (range_with_len (number + 1) (length loads)) q ≡ true → has barred q ≡ true)
+        → has barred q ≡ true
+    one true true p here rest = rw (eqb-true q number here) p
+    one true false p here rest =
+        let shut : is_open barred (number, load) ≡ false = rw p (and-false (load.up && not load.leaving)) in
+        rest (rw shut at none) q (rw here at member)
+    one false here p is rest =
+        let open_now : is_open barred (number, load) ≡ true = rw (ready.0.0, ready.0.1, p) refl in
+        let nothing : (number, load) ∷ filter (is_open barred) (enumerate_from (number + 1) loads) ≡ [] = rw open_now at none in
+        absurd (cc)
 
-none_open : (barred : List ℕ) (number : ℕ) (loads : List Load) → Each IsReady loads
-    → filter (is_open barred) (enumerate_from number loads) ≡ [] → length loads ≤ from_on number barred
-none_open barred number [] ready none = omega arith
-none_open barred number (load ∷ loads) ready none =
-    none_open-next barred number load loads (has barred number) refl ready.0 none (none_open barred (number + 1) loads ready.1)
+member-is : (xs : List ℕ) (q : ℕ) → has xs q ≡ is_member nat_eq xs q
+member-is [] q = refl
+member-is (x ∷ xs) q = rw (nat_eq_equiv.symm x q, member-is xs q) refl
+
+-- numbers that rise differ
+range-apart : (a n : ℕ) → IsDistinct nat_eq (range_with_len a n)
+unfolding IsDistinct
+range-apart a zero = tt
+range-apart a (suc n) = (above (a + 1) n (omega arith), range-apart (a + 1) n)
+  where
+    above : (b n : ℕ) → a < b → AllByRecursion (λ y. nat_eq a y ≡ false) (range_with_len b n)
+    above b zero less = tt
+    above b (suc n) less = (grind (arith, nat_tests), above (b + 1) n (omega (arith, less)))
 
 -- a server of a number in a range
 abbrev IsNumbered : ℕ → ℕ → Numbered → Type 0
@@ -146,7 +112,10 @@ unfolding choose open_servers
 choose-some loads barred ready few =
     chosen_of (length loads) (filter (is_open barred) (enumerate_from 1 loads))
     (each_filter (IsNumbered 1 (1 + length loads)) (is_open barred) (enumerate_from 1 loads) (enumerated 1 loads))
-    (λ none. omega (arith, none_open barred 1 loads ready none, from_on-all 1 barred, few))
+    (λ none.
+    let all = length-le_from_is_member nat_eq_equiv (range_with_len 1 (length loads)) barred (range-apart 1 (length loads))
+    (λ q member. sym (member-is barred q) ∙ none_open barred 1 loads ready none q member) in
+    omega (arith, all, length-range_with_len 1 (length loads), few))
 
 -- ---- the servers of the first path
 

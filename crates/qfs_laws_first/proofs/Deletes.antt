@@ -1,6 +1,7 @@
 -- Puts and gets delete nothing, and restart nothing.
 use Rattle.std.proofs.Common.{◌≡◌, ℕ, ◌+◌, Bool, true, false, cond, List, [], ◌∷◌, length, Option, Some, None, refl, sym, subst}
 use Rattle.std.specs.List.{cons_option}
+use Rattle.qfs_base.specs.Rules.{rules_of}
 use Rattle.qfs_base.specs.Shape.{Shape}
 use Rattle.qfs_base.specs.Table.{Each}
 use Rattle.qfs_base.specs.declared.chunk.BlockId.{BlockId}
@@ -24,6 +25,7 @@ use Rattle.qfs_base.specs.declared.request.MetaRequest.TheVariants as Ask
 use Rattle.qfs_base.specs.declared.request.NodeRequest.{NodeRequest}
 use Rattle.qfs_base.specs.declared.request.NodeRequest.TheVariants as To
 use Rattle.qfs_base.specs.declared.request.SlotId.{SlotId}
+use Rattle.qfs_base.specs.declared.rules.Rules.{Rules}
 use Rattle.qfs_base.specs.declared.script.Script.{Script}
 use Rattle.qfs_model_actor.specs.Actor.{Actor, starting, present_command, command_number, work_left, request_of, moved_on, after_reply}
 use Rattle.qfs_model_actor.specs.Command.{file_work, work_of}
@@ -34,7 +36,7 @@ use Rattle.qfs_model_meta.specs.Decide.{decide, decide_request}
 use Rattle.qfs_model_meta.specs.Decision.{Decision, Tells, UsesDisks, Makes, refuse, unless, need, refuse_file}
 use Rattle.qfs_model_meta.specs.Dropped.{dropped_at}
 use Rattle.qfs_model_meta.specs.GetRequests.{decide_open, decide_release}
-use Rattle.qfs_model_meta.specs.PutRequests.{decide_create, decide_grant, grant_in, grant_after, grant_for_put, put_granted, taken_refusal, decide_close, close_complete, incomplete, decide_abort, abort_unclosed}
+use Rattle.qfs_model_meta.specs.PutRequests.{decide_create, decide_grant, grant_in, grant_for_put, put_granted, taken_refusal, decide_close, close_complete, incomplete, decide_abort, abort_unclosed}
 use Rattle.qfs_model_meta.specs.Range.{in_range}
 use Rattle.qfs_model_meta.specs.Step.{Served, stays, take_step, carry_out, fail_disks, end_step, serve_unless_dropped, meta_step}
 use Rattle.qfs_model_server.specs.Server.{Server}
@@ -42,6 +44,7 @@ use Rattle.qfs_model_world.specs.Deletion.{NoDeletion, ordered_copy, erased_copy
 use Rattle.qfs_model_world.specs.Replayed.{says_restarted, has_restarted, KeepsAtRestart}
 use Rattle.qfs_model_world.specs.Events.{Event, event_asking, event_by, event_in, events_from, events}
 use Rattle.qfs_model_world.specs.World.{World, numbered_actors, start, numbered, meta_turned, chunk_turned, chunk_turn, node_turn, handed_over, move_asking, move_actor, move}
+use Rattle.qfs_model_world.proofs.OneStep.{turn-keeps}
 use Rattle.qfs_laws_first.specs.Asks.{IsMetaOfFiles, IsChunkOfFiles, IsOfFiles, AsksOfFiles}
 use Rattle.qfs_laws_first.specs.FirstPath.{IsPutOrGet, PutsAndGets}
 use Rattle.qfs_laws_first.proofs.AsksOfGets.{get_work-asks}
@@ -50,29 +53,11 @@ use Rattle.qfs_laws_first.proofs.Rows.{each_weaker, each_at, each_numbered, each
 
 -- ---- what a put or get asks
 
-work_of-asks : (layout : Shape) (number : ℕ) (command : Command) → IsPutOrGet command → AsksOfFiles (work_of layout number command)
+work_of-asks : (rules : Rules) (number : ℕ) (command : Command) → IsPutOrGet command → AsksOfFiles (work_of rules number command)
 unfolding work_of file_work
-work_of-asks layout number (Does.File (File.Put path recipe)) is = put_work-asks layout number path _
-work_of-asks layout number (Does.File (File.Get path range)) is = get_work-asks layout path range
-work_of-asks layout number (Does.File (File.Mkdir path)) is = absurd is
-work_of-asks layout number (Does.File (File.Rmdir path)) is = absurd is
-work_of-asks layout number (Does.File (File.Remove path)) is = absurd is
-work_of-asks layout number (Does.File (File.Rename from to)) is = absurd is
-work_of-asks layout number (Does.File (File.List path)) is = absurd is
-work_of-asks layout number (Does.Recover path index slot) is = absurd is
-work_of-asks layout number (Does.Move path index slot server) is = absurd is
-work_of-asks layout number (Does.Heal budget) is = absurd is
-work_of-asks layout number (Does.Rebalance budget) is = absurd is
-work_of-asks layout number (Does.Evacuate server budget) is = absurd is
-work_of-asks layout number (Does.Sweep budget) is = absurd is
-work_of-asks layout number (Does.Stop server) is = absurd is
-work_of-asks layout number (Does.Start server) is = absurd is
-work_of-asks layout number (Does.Wipe server) is = absurd is
-work_of-asks layout number (Does.Hibernate server ticks) is = absurd is
-work_of-asks layout number Does.Tick is = absurd is
-work_of-asks layout number (Does.Drop actor) is = absurd is
-work_of-asks layout number Does.Checkpoint is = absurd is
-work_of-asks layout number Does.Restart is = absurd is
+work_of-asks rules number (Does.File (File.Put path recipe)) is = put_work-asks rules.layout number path _
+work_of-asks rules number (Does.File (File.Get path range)) is = get_work-asks rules.layout rules.tries path range
+work_of-asks rules number command is = absurd is
 
 goes_on-asks : (work : Work) (reply : NodeReply) → AsksOfFiles work → AsksOfFiles (goes_on work reply)
 unfolding goes_on
@@ -105,8 +90,8 @@ request_of-asks actor only = present (present_command actor) refl
     present : (found : Option Command) → present_command actor ≡ found → IfOfFiles (request_of actor)
     present None is = rw is tt
     present (Some command) is =
-        rw is (request_in-asks (follow (work_of actor.layout (command_number actor) command) actor.heard)
-        (follow-asks _ actor.heard (work_of-asks actor.layout (command_number actor) command (each_at IsPutOrGet actor.commands (length actor.ended) command only is))))
+        rw is (request_in-asks (follow (work_of actor.rules (command_number actor) command) actor.heard)
+        (follow-asks _ actor.heard (work_of-asks actor.rules (command_number actor) command (each_at IsPutOrGet actor.commands (length actor.ended) command only is))))
 
 -- ---- what the metaserver answers
 
@@ -157,7 +142,7 @@ incomplete-silent None = tt
 incomplete-silent (Some id) = (refl, refl)
 
 decide_grant-silent : (layout : Shape) (actor : ℕ) (block : BlockId) (slot : ℕ) (again : Bool) (m : MetaImage) → IsSilent (decide_grant layout actor block slot again m)
-unfolding decide_grant grant_in grant_after grant_for_put put_granted ordered_copy says_restarted
+unfolding decide_grant grant_in grant_for_put put_granted ordered_copy says_restarted
 decide_grant-silent layout actor block slot again m =
     need-silent Told.Gone _ _ (refl, refl) (λ (row : TreeRow).
     unless-silent _ Told.NoBlock _ (refl, refl)
@@ -173,37 +158,15 @@ decide_abort-silent : (actor file : ℕ) (m : MetaImage) → IsSilent (decide_ab
 unfolding decide_abort abort_unclosed ordered_copy says_restarted
 decide_abort-silent actor file m = need-silent Told.Gone _ _ (refl, refl) (λ (row : TreeRow). (refl, refl))
 
-decide_request-silent : (layout : Shape) (actor : ℕ) (m : MetaImage) (request : MetaRequest) → IsMetaOfFiles request → IsSilent (decide_request layout actor m request)
+decide_request-silent : (rules : Rules) (actor : ℕ) (m : MetaImage) (request : MetaRequest) → IsMetaOfFiles request → IsSilent (decide_request rules actor m request)
 unfolding decide_request decide_create decide_open decide_release ordered_copy says_restarted
-decide_request-silent layout actor m (Ask.Create path command len) of = refuse_file-silent _ _ _ (refl, refl)
-decide_request-silent layout actor m (Ask.Grant file index slot again) of = decide_grant-silent layout actor _ slot again m
-decide_request-silent layout actor m (Ask.Close file) of = decide_close-silent layout actor file m
-decide_request-silent layout actor m (Ask.Abort file) of = decide_abort-silent actor file m
-decide_request-silent layout actor m (Ask.OpenFile path) of = refuse_file-silent _ _ _ (refl, refl)
-decide_request-silent layout actor m (Ask.Release lease) of = unless-silent _ Told.Gone _ (refl, refl) (refl, refl)
-decide_request-silent layout actor m (Ask.Mkdir path) of = absurd of
-decide_request-silent layout actor m (Ask.Rmdir path) of = absurd of
-decide_request-silent layout actor m (Ask.Remove path) of = absurd of
-decide_request-silent layout actor m (Ask.Rename from to) of = absurd of
-decide_request-silent layout actor m (Ask.RecoverAt path index slot) of = absurd of
-decide_request-silent layout actor m (Ask.HealNext after) of = absurd of
-decide_request-silent layout actor m (Ask.MoveAt path index slot to) of = absurd of
-decide_request-silent layout actor m (Ask.EvacNext server after) of = absurd of
-decide_request-silent layout actor m Ask.BalanceNext of = absurd of
-decide_request-silent layout actor m (Ask.Confirm block slot version lease) of = absurd of
-decide_request-silent layout actor m (Ask.Abandon block slot version lease) of = absurd of
-decide_request-silent layout actor m (Ask.OrderNext after) of = absurd of
-decide_request-silent layout actor m (Ask.Swept number) of = absurd of
-decide_request-silent layout actor m (Ask.Hello server life keys) of = absurd of
-decide_request-silent layout actor m (Ask.Bye server) of = absurd of
-decide_request-silent layout actor m (Ask.Leave server) of = absurd of
-decide_request-silent layout actor m (Ask.Hibernate server ticks) of = absurd of
-decide_request-silent layout actor m Ask.Tick of = absurd of
-decide_request-silent layout actor m (Ask.Drop dropped) of = absurd of
-decide_request-silent layout actor m (Ask.List path) of = absurd of
-decide_request-silent layout actor m (Ask.LeftOn server) of = absurd of
-decide_request-silent layout actor m Ask.Checkpoint of = absurd of
-decide_request-silent layout actor m Ask.Restart of = absurd of
+decide_request-silent rules actor m (Ask.Create path command len) of = refuse_file-silent _ _ _ (refl, refl)
+decide_request-silent rules actor m (Ask.Grant file index slot again) of = decide_grant-silent rules.layout actor _ slot again m
+decide_request-silent rules actor m (Ask.Close file) of = decide_close-silent rules.layout actor file m
+decide_request-silent rules actor m (Ask.Abort file) of = decide_abort-silent actor file m
+decide_request-silent rules actor m (Ask.OpenFile path) of = refuse_file-silent _ _ _ (refl, refl)
+decide_request-silent rules actor m (Ask.Release lease) of = unless-silent _ Told.Gone _ (refl, refl) (refl, refl)
+decide_request-silent rules actor m request of = absurd of
 
 take_step-silent : (m next : MetaImage) (reply : MetaReply) (fits : Bool) → IsQuiet reply → IsQuiet (take_step m next reply fits).reply
 unfolding take_step stays ordered_copy says_restarted
@@ -230,12 +193,12 @@ unfolding serve_unless_dropped stays ordered_copy says_restarted
 served-silent m served None silent = silent
 served-silent m served (Some turn) silent = (refl, refl)
 
-meta_step-silent : (layout : Shape) (actor : ℕ) (request : MetaRequest) (outcome : Outcome) (m : MetaImage) → IsMetaOfFiles request
-    → IsQuiet (meta_step layout actor request outcome m).reply
+meta_step-silent : (rules : Rules) (actor : ℕ) (request : MetaRequest) (outcome : Outcome) (m : MetaImage) → IsMetaOfFiles request
+    → IsQuiet (meta_step rules actor request outcome m).reply
 unfolding meta_step decide ordered_copy says_restarted
-meta_step-silent layout actor request outcome m of =
+meta_step-silent rules actor request outcome m of =
     served-silent m _ (dropped_at actor m.dropped)
-    (end_step-silent m _ outcome (unless-silent (in_range (length m.servers) request) Told.Nothing _ (refl, refl) (decide_request-silent layout actor m request of)))
+    (end_step-silent m _ outcome (unless-silent (in_range (length m.servers) request) Told.Nothing _ (refl, refl) (decide_request-silent rules actor m request of)))
 
 -- ---- steps
 
@@ -251,16 +214,12 @@ chunk-silent world number (Serve.Put key life bytes) outcome None of = (refl, re
 chunk-silent world number (Serve.Put key life bytes) outcome (Some server) of = (refl, refl)
 chunk-silent world number (Serve.Fetch key life from room) outcome None of = (refl, refl)
 chunk-silent world number (Serve.Fetch key life from room) outcome (Some server) of = (refl, refl)
-chunk-silent world number (Serve.Erase key life) outcome found of = absurd of
-chunk-silent world number Serve.Stop outcome found of = absurd of
-chunk-silent world number Serve.Start outcome found of = absurd of
-chunk-silent world number Serve.Wipe outcome found of = absurd of
-chunk-silent world number Serve.Inventory outcome found of = absurd of
+chunk-silent world number request outcome found of = absurd of
 
 turn-silent : (world : World) (actor : ℕ) (outcome : Outcome) (request : NodeRequest) → IsOfFiles request
     → IsIdleAt request (node_turn world actor outcome request).reply
 unfolding node_turn meta_turned deleted_by has_restarted
-turn-silent world actor outcome (To.Meta request) of = meta_step-silent world.layout actor request outcome world.meta of
+turn-silent world actor outcome (To.Meta request) of = meta_step-silent world.rules actor request outcome world.meta of
 turn-silent world actor outcome (To.Chunk number request) of = chunk-silent world number request outcome (numbered world.servers number) of
 
 abbrev IsIdle : Event → Type 0
@@ -298,18 +257,6 @@ pub after_reply-commands : (actor : Actor) (reply : NodeReply) → (after_reply 
 unfolding after_reply
 after_reply-commands actor reply = moved_on-commands actor reply _
 
-chunk_turn-actors : (world : World) (number : ℕ) (request : ChunkRequest) (outcome : Outcome) (found : Option Server)
-    → (chunk_turn world number request outcome found).world.actors ≡ world.actors
-unfolding chunk_turn chunk_turned
-chunk_turn-actors world number request outcome None = refl
-chunk_turn-actors world number request outcome (Some server) = refl
-
-node_turn-actors : (world : World) (actor : ℕ) (outcome : Outcome) (request : NodeRequest)
-    → (node_turn world actor outcome request).world.actors ≡ world.actors
-unfolding node_turn meta_turned
-node_turn-actors world actor outcome (To.Meta request) = refl
-node_turn-actors world actor outcome (To.Chunk number request) = chunk_turn-actors world number request outcome (numbered world.servers number)
-
 asking-only : (world : World) (number : ℕ) (outcome : Outcome) (actor : Actor) (request : Option NodeRequest) → Each PutsAndGetsOnly world.actors
     → PutsAndGetsOnly actor → Each PutsAndGetsOnly (move_asking world number outcome actor request).actors
 unfolding move_asking handed_over
@@ -317,7 +264,7 @@ asking-only world number outcome actor None all own = all
 asking-only world number outcome actor (Some request) all own =
     let turned = node_turn world number outcome request in
     each_renumbered PutsAndGetsOnly turned.world.actors number (after_reply actor turned.reply)
-    (subst (Each PutsAndGetsOnly) (sym (node_turn-actors world number outcome request)) all)
+    (subst (Each PutsAndGetsOnly) (sym (turn-keeps world number outcome request).actors) all)
     (subst (Each IsPutOrGet) (sym (after_reply-commands actor turned.reply)) own)
 
 move-only : (world : World) (step : Step) → Each PutsAndGetsOnly world.actors → Each PutsAndGetsOnly (move world step).actors
@@ -341,14 +288,14 @@ events_from-silent world (step ∷ steps) all =
     cons-silent (event_in world step) (events_from (move world step) steps) (event_in-silent world step all)
     (events_from-silent (move world step) steps (move-only world step all))
 
-actors-only : (layout : Shape) (number : ℕ) (all : List (List Command)) → Each (Each IsPutOrGet) all → Each PutsAndGetsOnly (numbered_actors layout number all)
+actors-only : (rules : Rules) (number : ℕ) (all : List (List Command)) → Each (Each IsPutOrGet) all → Each PutsAndGetsOnly (numbered_actors rules number all)
 unfolding numbered_actors starting
-actors-only layout number [] each = tt
-actors-only layout number (commands ∷ more) each = (each.0, actors-only layout (number + 1) more each.1)
+actors-only rules number [] each = tt
+actors-only rules number (commands ∷ more) each = (each.0, actors-only rules (number + 1) more each.1)
 
 events-silent : (script : Script) (order : List Step) → PutsAndGets script → Each IsIdle (events script order)
 unfolding events start
-events-silent script order all = events_from-silent (start script) order (actors-only script.layout 1 _ all)
+events-silent script order all = events_from-silent (start script) order (actors-only (rules_of script) 1 _ all)
 
 pub deletes_nothing : (script : Script) (order : List Step) → PutsAndGets script → NoDeletion script order
 deletes_nothing script order all i n event c at deleted later within =

@@ -1,6 +1,6 @@
 -- An order that fits a script of the first path, and whose steps came out done, is one of actor 1 alone.
-use Rattle.std.proofs.Common.{◌≡◌, ℕ, ◌==◌, ◌||◌, Bool, true, false, cond, List, [], ◌∷◌, ◌++◌, refl, sym, ap, ◌∙◌, inl, inr}
-use Rattle.std.proofs.lemmas.Bool.{eqb-true}
+use Rattle.std.proofs.Common.{◌≡◌, ℕ, ◌==◌, Bool, true, false, cond, List, [], ◌∷◌, ◌++◌, refl, sym, ap, ◌∙◌, arith, inl, inr}
+use Rattle.std.proofs.lemmas.Bool.Decides.{nat_tests}
 use Rattle.std.specs.Prelude.{IsTrue}
 use Rattle.std.specs.List.{list_all, list_any}
 use Rattle.qfs_base.specs.declared.command.Command.{Command}
@@ -20,32 +20,16 @@ use Rattle.qfs_laws_first.proofs.Laws.{next, run-none}
 use Rattle.qfs_laws_first.proofs.Runs.{Run}
 use Rattle.qfs_laws_first.proofs.Tests.{and-both}
 
-differ : same_outcome Ended.Failed Ended.Done ≡ true → ⊥
+done-outcome : (outcome : Outcome) → same_outcome outcome Ended.Done ≡ true → outcome ≡ Ended.Done
 unfolding same_outcome
-differ h = let none : false ≡ true = h in absurd (cc)
-
-differ_too : same_outcome Ended.NoMemory Ended.Done ≡ true → ⊥
-unfolding same_outcome
-differ_too h = let none : false ≡ true = h in absurd (cc)
-
--- a step that came out done has that outcome
-done-outcome : (step : Step) → is_done step ≡ true → step.outcome ≡ Ended.Done
-unfolding is_done
-done-outcome step done = same step.outcome done
-  where
-    same : (outcome : Outcome) → same_outcome outcome Ended.Done ≡ true → outcome ≡ Ended.Done
-    same Ended.Done h = refl
-    same Ended.Failed h = absurd (differ h)
-    same Ended.NoMemory h = absurd (differ_too h)
+done-outcome Ended.Done h = refl
+done-outcome Ended.Failed h = let none : false ≡ true = h in absurd (cc)
+done-outcome Ended.NoMemory h = let none : false ≡ true = h in absurd (cc)
 
 -- whose turn it is, where it is someone's
 turn-of : (actor number : ℕ) (finished : Bool) → list_any (λ n. n == number) (cond finished [] (actor ∷ [])) ≡ true → actor ≡ number
 turn-of actor number true h = absurd (cc)
-turn-of actor number false h = one (actor == number) refl
-  where
-    one : (b : Bool) → (actor == number) ≡ b → actor ≡ number
-    one true is = eqb-true actor number is
-    one false is = let none : (false || false) ≡ true = rw is at h in absurd (cc)
+turn-of actor number false h = grind (arith, nat_tests)
 
 module _ (script : Script) (commands : List Command) (first_path : IsFirstPath script commands) where
   step-is : (steps : List Event) (w : World) (step : Step) → Run script commands steps w → may_come script w step ≡ true → step.outcome ≡ Ended.Done → step ≡ done_step
@@ -58,12 +42,12 @@ module _ (script : Script) (commands : List Command) (first_path : IsFirstPath s
       λ i. record { actor = one i; outcome = done i }
 
   done-from : (order : List Step) (steps : List Event) (w : World) → Run script commands steps w → fits_from script w order ≡ true → IsTrue (list_all is_done order) → AllDone order
-  unfolding fits_from
+  unfolding fits_from is_done
   done-from [] steps w r fit done = tt
   done-from (step ∷ order) steps w r fit done =
       let parts = and-both _ _ fit in
       let parts_done = and-both _ _ done in
-      let is : step ≡ done_step = step-is steps w step r parts.0 (done-outcome step parts_done.0) in
+      let is : step ≡ done_step = step-is steps w step r parts.0 (done-outcome step.outcome parts_done.0) in
       let rest : fits_from script (move w done_step) order ≡ true = ap (λ step. fits_from script (move w step) order) (sym is) ∙ parts.1 in (
         is,
         elim (next script commands steps w first_path r) [

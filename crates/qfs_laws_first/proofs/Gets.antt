@@ -1,15 +1,15 @@
 -- A get opens its file, fetches its slots and releases its lease.
-use Rattle.std.proofs.Common.{◌≡◌, ℕ, ◌+◌, ◌*◌, ◌<◌, ◌≤◌, true, false, List, [], ◌∷◌, length, map, take, Some, None, refl, sym, ap, ◌∙◌, arith}
+use Rattle.std.proofs.Common.{◌≡◌, ℕ, ◌+◌, ◌*◌, ◌<◌, ◌≤◌, true, false, List, [], ◌∷◌, length, map, take, Some, None, refl, ap, ◌∙◌, arith}
 use Rattle.std.proofs.Math.Seq.{take-length}
-use Rattle.std.proofs.lemmas.List.FromFn.{get_or-range_with_len, length-map-range_with_len}
-use Rattle.std.proofs.lemmas.Option.{slice_get-map, slice_get_read}
+use Rattle.std.proofs.lemmas.List.FromFn.{length-map-range_with_len}
+use Rattle.std.proofs.lemmas.Option.{slice_get-map}
 use Rattle.std.specs.Prelude.{slice_get}
 use Rattle.std.specs.List.{range_with_len}
 use Rattle.qfs_base.specs.FileReplies.{refused_or, wanted_bytes, bytes_at, file_reply, reply_at}
 use Rattle.qfs_base.specs.Files.{files_of, files_standing}
 use Rattle.qfs_base.specs.NameTree.{PathNames, stands_at, add_refusal, look_refusal}
+use Rattle.qfs_base.specs.Rules.{rules_of}
 use Rattle.qfs_base.specs.Shape.{Shape}
-use Rattle.qfs_base.specs.Table.{Each}
 use Rattle.qfs_base.specs.declared.chunk.ChunkKey.{ChunkKey}
 use Rattle.qfs_base.specs.declared.command.FileCommand.TheVariants as File
 use Rattle.qfs_base.specs.declared.history.FileReply.TheVariants as Says
@@ -20,44 +20,43 @@ use Rattle.qfs_base.specs.declared.recipe.Form.{Form}
 use Rattle.qfs_base.specs.declared.reply.MetaReply.TheVariants as Told
 use Rattle.qfs_base.specs.declared.reply.TreeRefusal.{TreeRefusal}
 use Rattle.qfs_base.specs.declared.request.MetaRequest.TheVariants as Ask
+use Rattle.qfs_base.specs.declared.rules.Rules.{Rules}
 use Rattle.qfs_base.specs.declared.script.Script.{Script}
 use Rattle.qfs_model_actor.specs.Get.{listed_in}
 use Rattle.qfs_model_meta.specs.Apply.{finish_lease, apply, apply_all}
-use Rattle.qfs_model_meta.specs.Change.{GiveLease, EndLease}
+use Rattle.qfs_base.specs.declared.change.Change.TheVariants.{GiveLease, EndLease}
 use Rattle.qfs_model_meta.specs.Decide.{decide, decide_request}
 use Rattle.qfs_model_meta.specs.Decision.{Makes, unless}
 use Rattle.qfs_model_meta.specs.GetRequests.{opened, decide_open, decide_release}
-use Rattle.qfs_model_meta.specs.Leases.{holds_lease}
+use Rattle.qfs_model_meta.specs.Leases.{holds_lease, lease_end}
 use Rattle.qfs_model_meta.specs.Lists.{listed_nine, listed_blocks, block_count}
 use Rattle.qfs_model_meta.specs.Range.{in_range}
 use Rattle.qfs_model_meta.specs.Servers.{server_at, is_live, is_listed, listed_copy}
 use Rattle.qfs_model_meta.specs.Slots.{slot_at}
+use Rattle.qfs_model_meta.specs.Sound.{file_entry}
 use Rattle.qfs_model_meta.specs.Step.{first_server, next_turn, meta_step}
 use Rattle.qfs_model_meta.specs.TreeRows.{standing, row_path, row_at}
 use Rattle.qfs_model_server.specs.Server.{Server}
 use Rattle.qfs_model_world.specs.Puts.{puts_of}
-use Rattle.qfs_model_world.specs.World.{numbered, renumbered}
-use Rattle.qfs_laws_first.specs.Standing.{entry_of}
+use Rattle.qfs_model_world.specs.World.{renumbered}
 use Rattle.qfs_laws_first.proofs.Histories.{written-later}
 use Rattle.qfs_laws_first.proofs.Kept.{file-kept, view-first}
-use Rattle.qfs_laws_first.proofs.MetaSteps.{refused-file, accepted-file, AreFew, step-makes, step-tells}
+use Rattle.qfs_laws_first.proofs.MetaSteps.{refused-file, accepted-file, AreFew, few-more, step-makes, step-tells}
 use Rattle.qfs_laws_first.proofs.Reading.{IsShort, blocks_of-one}
 use Rattle.qfs_laws_first.proofs.Rows.{each_weaker}
-use Rattle.qfs_laws_first.proofs.Servers.{stored_at, stored-same, are_up-changed}
-use Rattle.qfs_laws_first.proofs.States.{first_block, first_key, first_copy, IsFile, IsRow, Steady, Between, Reads}
+use Rattle.qfs_laws_first.proofs.Servers.{IsUp, stored_at, stored-same, are_up-changed}
+use Rattle.qfs_laws_first.proofs.States.{first_block, first_key, first_copy, IsFile, IsRow, Steady, Between, Within}
+use Rattle.qfs_laws_first.proofs.Works.{place-of}
 use Rattle.qfs_laws_first.proofs.Trees.{ClosedAt, standing-files, bytes-found, each_find}
 
 -- ---- replies at the end of the history
 
-module _ (script : Script) (servers : List Server) (m : MetaImage) (commands files leases entries : ℕ) (s : Steady script servers m commands files leases entries) where
-  above-rows : Each (λ (row : TreeRow). 1 ≤ row.file) m.tree
-  above-rows = each_weaker (IsRow script servers m.slots m.next_file) (λ (row : TreeRow). 1 ≤ row.file) m.tree (λ row is. is.above) s.rows
-
-  files-now : files_of (puts_of script) (take (length m.history) m.history) ≡ map (entry_of (puts_of script)) m.tree
+module _ (script : Script) (servers : List Server) (m : MetaImage) (commands most : ℕ) (s : Steady script servers m commands most) where
+  files-now : files_of (puts_of script) (take (length m.history) m.history) ≡ map (file_entry (puts_of script)) m.tree
   files-now = ap (files_of (puts_of script)) (take-length m.history) ∙ s.written.files
 
   standing-now : files_standing (files_of (puts_of script) (take (length m.history) m.history)) ≡ standing m.tree
-  standing-now = ap files_standing files-now ∙ standing-files (puts_of script) m.tree above-rows
+  standing-now = ap files_standing files-now ∙ standing-files (puts_of script) m.tree
 
   -- what a refused put and a refused get answer there
   pub put-refused-there : (path : PathNames) (recipe : Form) (why : TreeRefusal) → add_refusal (standing m.tree) path ≡ Some why
@@ -72,99 +71,78 @@ module _ (script : Script) (servers : List Server) (m : MetaImage) (commands fil
   get-refused-there path why refused =
       rw (standing-now, refused) refl
 
+  row-here : (path : PathNames) (c : ClosedAt m.tree path) → IsRow script servers m.slots m.next_file c.row
+  row-here path c = each_find (IsRow script servers m.slots m.next_file) (stands_at row_path path) m.tree c.row s.rows c.found
+
   -- what a get of a closed file answers there: the bytes of the put that closed it
   pub get-read-there : (path : PathNames) (c : ClosedAt m.tree path) → look_refusal (standing m.tree) path ≡ None
       → reply_at (puts_of script) m.history (length m.history) (File.Get path None) ≡ Says.Read (puts_of script c.row.actor c.row.command)
   unfolding reply_at file_reply refused_or wanted_bytes
   get-read-there path c free =
       let bytes : bytes_at (files_of (puts_of script) (take (length m.history) m.history)) path ≡ puts_of script c.row.actor c.row.command =
-      ap (λ files. bytes_at files path) files-now ∙ bytes-found (puts_of script) m.tree path c.row c.found c.closed in
+      ap (λ files. bytes_at files path) files-now ∙ bytes-found (puts_of script) m.tree path c.row (row-here path c).above c.found c.closed in
       rw (standing-now, free, bytes) refl
 
   -- the closed file is whole
   pub closed-file : (path : PathNames) (c : ClosedAt m.tree path)
       → IsFile script.layout script.servers servers m.slots c.row.file c.row.len (puts_of script c.row.actor c.row.command)
-  closed-file path c =
-      let is : IsRow script servers m.slots m.next_file c.row = each_find (IsRow script servers m.slots m.next_file) (stands_at row_path path) m.tree c.row s.rows c.found in
-      is.whole c.closed
+  closed-file path c = (row-here path c).whole c.closed
 
   -- one command more has ended
-  pub steady-later : (more_files more_leases more_entries : ℕ) → files ≤ more_files → leases ≤ more_leases → entries ≤ more_entries
-      → Steady script servers m (commands + 1) more_files more_leases more_entries
-  steady-later more_files more_leases more_entries f l e = record {
-    views = s.views;
-    dropped = s.dropped;
+  pub later : (more : ℕ) → most ≤ more → Steady script servers m (commands + 1) more
+  later more less = record {
+    as_first = s.as_first;
+    none_dropped = s.none_dropped;
     up = s.up;
-    few_files = omega (arith, s.few_files, f);
-    few_leases = omega (arith, s.few_leases, l);
-    few_condemned = s.few_condemned;
-    few_entries = omega (arith, s.few_entries, e);
-    some_file = s.some_file;
+    few = few-more most more m.next_file m.next_lease m.next_condemned (length m.history) less s.few;
     written = written-later script m.history m.tree m.next_file commands s.written;
     rows = s.rows;
     slots_below = s.slots_below;
+    none_to_come = s.none_to_come;
   }
-
--- a refused command changes nothing
-pub between-later : (script : Script) (servers : List Server) (m : MetaImage) (commands : ℕ) → Between script servers m commands → Between script servers m (commands + 1)
-between-later script servers m commands b = record {
-  steady = steady-later script servers m commands (commands + 1) (commands + 1) (2 * commands) b.steady (commands + 1 + 1) (commands + 1 + 1) (2 * (commands + 1)) (omega arith) (omega arith) (omega arith);
-  none_to_come = b.none_to_come;
-}
 
 -- ---- OpenFile
 
--- the state once a file is open
-abbrev pub opened_state : MetaImage → ℕ → MetaImage
-opened_state m file = next_turn (apply_all (GiveLease 1 file ∷ []) m)
+-- the state once a file is open, under a lease for a term
+abbrev pub opened_state : ℕ → MetaImage → ℕ → MetaImage
+opened_state term m file = next_turn (apply_all (GiveLease 1 file (lease_end term m.clock) ∷ []) m)
 
 module _ (script : Script) (servers : List Server) (m : MetaImage) (commands : ℕ) (b : Between script servers m commands) where
-  pub open-refused : (layout : Shape) (path : PathNames) (why : TreeRefusal) → look_refusal (standing m.tree) path ≡ Some why
-      → meta_step layout 1 (Ask.OpenFile path) Ended.Done m ≡ record { meta = m; reply = Told.Refused why (length m.history) }
+  pub open-refused : (rules : Rules) (path : PathNames) (why : TreeRefusal) → look_refusal (standing m.tree) path ≡ Some why
+      → meta_step rules 1 (Ask.OpenFile path) Ended.Done m ≡ record { meta = m; reply = Told.Refused why (length m.history) }
   unfolding decide in_range unless decide_request decide_open
-  open-refused layout path why refused =
-      step-tells layout m (Ask.OpenFile path) b.steady.dropped (Told.Refused why (length m.history)) (refused-file (length m.history) _ why _ refused)
+  open-refused rules path why refused =
+      step-tells rules m (Ask.OpenFile path) b.none_dropped (Told.Refused why (length m.history)) (refused-file (length m.history) _ why _ refused)
 
   row-found : (path : PathNames) (c : ClosedAt m.tree path) → row_at m.tree path ≡ c.row
   unfolding row_at
   row-found path c = rw c.found refl
 
-  open-few : (file : ℕ) → commands ≤ 4096 → AreFew (apply_all (GiveLease 1 file ∷ []) m)
+  open-few : (file : ℕ) → AreFew (2 * commands + 2) (apply_all (GiveLease 1 file (lease_end script.term m.clock) ∷ []) m)
   unfolding apply_all apply
-  open-few file few = record {
-    files = omega (arith, b.steady.few_files);
-    leases = omega (arith, b.steady.few_leases);
-    condemned = omega (arith, b.steady.few_condemned);
-    entries = omega (arith, b.steady.few_entries);
-  }
+  open-few file = record { files = omega (arith, b.few.files); leases = omega (arith, b.few.leases); condemned = omega (arith, b.few.condemned); entries = omega (arith, b.few.entries) }
 
-  pub open-served : (layout : Shape) (path : PathNames) (c : ClosedAt m.tree path) → look_refusal (standing m.tree) path ≡ None → commands ≤ 4096
-      → meta_step layout 1 (Ask.OpenFile path) Ended.Done m
-      ≡ record { meta = opened_state m c.row.file; reply = Told.Opened (opened layout c.row m) }
-  unfolding decide in_range unless decide_request decide_open
-  open-served layout path c free few =
-      step-makes layout m (Ask.OpenFile path) b.steady.dropped (GiveLease 1 c.row.file ∷ []) (Told.Opened (opened layout c.row m))
+  pub open-served : (path : PathNames) (c : ClosedAt m.tree path) → look_refusal (standing m.tree) path ≡ None → commands ≤ 4096
+      → meta_step (rules_of script) 1 (Ask.OpenFile path) Ended.Done m
+      ≡ record { meta = opened_state script.term m c.row.file; reply = Told.Opened (opened script.layout c.row m) }
+  unfolding rules_of decide in_range unless decide_request decide_open
+  open-served path c free few =
+      step-makes (rules_of script) m (Ask.OpenFile path) b.none_dropped (GiveLease 1 c.row.file (lease_end script.term m.clock) ∷ []) (Told.Opened (opened script.layout c.row m)) (2 * commands + 2)
       (accepted-file (length m.history) (look_refusal (standing m.tree) path) _ free
-      ∙ ap (λ (row : TreeRow). Makes (GiveLease 1 row.file ∷ []) (Told.Opened (opened layout row m))) (row-found path c))
-      (open-few c.row.file few)
+      ∙ ap (λ (row : TreeRow). Makes (GiveLease 1 row.file (lease_end script.term m.clock) ∷ []) (Told.Opened (opened script.layout row m))) (row-found path c))
+      (open-few c.row.file) (omega (arith, few))
 
   -- the get has its lease
-  pub get-opened : (file : ℕ) → Reads script servers (opened_state m file) commands
+  pub get-opened : (file : ℕ) → Within script servers (opened_state script.term m file) commands
   unfolding next_turn apply_all apply
   get-opened file = record {
-    steady = record {
-      views = b.steady.views;
-      dropped = b.steady.dropped;
-      up = b.steady.up;
-      few_files = b.steady.few_files;
-      few_leases = omega (arith, b.steady.few_leases);
-      few_condemned = b.steady.few_condemned;
-      few_entries = b.steady.few_entries;
-      some_file = b.steady.some_file;
-      written = b.steady.written;
-      rows = b.steady.rows;
-      slots_below = b.steady.slots_below;
-    };
+    as_first = b.as_first;
+    none_dropped = b.none_dropped;
+    up = b.up;
+    few = open-few file;
+    written = b.written;
+    rows = b.rows;
+    slots_below = b.slots_below;
     none_to_come = b.none_to_come;
   }
 
@@ -173,13 +151,8 @@ module _ (script : Script) (servers : List Server) (m : MetaImage) (commands : �
   listed-first : (server : ℕ) → 1 ≤ server → server ≤ script.servers → listed_copy m.servers (Some (first_copy server)) ≡ Some (first_copy server)
   unfolding listed_copy is_listed is_live first_server
   listed-first server first last =
-      let view : server_at m.servers server ≡ first_server = ap (λ views. server_at views server) b.steady.views ∙ view-first script.servers server first last in
+      let view : server_at m.servers server ≡ first_server = ap (λ views. server_at views server) b.as_first ∙ view-first script.servers server first last in
       rw view refl
-
-  place-of : (slot : ℕ) → slot < 9 → slice_get (range_with_len 0 9) slot ≡ Some slot
-  place-of slot below =
-      let sum : 0 + slot ≡ slot = omega arith in
-      slice_get_read (range_with_len 0 9) 9 slot slot refl below (sym (get_or-range_with_len 0 9 slot slot below ∙ sum))
 
   pub listed-slot : (file slot server : ℕ) → slot < 9 → 1 ≤ server → server ≤ script.servers → (slot_at m.slots (first_block file) slot).current ≡ Some (first_copy server)
       → slice_get (listed_nine m.servers m.slots (first_block file)) slot ≡ Some (Some (first_copy server))
@@ -198,35 +171,28 @@ module _ (script : Script) (servers : List Server) (m : MetaImage) (commands : �
 
 -- ---- Fetch
 
-module _ (script : Script) (servers : List Server) (m : MetaImage) (commands server : ℕ) (before : Server) (more : ℕ) (r : Reads script servers m commands)
-    (there : numbered servers server ≡ Some before) (up : before.up ≡ true) (life : before.life ≡ 1) where
+module _ (script : Script) (servers : List Server) (m : MetaImage) (commands server more : ℕ) (r : Within script servers m commands) (u : IsUp servers server) where
   abbrev handed : Server
-  handed = record before { handed_out = more }
+  handed = record u.server { handed_out = more }
 
   pub stays-stored : (other : ℕ) (key : ChunkKey) → stored_at (renumbered servers server handed) other key ≡ stored_at servers other key
-  stays-stored other key = stored-same servers server other before handed key there refl
+  stays-stored other key = stored-same servers server other u.server handed key u.there refl
 
-  pub get-fetched : Reads script (renumbered servers server handed) m commands
+  pub get-fetched : Within script (renumbered servers server handed) m commands
   get-fetched = record {
-    steady = record {
-      views = r.steady.views;
-      dropped = r.steady.dropped;
-      up = are_up-changed script.servers servers server before handed there up life r.steady.up;
-      few_files = r.steady.few_files;
-      few_leases = r.steady.few_leases;
-      few_condemned = r.steady.few_condemned;
-      few_entries = r.steady.few_entries;
-      some_file = r.steady.some_file;
-      written = r.steady.written;
-      rows = each_weaker (IsRow script servers m.slots m.next_file) (IsRow script (renumbered servers server handed) m.slots m.next_file) m.tree
-          (λ row is. record {
-            above = is.above;
-            below = is.below;
-            whole = λ closed. file-kept script.layout script.servers servers (renumbered servers server handed) m.slots m.slots row.file row.len _
-                (λ slot within. refl) (λ other slot. stays-stored other (first_key row.file slot)) (is.whole closed);
-          }) r.steady.rows;
-      slots_below = r.steady.slots_below;
-    };
+    as_first = r.as_first;
+    none_dropped = r.none_dropped;
+    up = are_up-changed servers server u handed u.up u.life u.form script.servers r.up;
+    few = r.few;
+    written = r.written;
+    rows = each_weaker (IsRow script servers m.slots m.next_file) (IsRow script (renumbered servers server handed) m.slots m.next_file) m.tree
+        (λ row is. record {
+          above = is.above;
+          below = is.below;
+          whole = λ closed. file-kept script.layout script.servers servers (renumbered servers server handed) m.slots m.slots row.file row.len _
+              (λ slot within. refl) (λ other slot. stays-stored other (first_key row.file slot)) (is.whole closed);
+        }) r.rows;
+    slots_below = r.slots_below;
     none_to_come = λ other key above. stays-stored other key ∙ r.none_to_come other key above;
   }
 
@@ -236,52 +202,26 @@ module _ (script : Script) (servers : List Server) (m : MetaImage) (commands ser
 abbrev pub released_state : MetaImage → ℕ → MetaImage
 released_state m lease = next_turn (apply_all (EndLease lease ∷ []) m)
 
-module _ (script : Script) (servers : List Server) (m : MetaImage) (commands : ℕ) (r : Reads script servers m commands) where
-  release-few : (lease : ℕ) → commands ≤ 4096 → AreFew (apply_all (EndLease lease ∷ []) m)
+module _ (script : Script) (servers : List Server) (m : MetaImage) (commands : ℕ) (r : Within script servers m commands) where
+  release-few : (lease : ℕ) → AreFew (2 * commands + 2) (apply_all (EndLease lease ∷ []) m)
   unfolding apply_all apply finish_lease
-  release-few lease few = record {
-    files = omega (arith, r.steady.few_files);
-    leases = omega (arith, r.steady.few_leases);
-    condemned = omega (arith, r.steady.few_condemned);
-    entries = omega (arith, r.steady.few_entries);
-  }
+  release-few lease = r.few
 
-  pub release-served : (layout : Shape) (lease : ℕ) → holds_lease 1 lease m.leases ≡ true → commands ≤ 4096
-      → meta_step layout 1 (Ask.Release lease) Ended.Done m ≡ record { meta = released_state m lease; reply = Told.Done (length m.history) }
+  pub release-served : (rules : Rules) (lease : ℕ) → holds_lease 1 lease m.leases ≡ true → commands ≤ 4096
+      → meta_step rules 1 (Ask.Release lease) Ended.Done m ≡ record { meta = released_state m lease; reply = Told.Done (length m.history) }
   unfolding decide in_range unless decide_request decide_release
-  release-served layout lease holds few =
-      step-makes layout m (Ask.Release lease) r.steady.dropped (EndLease lease ∷ []) (Told.Done (length m.history))
-      (ap (λ b. unless b Told.Gone (Makes (EndLease lease ∷ []) (Told.Done (length m.history)))) holds) (release-few lease few)
+  release-served rules lease holds few =
+      step-makes rules m (Ask.Release lease) r.none_dropped (EndLease lease ∷ []) (Told.Done (length m.history)) (2 * commands + 2)
+      (ap (λ b. unless b Told.Gone (Makes (EndLease lease ∷ []) (Told.Done (length m.history)))) holds) (release-few lease) (omega (arith, few))
 
-  pub release-gone-served : (layout : Shape) (lease : ℕ) → holds_lease 1 lease m.leases ≡ false
-      → meta_step layout 1 (Ask.Release lease) Ended.Done m ≡ record { meta = m; reply = Told.Gone }
+  pub release-gone-served : (rules : Rules) (lease : ℕ) → holds_lease 1 lease m.leases ≡ false
+      → meta_step rules 1 (Ask.Release lease) Ended.Done m ≡ record { meta = m; reply = Told.Gone }
   unfolding decide in_range unless decide_request decide_release
-  release-gone-served layout lease gone =
-      step-tells layout m (Ask.Release lease) r.steady.dropped Told.Gone
+  release-gone-served rules lease gone =
+      step-tells rules m (Ask.Release lease) r.none_dropped Told.Gone
       (ap (λ b. unless b Told.Gone (Makes (EndLease lease ∷ []) (Told.Done (length m.history)))) gone)
-
-  pub reads-ended : Between script servers m (commands + 1)
-  reads-ended = record {
-    steady = steady-later script servers m commands (commands + 1) (commands + 2) (2 * commands) r.steady (commands + 1 + 1) (commands + 1 + 1) (2 * (commands + 1)) (omega arith) (omega arith) (omega arith);
-    none_to_come = r.none_to_come;
-  }
 
   -- the world is between two commands
   pub get-released : (lease : ℕ) → Between script servers (released_state m lease) (commands + 1)
   unfolding next_turn apply_all apply finish_lease
-  get-released lease = record {
-    steady = record {
-      views = reads-ended.steady.views;
-      dropped = reads-ended.steady.dropped;
-      up = reads-ended.steady.up;
-      few_files = reads-ended.steady.few_files;
-      few_leases = reads-ended.steady.few_leases;
-      few_condemned = reads-ended.steady.few_condemned;
-      few_entries = reads-ended.steady.few_entries;
-      some_file = reads-ended.steady.some_file;
-      written = reads-ended.steady.written;
-      rows = reads-ended.steady.rows;
-      slots_below = reads-ended.steady.slots_below;
-    };
-    none_to_come = reads-ended.none_to_come;
-  }
+  get-released lease = later script servers m commands (2 * commands + 2) r (2 * (commands + 1) + 1) (omega arith)

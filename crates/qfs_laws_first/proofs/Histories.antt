@@ -7,8 +7,8 @@ use Rattle.std.proofs.lemmas.List.Sums.{fold-append}
 use Rattle.std.specs.Prelude.{IsTrue, fold, slice_get, is_none}
 use Rattle.std.specs.List.{list_any, IsDistinct, AllByRecursion}
 use Rattle.qfs_base.specs.FileReplies.{file_reply, reply_at}
-use Rattle.qfs_base.specs.Files.{Puts, FileEntry, FollowFrom, files_after, files_of, may_follow, creates, created_count, closing_command, closing_commands, same_pair, is_unclosed_entry, files_standing}
-use Rattle.qfs_base.specs.NameTree.{PathNames, add_refusal}
+use Rattle.qfs_base.specs.Files.{Puts, FileEntry, entry_path, FollowFrom, files_after, files_of, may_follow, creates, created_count, closing_command, closing_commands, same_pair, is_unclosed_entry, files_standing}
+use Rattle.qfs_base.specs.NameTree.{PathNames, added, add_refusal}
 use Rattle.qfs_base.specs.Table.{Each, first_of}
 use Rattle.qfs_base.specs.declared.command.FileCommand.{FileCommand}
 use Rattle.qfs_base.specs.declared.history.Entry.{Entry}
@@ -18,10 +18,10 @@ use Rattle.qfs_base.specs.declared.script.Script.{Script}
 use Rattle.qfs_model_meta.specs.TreeRows.{standing, file_row, add_row, close_file}
 use Rattle.qfs_model_world.specs.FileHistory.{path_if, created_in, created_path, IsOwnPut, IsHistoryOf}
 use Rattle.qfs_model_world.specs.Puts.{put_path, puts_of}
-use Rattle.qfs_laws_first.specs.Standing.{content_if, entry_of}
+use Rattle.qfs_model_meta.specs.Sound.{content_of, file_entry}
 use Rattle.qfs_laws_first.proofs.Tables.{each_append}
 use Rattle.qfs_laws_first.proofs.Tests.{same-number, and-false}
-use Rattle.qfs_laws_first.proofs.Trees.{standing-files, map-added, map-closed, MayClose}
+use Rattle.qfs_laws_first.proofs.Trees.{kinds, standing-files, map-added, map-closed, MayClose}
 
 -- ---- one entry more
 
@@ -89,7 +89,7 @@ reply_at-more puts history more place command within = ap (λ h. file_reply (fil
 pub record Written (script : Script) (history : List Entry) (tree : List TreeRow) (next_file commands : ℕ) : Type 0 where
   pub legal : IsHistoryOf script history
   pub count : next_file ≡ created_count history + 1
-  pub files : files_of (puts_of script) history ≡ map (entry_of (puts_of script)) tree
+  pub files : files_of (puts_of script) history ≡ map (file_entry (puts_of script)) tree
   pub closers : Each (λ (pair : ℕ × ℕ). (pair.0 ≡ 1) × (pair.1 ≤ commands)) (closing_commands history)
   pub unborn : (file : ℕ) → next_file ≤ file → created_path file history ≡ None
 
@@ -118,14 +118,15 @@ files-more puts history entry = fold-append (files_after puts) [] history (entry
 
 -- a file is created
 pub written-created : (script : Script) (history : List Entry) (tree : List TreeRow) (next_file commands command len : ℕ) (path : PathNames)
-    → Written script history tree next_file commands → Each (λ row. 1 ≤ row.file) tree → add_refusal (standing tree) path ≡ None
+    → Written script history tree next_file commands → add_refusal (standing tree) path ≡ None
     → Written script (history ++ Wrote.Created next_file path ∷ []) (add_row (file_row path next_file 1 command len) tree) (next_file + 1) commands
-unfolding may_follow files_of created_count closing_commands closing_command files_after entry_of content_if file_row creates created_path created_in path_if
-written-created script history tree next_file commands command len path w above free =
+unfolding may_follow files_of created_count closing_commands closing_command files_after file_entry content_of file_row creates created_path created_in path_if
+written-created script history tree next_file commands command len path w free =
     let puts : Puts = puts_of script in
+    let row : TreeRow = file_row path next_file 1 command len in
     let entry : Entry = Wrote.Created next_file path in
     let number : (next_file == created_count history + 1) ≡ true = rw w.count (same-number (created_count history + 1)) in
-    let new : is_none (add_refusal (files_standing (files_of puts history)) path) ≡ true = rw (w.files, standing-files puts tree above, free) refl in
+    let new : is_none (add_refusal (files_standing (files_of puts history)) path) ≡ true = rw (w.files, standing-files puts tree, free) refl in
     let may : IsTrue (may_follow (created_count history) (files_of puts history) entry) = rw (number, new) refl in
     record {
       legal = record {
@@ -138,7 +139,8 @@ written-created script history tree next_file commands command len path w above 
       count = ap (λ n. n + 1) w.count ∙ (let more = count-more history entry in omega (arith, more));
       files = files-more puts history entry
           ∙ ap (λ files. files_after puts files entry) w.files
-          ∙ sym (map-added puts (file_row path next_file 1 command len) tree);
+          ∙ ap (λ kind. added entry_path (record { path = path; content = content_of puts row kind }) (map (file_entry puts) tree)) (sym (kinds next_file (omega (arith, w.count))).1)
+          ∙ sym (map-added puts row tree);
       closers = subst (Each (λ (pair : ℕ × ℕ). (pair.0 ≡ 1) × (pair.1 ≤ commands))) (sym (filter_map-append closing_command history (entry ∷ []) ∙ append-nil (closing_commands history))) w.closers;
       unborn = λ file above.
           let other : (next_file == file) ≡ false = grind (arith, nat_tests) in
@@ -159,12 +161,12 @@ later commands [] each = tt
 later commands (pair ∷ pairs) each = ((each.0.0, omega (arith, each.0.1)), later commands pairs each.1)
 
 pub written-closed : (script : Script) (history : List Entry) (tree : List TreeRow) (next_file commands file : ℕ) (path : PathNames)
-    → Written script history tree next_file commands → Each (MayClose file 1 (commands + 1)) tree
-    → list_any (is_unclosed_entry file) (map (entry_of (puts_of script)) tree) ≡ true
+    → Written script history tree next_file commands → 1 ≤ file → Each (MayClose file 1 (commands + 1)) tree
+    → list_any (is_unclosed_entry file) (map (file_entry (puts_of script)) tree) ≡ true
     → created_path file history ≡ Some path → put_path script 1 (commands + 1) ≡ Some path
     → Written script (history ++ Wrote.Closed file 1 (commands + 1) ∷ []) (close_file file tree) next_file (commands + 1)
 unfolding may_follow files_of created_count closing_commands closing_command files_after creates created_path created_in
-written-closed script history tree next_file commands file path w may_close unclosed created put =
+written-closed script history tree next_file commands file path w above may_close unclosed created put =
     let puts : Puts = puts_of script in
     let entry : Entry = Wrote.Closed file 1 (commands + 1) in
     let may : IsTrue (may_follow (created_count history) (files_of puts history) entry) = ap (list_any (is_unclosed_entry file)) w.files ∙ unclosed in
@@ -181,7 +183,7 @@ written-closed script history tree next_file commands file path w may_close uncl
       count = w.count ∙ (let more = count-more history entry in omega (arith, more));
       files = files-more puts history entry
           ∙ ap (λ files. files_after puts files entry) w.files
-          ∙ sym (map-closed file 1 (commands + 1) puts tree may_close);
+          ∙ sym (map-closed file 1 (commands + 1) puts above tree may_close);
       closers = subst (Each (λ (pair : ℕ × ℕ). (pair.0 ≡ 1) × (pair.1 ≤ commands + 1))) (sym closing)
           (each_append _ (closing_commands history) ((1, commands + 1) ∷ []) (later commands (closing_commands history) w.closers) ((refl, omega arith), tt));
       unborn = λ number above. first_of-none (created_in number) history entry (w.unborn number above) refl;

@@ -1,19 +1,19 @@
 -- What a change of other files leaves of a file, and what the servers are to the metaserver.
-use Rattle.std.proofs.Common.{◌≡◌, ℕ, zero, suc, ◌<◌, ◌≤◌, ◌==◌, true, false, List, [], ◌∷◌, replicate, ap, ◌∙◌, arith}
-use Rattle.std.proofs.lemmas.Bool.Decides.{nat_tests}
-use Rattle.std.proofs.lemmas.Bool.Decides.{nat_tests}
+use Rattle.std.proofs.Common.{◌≡◌, ℕ, zero, suc, ◌<◌, ◌≤◌, true, false, List, [], ◌∷◌, replicate, ap, ◌∙◌, arith}
 use Rattle.std.proofs.lemmas.List.{get_or-replicate}
+use Rattle.std.specs.Ordering.{nat_cmp, is_eq}
 use Rattle.qfs_base.specs.Shape.{Shape}
 use Rattle.qfs_base.specs.Table.{Each}
 use Rattle.qfs_base.specs.declared.image.SlotRecord.{SlotRecord}
 use Rattle.qfs_base.specs.declared.image.SlotRow.{SlotRow}
 use Rattle.qfs_base.specs.declared.image.TreeRow.{TreeRow}
-use Rattle.qfs_model_meta.specs.TreeRows.{file_row}
+use Rattle.qfs_model_meta.specs.TreeRows.{file_row, has_file}
 use Rattle.qfs_model_meta.specs.Servers.{no_server, server_at}
 use Rattle.qfs_model_meta.specs.Slots.{slot_at}
 use Rattle.qfs_model_meta.specs.Step.{first_server}
 use Rattle.qfs_model_server.specs.Server.{Server}
 use Rattle.qfs_laws_first.proofs.Servers.{stored_at}
+use Rattle.qfs_laws_first.proofs.Tests.{own-key}
 use Rattle.qfs_laws_first.proofs.States.{Target, target_row, first_block, first_key, IsFile}
 
 -- a file stays whole where its slots and their copies stay
@@ -49,9 +49,9 @@ view-first n zero first last = absurd (omega arith)
 view-first n (suc k) first last = get_or-replicate n k first_server no_server (omega arith)
 
 -- a closed file isn't the one that is put
-pub closed-elsewhere : (commands : ℕ) (t : Target) (row : TreeRow) → ((row.file == t.file) ≡ true → row ≡ target_row commands t) → row.closed ≡ true → row.file ≡ t.file → ⊥
-unfolding file_row
+pub closed-elsewhere : (commands : ℕ) (t : Target) (row : TreeRow) → (has_file t.file row ≡ true → row ≡ target_row commands t) → row.closed ≡ true → row.file ≡ t.file → ⊥
+unfolding file_row has_file
 closed-elsewhere commands t row own closed same =
-    let equal : (row.file == t.file) ≡ true = grind (arith, nat_tests) in
-    let unshut : row.closed ≡ false = ap (λ (r : TreeRow). r.closed) (own equal) in
+    let own_row : is_eq (nat_cmp t.file row.file) ≡ true = rw same (own-key t.file) in
+    let unshut : row.closed ≡ false = ap (λ (r : TreeRow). r.closed) (own own_row) in
     absurd (cc)

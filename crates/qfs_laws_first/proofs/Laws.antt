@@ -10,6 +10,7 @@ use Rattle.qfs_base.specs.FileReplies.{reply_at}
 use Rattle.qfs_base.specs.KeyMap.{value_at}
 use Rattle.qfs_base.specs.Key.{key_cmp}
 use Rattle.qfs_base.specs.NameTree.{PathNames}
+use Rattle.qfs_base.specs.Rules.{rules_of}
 use Rattle.qfs_base.specs.Table.{Each}
 use Rattle.qfs_base.specs.declared.chunk.ChunkKey.{ChunkKey}
 use Rattle.qfs_base.specs.declared.command.Command.{Command}
@@ -21,6 +22,7 @@ use Rattle.qfs_base.specs.declared.command.Reply.TheVariants as Says
 use Rattle.qfs_base.specs.declared.history.FileReply.TheVariants as Told
 use Rattle.qfs_base.specs.declared.history.Step.{Step}
 use Rattle.qfs_base.specs.declared.recipe.Form.TheVariants as Of
+use Rattle.qfs_base.specs.declared.reply.Opened.{Opened}
 use Rattle.qfs_base.specs.declared.script.Script.{Script}
 use Rattle.qfs_model_actor.specs.Actor.{Actor, starting, present_command}
 use Rattle.qfs_model_actor.specs.Work.{Report}
@@ -28,21 +30,22 @@ use Rattle.qfs_model_meta.specs.Step.{opening}
 use Rattle.qfs_model_server.specs.Server.{Server, fresh_server}
 use Rattle.qfs_model_world.specs.Agrees.{Agrees, AgreesFile}
 use Rattle.qfs_model_world.specs.Deletion.{NoDeletion}
-use Rattle.qfs_model_world.specs.Events.{Event, event_in, events_from, events, is_step_of}
-use Rattle.qfs_model_world.specs.EveryGet.{ReleasesAt, ReadsRight, EveryGet}
+use Rattle.qfs_model_world.specs.Events.{Event, event_in, events_from, events, is_step_of, place_before}
+use Rattle.qfs_model_world.specs.EveryGet.{ReadsRight, EveryGet}
 use Rattle.qfs_model_world.specs.FileHistory.{IsHistoryOf}
+use Rattle.qfs_model_world.specs.Openings.{OpensAt}
 use Rattle.qfs_model_world.specs.Puts.{command_of, puts_of}
 use Rattle.qfs_model_world.specs.Reports.{report_of, EachReport, IsPlaced, OneFileHistory}
 use Rattle.qfs_model_world.specs.World.{World, numbered_actors, start, numbered, move, after}
 use Rattle.qfs_model_world.proofs.OneActor.{done_step}
-use Rattle.qfs_laws_first.specs.FirstPath.{IsPutOrGet, IsFirst, IsFirstFile, IsFirstPath, AllDone}
+use Rattle.qfs_laws_first.specs.FirstPath.{IsPutOrGet, IsFirst, IsFirstPath, AllDone}
 use Rattle.qfs_laws_first.specs.Replies.{IsPlain, PlainReplies}
 use Rattle.qfs_laws_first.proofs.Deletes.{deletes_nothing}
 use Rattle.qfs_laws_first.proofs.GetRuns.{get-starts, get-goes}
 use Rattle.qfs_laws_first.proofs.Histories.{written-none}
 use Rattle.qfs_laws_first.proofs.Moves.{request-none}
 use Rattle.qfs_laws_first.proofs.PutRuns.{command-at, put-starts, put-stores-on, put-goes}
-use Rattle.qfs_laws_first.proofs.Reports.{IsBorneOut, IsGood, IsReadBy, ReadsWhereReleased}
+use Rattle.qfs_laws_first.proofs.Reports.{IsBorneOut, IsGood, IsReadBy, opened_in, ReadsWhereOpened, numbered-more}
 use Rattle.qfs_laws_first.proofs.Rows.{each_at, each_weaker}
 use Rattle.qfs_laws_first.proofs.Tests.{and-both}
 use Rattle.qfs_laws_first.proofs.Runs.{Resting, Run, Next, no-step}
@@ -53,46 +56,22 @@ use Rattle.qfs_laws_first.proofs.States.{Between}
 
 module _ (script : Script) (commands : List Command) (steps : List Event) (w : World) (first_path : IsFirstPath script commands) (r : Run script commands steps w) where
   -- the actor is at its next command, if there is one
-  file-starts : (command : FileCommand) → IsFirstFile command → present_command r.actor ≡ Some (Does.File command) → Resting script w.servers w.meta r.actor
-      → command_of script 1 (length r.actor.ended + 1) ≡ Some (Does.File command) → length r.actor.ended ≤ 4096 → Next script commands steps w
-  file-starts (File.Put path (Of.Hex bytes)) is present rest at few =
-      put-starts script commands steps w first_path r path bytes rest.silent rest.between present at few is.0 is.1
-  file-starts (File.Put path (Of.Fill byte len)) is present rest at few = absurd is
-  file-starts (File.Put path (Of.Pattern from len)) is present rest at few = absurd is
-  file-starts (File.Get path range) is present rest at few =
-      get-starts script commands steps w first_path r path rest.silent rest.between (rw is at present) (rw is at at) few
-  file-starts (File.Mkdir path) is present rest at few = absurd is
-  file-starts (File.Rmdir path) is present rest at few = absurd is
-  file-starts (File.Remove path) is present rest at few = absurd is
-  file-starts (File.Rename from to) is present rest at few = absurd is
-  file-starts (File.List path) is present rest at few = absurd is
-
-  starts : (command : Command) → IsFirst command → present_command r.actor ≡ Some command → Resting script w.servers w.meta r.actor
+  starts : (command : Command) → IsFirst command → present_command r.actor ≡ Some command → r.told ≡ r.actor.ended → Resting script w.servers w.meta r.actor
       → command_of script 1 (length r.actor.ended + 1) ≡ Some command → length r.actor.ended ≤ 4096 → Next script commands steps w
-  starts (Does.File command) is present rest at few = file-starts command is present rest at few
-  starts (Does.Recover path index slot) is present rest at few = absurd is
-  starts (Does.Move path index slot server) is present rest at few = absurd is
-  starts (Does.Heal budget) is present rest at few = absurd is
-  starts (Does.Rebalance budget) is present rest at few = absurd is
-  starts (Does.Evacuate server budget) is present rest at few = absurd is
-  starts (Does.Sweep budget) is present rest at few = absurd is
-  starts (Does.Stop server) is present rest at few = absurd is
-  starts (Does.Start server) is present rest at few = absurd is
-  starts (Does.Wipe server) is present rest at few = absurd is
-  starts (Does.Hibernate server ticks) is present rest at few = absurd is
-  starts Does.Tick is present rest at few = absurd is
-  starts (Does.Drop actor) is present rest at few = absurd is
-  starts Does.Checkpoint is present rest at few = absurd is
-  starts Does.Restart is present rest at few = absurd is
+  starts (Does.File (File.Put path (Of.Hex bytes))) is present told_is rest at few =
+      put-starts script commands steps w first_path r path bytes told_is rest.silent rest.between present at few is.0 is.1
+  starts (Does.File (File.Get path range)) is present told_is rest at few =
+      get-starts script commands steps w first_path r path told_is rest.silent rest.between (rw is at present) (rw is at at) few
+  starts command is present told_is rest at few = absurd is
 
-  rests : Resting script w.servers w.meta r.actor → Next script commands steps w
-  rests rest = at (present_command r.actor) refl
+  rests : r.told ≡ r.actor.ended → Resting script w.servers w.meta r.actor → Next script commands steps w
+  rests told_is rest = at (present_command r.actor) refl
     where
       at : (found : Option Command) → present_command r.actor ≡ found → Next script commands steps w
       at None none = no-step script commands steps w r.actor r.alone (request-none r.actor none)
       at (Some command) present =
           let here : slice_get commands (length r.actor.ended) ≡ Some command = ap (λ commands. slice_get commands (length r.actor.ended)) (sym r.own_commands) ∙ present in
-          starts command (each_at IsFirst commands (length r.actor.ended) command first_path.each here) present rest
+          starts command (each_at IsFirst commands (length r.actor.ended) command first_path.each here) present told_is rest
           (command-at script commands (length r.actor.ended) command first_path.alone here)
           (omega (arith, slice_get_within commands (length r.actor.ended) command here, first_path.few))
 
@@ -100,14 +79,14 @@ module _ (script : Script) (commands : List Command) (steps : List Event) (w : W
   pub next : Next script commands steps w
   next =
       elim r.stage [
-        | inl rest ↦ rests rest
-        | inr busy ↦ elim busy [
-          | inl granting ↦ put-goes script commands steps w first_path r granting
-          | inr more ↦ elim more [
-            | inl storing ↦ put-stores-on script commands steps w first_path r storing
-            | inr fetching ↦ get-goes script commands steps w first_path r fetching
+        | inl idle ↦ elim idle.1 [
+          | inl rest ↦ rests idle.0 rest
+          | inr busy ↦ elim busy [
+            | inl granting ↦ put-goes script commands steps w first_path r idle.0 granting
+            | inr storing ↦ put-stores-on script commands steps w first_path r idle.0 storing
           ]
         ]
+        | inr fetching ↦ get-goes script commands steps w first_path r fetching
       ]
 
 -- ---- all steps
@@ -138,7 +117,7 @@ fresh-at (suc n) (suc k) below = fresh-at n k (omega arith)
 fresh-numbered : (n number : ℕ) → 1 ≤ number → number ≤ n → IsUp (replicate n fresh_server) number
 unfolding numbered
 fresh-numbered n zero first last = absurd (omega arith)
-fresh-numbered n (suc k) first last = record { server = fresh_server; there = fresh-at n k (omega arith); up = refl; life = refl }
+fresh-numbered n (suc k) first last = record { server = fresh_server; there = fresh-at n k (omega arith); up = refl; life = refl; form = refl }
 
 fresh-empty : (n k : ℕ) (key : ChunkKey) → option_and_then (λ (s : Server). value_at key_cmp s.copies key) (slice_get (replicate n fresh_server) k) ≡ None
 fresh-empty zero k key = refl
@@ -153,33 +132,29 @@ none-stored n (suc k) key = fresh-empty n k key
 between-none : (script : Script) → Between script (replicate script.servers fresh_server) (opening script.servers) 0
 unfolding opening
 between-none script = record {
-  steady = record {
-    views = refl;
-    dropped = refl;
-    up = fresh-numbered script.servers;
-    few_files = omega arith;
-    few_leases = omega arith;
-    few_condemned = omega arith;
-    few_entries = omega arith;
-    some_file = omega arith;
-    written = written-none script;
-    rows = tt;
-    slots_below = tt;
-  };
+  as_first = refl;
+  none_dropped = refl;
+  up = fresh-numbered script.servers;
+  few = record { files = omega arith; leases = omega arith; condemned = omega arith; entries = omega arith };
+  written = written-none script;
+  rows = tt;
+  slots_below = tt;
   none_to_come = λ server key above. none-stored script.servers server key;
 }
 
 pub run-none : (script : Script) (commands : List Command) → IsFirstPath script commands → Run script commands [] (start script)
 unfolding start numbered_actors starting opening
 run-none script commands first_path = record {
-  actor = starting script.layout 1 commands;
-  layout = refl;
+  actor = starting (rules_of script) 1 commands;
+  rules = refl;
   alone = rw first_path.alone refl;
   number = refl;
-  own_layout = refl;
+  own_rules = refl;
   own_commands = refl;
-  so_far = record { replies = tt; releases = tt };
-  stage = inl (record { silent = refl; between = between-none script });
+  replies = tt;
+  told = [];
+  openings = tt;
+  stage = inl (refl, inl (record { silent = refl; between = between-none script }));
 }
 
 run-after : (script : Script) (commands : List Command) (order : List Step) → IsFirstPath script commands → AllDone order → Run script commands (events script order) (after script order)
@@ -192,14 +167,14 @@ module _ (script : Script) (commands : List Command) (steps : List Event) (w : W
   legal-of : IsHistoryOf script w.meta.history
   legal-of =
       elim r.stage [
-        | inl rest ↦ rest.between.steady.written.legal
-        | inr busy ↦ elim busy [
-          | inl granting ↦ granting.puts.steady.written.legal
-          | inr more ↦ elim more [
-            | inl storing ↦ storing.puts.steady.written.legal
-            | inr fetching ↦ fetching.reads.steady.written.legal
+        | inl idle ↦ elim idle.1 [
+          | inl rest ↦ rest.between.written.legal
+          | inr busy ↦ elim busy [
+            | inl granting ↦ granting.puts.steady.written.legal
+            | inr storing ↦ storing.puts.steady.written.legal
           ]
         ]
+        | inr fetching ↦ fetching.reads.written.legal
       ]
 
   borne-agrees : (number : ℕ) (command : FileCommand) (report : Report) → IsBorneOut script w.meta.history number command report
@@ -218,7 +193,7 @@ module _ (script : Script) (commands : List Command) (steps : List Event) (w : W
   each-reply : (P : ℕ → ℕ → Report → Type 0) → ((number : ℕ) (report : Report) → IsGood script steps w.meta.history number report → P 1 number report) → EachReport w P
   each-reply P holds =
       let of_actor : Each (λ (reply : ℕ × Report). P 1 reply.0 reply.1) (enumerate_from 1 r.actor.ended) =
-      each_weaker (λ (reply : ℕ × Report). IsGood script steps w.meta.history reply.0 reply.1) _ (enumerate_from 1 r.actor.ended) (λ reply good. holds reply.0 reply.1 good) r.so_far.replies in
+      each_weaker (λ (reply : ℕ × Report). IsGood script steps w.meta.history reply.0 reply.1) _ (enumerate_from 1 r.actor.ended) (λ reply good. holds reply.0 reply.1 good) r.replies in
       subst (λ actors. Each (λ (actor : Actor). Each (λ (reply : ℕ × Report). P actor.number reply.0 reply.1) (enumerate_from 1 actor.ended)) actors) (sym r.alone)
       (subst (λ n. Each (λ (reply : ℕ × Report). P n reply.0 reply.1) (enumerate_from 1 r.actor.ended)) (sym r.number) of_actor, tt)
 
@@ -269,10 +244,17 @@ unfolding is_step_of
 own-step-of actor number event is = let parts = and-both _ _ is in (eqb-true event.actor actor parts.0, eqb-true event.command number parts.1)
 
 module _ (script : Script) (commands : List Command) (order : List Step) (r : Run script commands (events script order) (after script order)) where
-  report-found : (number : ℕ) (report : Report) → numbered r.actor.ended number ≡ Some report → report_of (after script order) 1 number ≡ Some report
+  report-found : (number : ℕ) (report : Report) → report_of (after script order) 1 number ≡ Some report → numbered r.actor.ended number ≡ Some report
   unfolding report_of numbered
   report-found number report found =
-      ap (λ actors. option_and_then (λ (a : Actor). numbered a.ended number) (slice_get actors 0)) r.alone ∙ found
+      sym (ap (λ actors. option_and_then (λ (a : Actor). numbered a.ended number) (slice_get actors 0)) r.alone) ∙ found
+
+  was-told : (number : ℕ) (report : Report) → numbered r.actor.ended number ≡ Some report → numbered r.told number ≡ Some report
+  was-told number report found =
+      elim r.stage [
+        | inl idle ↦ subst (λ told. numbered told number ≡ Some report) (sym idle.0) found
+        | inr fetching ↦ subst (λ told. numbered told number ≡ Some report) (sym fetching.told_is) (numbered-more r.actor.ended _ number report found)
+      ]
 
   get-right : (number place : ℕ) (bytes : List ℕ) (path : PathNames) (range : Option Range) → command_of script 1 number ≡ Some (Does.File (File.Get path range))
       → IsGood script (events script order) (after script order).meta.history number (Says.Read place bytes)
@@ -282,32 +264,38 @@ module _ (script : Script) (commands : List Command) (order : List Step) (r : Ru
       let same : good.command ≡ File.Get path range = cc in
       subst (λ command. reply_at (puts_of script) (after script order).meta.history place command ≡ Told.Read bytes) same good.says.1
 
-  reads-right : (number : ℕ) (event : Event) (path : PathNames) (range : Option Range) → event.command ≡ number
-      → command_of script 1 number ≡ Some (Does.File (File.Get path range)) → IsReadBy r.actor.ended event
-      → ReadsRight script order 1 number path range
-  reads-right number event path range own at read =
-      let found : numbered r.actor.ended number ≡ Some (Says.Read read.place read.bytes) = ap (numbered r.actor.ended) (sym own) ∙ read.reply in
+  reads-right : (number i : ℕ) (o : Opened) (path : PathNames) (range : Option Range) (report : Report) (event : Event)
+      → command_of script 1 number ≡ Some (Does.File (File.Get path range)) → numbered r.actor.ended number ≡ Some report
+      → slice_get (events script order) i ≡ Some event → event.command ≡ number → IsReadBy r.told event o
+      → ReadsRight script order i o path range report
+  reads-right number i o path range report event at found here own read =
+      let told : Some report ≡ Some (Says.Read o.place read.bytes) = sym (was-told number report found) ∙ ap (numbered r.told) (sym own) ∙ read.reply in
+      let same : report ≡ Says.Read o.place read.bytes = cc in
       record {
-        place = read.place;
         bytes = read.bytes;
-        reply = report-found number (Says.Read read.place read.bytes) found;
-        right = get-right number read.place read.bytes path range at
-            (reply-numbered (λ (reply : ℕ × Report). IsGood script (events script order) (after script order).meta.history reply.0 reply.1) r.actor.ended number _ r.so_far.replies found);
+        reply = same;
+        right = get-right number o.place read.bytes path range at
+            (reply-numbered (λ (reply : ℕ × Report). IsGood script (events script order) (after script order).meta.history reply.0 reply.1) r.actor.ended number _ r.replies
+            (found ∙ ap Some same));
+        place = λ other is.
+            let both : Some event ≡ Some other = sym here ∙ is in
+            let equal : event ≡ other = cc in
+            read.place ∙ ap place_before equal;
       }
 
-  get-of : (actor number j : ℕ) (path : PathNames) (range : Option Range) → command_of script actor number ≡ Some (Does.File (File.Get path range))
-      → ReleasesAt (events script order) actor number j → ReadsRight script order actor number path range
-  get-of actor number j path range at released =
-      let own = own-step-of actor number released.event released.own in
-      let read : IsReadBy r.actor.ended released.event =
-      each_at (ReadsWhereReleased r.actor.ended) (events script order) j released.event r.so_far.releases released.at released.release in
-      let one : 1 ≡ actor = sym read.by ∙ own.0 in
-      subst (λ actor. ReadsRight script order actor number path range) one
-      (reads-right number released.event path range own.1 (subst (λ actor. command_of script actor number ≡ Some (Does.File (File.Get path range))) (sym one) at) read)
+  get-of : (actor number i : ℕ) (o : Opened) (path : PathNames) (range : Option Range) (report : Report) → command_of script actor number ≡ Some (Does.File (File.Get path range))
+      → report_of (after script order) actor number ≡ Some report → OpensAt (events script order) actor number i o → ReadsRight script order i o path range report
+  get-of actor number i o path range report at reported opens =
+      let own = own-step-of actor number opens.event opens.own in
+      let read : IsReadBy r.told opens.event o =
+      each_at (ReadsWhereOpened r.told) (events script order) i opens.event r.openings opens.at o (ap opened_in opens.opened) in
+      let one : actor ≡ 1 = sym own.0 ∙ read.by in
+      reads-right number i o path range report opens.event (rw one at at)
+      (report-found number report (rw one at reported)) opens.at own.1 read
 
 pub every-get : (script : Script) (commands : List Command) (order : List Step) → IsFirstPath script commands → AllDone order → EveryGet script order
-every-get script commands order first_path done actor number i j o path range at opens released well =
-    get-of script commands order (run-after script commands order first_path done) actor number j path range at released
+every-get script commands order first_path done actor number i j o path range report at reported opening last well =
+    get-of script commands order (run-after script commands order first_path done) actor number i o path range report at reported opening.opens
 
 -- ---- no deletion
 

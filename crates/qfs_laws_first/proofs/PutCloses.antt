@@ -1,10 +1,10 @@
 -- A put whose nine slots are stored closes its file.
-use Rattle.std.proofs.Common.{◌≡◌, ℕ, ◌+◌, ◌<◌, ◌≤◌, ◌==◌, ◌&&◌, ◌||◌, Bool, true, false, List, [], ◌∷◌, ◌++◌, length, map, find, filter, Some, None, refl, sym, ap, subst, ◌∙◌, arith}
+use Rattle.std.proofs.Common.{◌≡◌, ℕ, ◌+◌, ◌*◌, ◌<◌, ◌≤◌, ◌&&◌, ◌||◌, Bool, true, false, List, [], ◌∷◌, ◌++◌, length, map, find, filter, Some, None, refl, sym, ap, subst, ◌∙◌, arith}
 use Rattle.std.proofs.lemmas.List.{length-append}
 use Rattle.std.specs.Prelude.{is_none}
 use Rattle.std.specs.List.{list_any}
 use Rattle.qfs_base.specs.Files.{is_unclosed_content, is_unclosed_entry}
-use Rattle.qfs_base.specs.Shape.{Shape}
+use Rattle.qfs_base.specs.Rules.{rules_of}
 use Rattle.qfs_base.specs.Table.{Each}
 use Rattle.qfs_base.specs.declared.history.Entry.TheVariants as Wrote
 use Rattle.qfs_base.specs.declared.history.Outcome.TheVariants as Ended
@@ -17,20 +17,20 @@ use Rattle.qfs_base.specs.declared.request.MetaRequest.TheVariants as Ask
 use Rattle.qfs_base.specs.declared.request.SlotId.{SlotId}
 use Rattle.qfs_base.specs.declared.script.Script.{Script}
 use Rattle.qfs_model_meta.specs.Apply.{write_entry, with_slots, apply, apply_all}
-use Rattle.qfs_model_meta.specs.Change.{CloseFile}
+use Rattle.qfs_base.specs.declared.change.Change.TheVariants.{CloseFile}
 use Rattle.qfs_model_meta.specs.Decide.{decide, decide_request}
 use Rattle.qfs_model_meta.specs.Decision.{Makes, refuse, unless, need}
 use Rattle.qfs_base.specs.Mask.{all_slots}
 use Rattle.qfs_model_meta.specs.Lists.{block_count}
-use Rattle.qfs_model_meta.specs.PutRequests.{decide_close, close_complete, incomplete, first_ungranted, block_slots, file_slots, lacks_grant, slot_id}
+use Rattle.qfs_model_meta.specs.PutRequests.{decide_close, close_complete, incomplete, first_ungranted, block_slots, file_slots, lacks_grant}
 use Rattle.qfs_model_meta.specs.Range.{in_range}
-use Rattle.qfs_model_meta.specs.Slots.{is_of_file, slots_of, granted_copy, sealed_slot, change_state, seal_file}
+use Rattle.qfs_model_meta.specs.Slots.{slot_id, is_of_file, slots_of, granted_copy, sealed_slot, change_state, seal_file}
+use Rattle.qfs_model_meta.specs.Sound.{content_of, file_entry}
 use Rattle.qfs_model_meta.specs.Step.{next_turn, meta_step}
 use Rattle.qfs_model_meta.specs.TreeRows.{file_row, close_row, close_file, has_file, unclosed_file, is_unclosed_of}
 use Rattle.qfs_model_server.specs.Server.{Server}
 use Rattle.qfs_model_slot.specs.Slot.{slot_of}
 use Rattle.qfs_model_world.specs.Puts.{puts_of}
-use Rattle.qfs_laws_first.specs.Standing.{content_if, entry_of}
 use Rattle.qfs_laws_first.proofs.Histories.{written-closed}
 use Rattle.qfs_laws_first.proofs.Kept.{file-kept, each_with}
 use Rattle.qfs_laws_first.proofs.MetaSteps.{AreFew, step-makes}
@@ -38,8 +38,8 @@ use Rattle.qfs_laws_first.proofs.Reading.{IsShort, blocks_of-one}
 use Rattle.qfs_laws_first.proofs.Rows.{each_weaker}
 use Rattle.qfs_laws_first.proofs.States.{first_block, first_copy, granted_once, HasCurrent, IsFile, IsRow, Between, Target, target_row, Puts}
 use Rattle.qfs_laws_first.proofs.Tables.{each_test, each_changed, each_append, each_map, each_range, find-none, slot_at-sealed, slot_at-unsealed}
-use Rattle.qfs_laws_first.proofs.Tests.{same-number}
-use Rattle.qfs_laws_first.proofs.Trees.{MayClose}
+use Rattle.qfs_laws_first.proofs.Tests.{same-number, own-key}
+use Rattle.qfs_laws_first.proofs.Trees.{MayClose, kinds}
 
 -- the state once the file is closed
 abbrev pub closed_state : MetaImage → ℕ → ℕ → MetaImage
@@ -63,13 +63,9 @@ module _ (script : Script) (servers : List Server) (m : MetaImage) (commands : �
   unfolding lacks_grant
   lacks-at slot below = ap (λ (r : SlotRecord). is_none r.grant) (p.grants slot below).granted
 
-  of-file : (row : SlotRow) → is_of_file t.file row ≡ true → ((row.block.file == t.file) ≡ true → lacks_grant m.slots (slot_id row) ≡ false) → lacks_grant m.slots (slot_id row) ≡ false
-  unfolding is_of_file
-  of-file row is all = all is
-
-  all-granted : (layout : Shape) → IsShort layout (length t.bytes) → first_ungranted t.file (block_count layout (length t.bytes)) m.slots ≡ None
+  all-granted : IsShort script.layout (length t.bytes) → first_ungranted t.file (block_count script.layout (length t.bytes)) m.slots ≡ None
   unfolding first_ungranted file_slots block_slots slots_of
-  all-granted layout short =
+  all-granted short =
       let id : ℕ → SlotId = λ slot. record { block = first_block t.file; slot = slot } in
       let ids : List SlotId = map id all_slots in
       let more : List SlotId = map slot_id (filter (is_of_file t.file) m.slots) in
@@ -77,35 +73,31 @@ module _ (script : Script) (servers : List Server) (m : MetaImage) (commands : �
       let in_block : Each Granted ids = each_map Granted id all_slots (each_range (λ slot. Granted (id slot)) 0 9 (λ slot above below. lacks-at slot (omega (arith, below)))) in
       let in_table : Each Granted more =
       each_map Granted slot_id (filter (is_of_file t.file) m.slots)
-      (each_weaker _ _ (filter (is_of_file t.file) m.slots) (λ (row : SlotRow) both. of-file row both.0 both.1)
+      (each_weaker _ _ (filter (is_of_file t.file) m.slots) (λ (row : SlotRow) both. both.1 both.0)
       (each_test _ (is_of_file t.file) m.slots p.all_granted)) in
-      rw (blocks_of-one layout (length t.bytes) short)
+      rw (blocks_of-one script.layout (length t.bytes) short)
       (find-none (lacks_grant m.slots) ((ids ++ []) ++ more) (each_append Granted (ids ++ []) more (each_append Granted ids [] in_block tt) in_table))
 
-  close-decided : (layout : Shape) → IsShort layout (length t.bytes)
-      → decide layout 1 m (Ask.Close t.file) ≡ Makes (CloseFile t.file 1 (commands + 1) ∷ []) (Told.Done (length m.history))
-  unfolding decide in_range unless decide_request decide_close need close_complete refuse incomplete file_row
-  close-decided layout short =
-      ap (need Told.Gone (close_complete layout 1 t.file m)) p.unclosed
-      ∙ ap (λ found. refuse (incomplete found) (Makes (CloseFile t.file 1 (commands + 1) ∷ []) (Told.Done (length m.history)))) (all-granted layout short)
+  close-decided : IsShort script.layout (length t.bytes)
+      → decide (rules_of script) 1 m (Ask.Close t.file) ≡ Makes (CloseFile t.file 1 (commands + 1) ∷ []) (Told.Done (length m.history))
+  unfolding rules_of decide in_range unless decide_request decide_close need close_complete refuse incomplete file_row
+  close-decided short =
+      ap (need Told.Gone (close_complete script.layout 1 t.file m)) p.target.unclosed
+      ∙ ap (λ found. refuse (incomplete found) (Makes (CloseFile t.file 1 (commands + 1) ∷ []) (Told.Done (length m.history)))) (all-granted short)
 
-  close-few : commands ≤ 4096 → AreFew (apply_all (CloseFile t.file 1 (commands + 1) ∷ []) m)
+  close-few : AreFew (2 * (commands + 1) + 1) (apply_all (CloseFile t.file 1 (commands + 1) ∷ []) m)
   unfolding apply_all apply write_entry with_slots
-  close-few few =
+  close-few =
+      let few = p.steady.few in
       let long = length-append m.history (Wrote.Closed t.file 1 (commands + 1) ∷ []) in
-      record {
-        files = omega (arith, p.steady.few_files);
-        leases = omega (arith, p.steady.few_leases);
-        condemned = omega (arith, p.steady.few_condemned);
-        entries = omega (arith, p.steady.few_entries, long);
-      }
+      record { files = omega (arith, few.files); leases = omega (arith, few.leases); condemned = omega (arith, few.condemned); entries = omega (arith, few.entries, long) }
 
-  pub close-served : (layout : Shape) → IsShort layout (length t.bytes) → commands ≤ 4096
-      → meta_step layout 1 (Ask.Close t.file) Ended.Done m
+  pub close-served : IsShort script.layout (length t.bytes) → commands ≤ 4096
+      → meta_step (rules_of script) 1 (Ask.Close t.file) Ended.Done m
       ≡ record { meta = closed_state m t.file (commands + 1); reply = Told.Done (length m.history) }
-  close-served layout short few =
-      step-makes layout m (Ask.Close t.file) p.steady.dropped (CloseFile t.file 1 (commands + 1) ∷ []) (Told.Done (length m.history))
-      (close-decided layout short) (close-few few)
+  close-served short few =
+      step-makes (rules_of script) m (Ask.Close t.file) p.steady.none_dropped (CloseFile t.file 1 (commands + 1) ∷ []) (Told.Done (length m.history))
+      (2 * (commands + 1) + 1) (close-decided short) close-few (omega (arith, few))
 
   -- ---- the files then
 
@@ -120,15 +112,15 @@ module _ (script : Script) (servers : List Server) (m : MetaImage) (commands : �
         server = g.server;
         first = g.first;
         last = g.last;
-        current = ap (λ (r : SlotRecord). r.current) (slot_at-sealed t.file (first_block t.file) slot m.slots refl ∙ ap sealed_slot g.granted) ∙ sealed-current g.server;
+        current = ap (λ (r : SlotRecord). r.current) (slot_at-sealed t.file (first_block t.file) slot m.slots (own-key t.file) ∙ ap sealed_slot g.granted) ∙ sealed-current g.server;
         stored = g.stored below;
       }
 
   is-file : (bytes : List ℕ) → bytes ≡ t.bytes → IsFile script.layout script.servers servers (seal_file t.file m.slots) t.file (length t.bytes) bytes
   is-file bytes same = subst (IsFile script.layout script.servers servers (seal_file t.file m.slots) t.file (length t.bytes)) (sym same)
-      (record { length_is = refl; some = p.some; most = p.most; copies = has-current })
+      (record { length_is = refl; some = p.target.some; most = p.target.most; copies = has-current })
 
-  row-closed : (row : TreeRow) → has_file t.file row ≡ true → (IsRow script servers m.slots m.next_file row) × ((row.file == t.file) ≡ true → row ≡ target_row commands t)
+  row-closed : (row : TreeRow) → has_file t.file row ≡ true → (IsRow script servers m.slots m.next_file row) × (has_file t.file row ≡ true → row ≡ target_row commands t)
       → IsRow script servers (seal_file t.file m.slots) m.next_file (close_row row)
   unfolding has_file close_row file_row
   row-closed row is both =
@@ -137,10 +129,10 @@ module _ (script : Script) (servers : List Server) (m : MetaImage) (commands : �
         above = both.0.above;
         below = both.0.below;
         whole = λ closed. subst (λ (row : TreeRow). IsFile script.layout script.servers servers (seal_file t.file m.slots) row.file row.len (puts_of script row.actor row.command)) (sym same)
-            (is-file (puts_of script 1 (commands + 1)) p.bytes_are);
+            (is-file (puts_of script 1 (commands + 1)) p.target.bytes_are);
       }
 
-  row-other : (row : TreeRow) → has_file t.file row ≡ false → (IsRow script servers m.slots m.next_file row) × ((row.file == t.file) ≡ true → row ≡ target_row commands t)
+  row-other : (row : TreeRow) → has_file t.file row ≡ false → (IsRow script servers m.slots m.next_file row) × (has_file t.file row ≡ true → row ≡ target_row commands t)
       → IsRow script servers (seal_file t.file m.slots) m.next_file row
   unfolding has_file
   row-other row is both = record {
@@ -150,19 +142,19 @@ module _ (script : Script) (servers : List Server) (m : MetaImage) (commands : �
         (λ slot within. slot_at-unsealed t.file (first_block row.file) slot m.slots is) (λ server slot. refl) (both.0.whole closed);
   }
 
-  may-close : (row : TreeRow) → ((row.file == t.file) ≡ true → row ≡ target_row commands t) → MayClose t.file 1 (commands + 1) row
+  may-close : (row : TreeRow) → (has_file t.file row ≡ true → row ≡ target_row commands t) → MayClose t.file 1 (commands + 1) row
   unfolding file_row
   may-close row own is =
       let same : row ≡ target_row commands t = own is in
       (ap (λ (r : TreeRow). r.closed) same, ap (λ (r : TreeRow). r.actor) same, ap (λ (r : TreeRow). r.command) same)
 
-  is-unclosed : is_unclosed_entry t.file (entry_of (puts_of script) (target_row commands t)) ≡ true
-  unfolding is_unclosed_entry entry_of content_if is_unclosed_content file_row
-  is-unclosed = same-number t.file
+  is-unclosed : is_unclosed_entry t.file (file_entry (puts_of script) (target_row commands t)) ≡ true
+  unfolding is_unclosed_entry file_entry content_of is_unclosed_content file_row
+  is-unclosed = rw (kinds t.file p.target.above).1 (same-number t.file)
 
-  any-unclosed : list_any (is_unclosed_entry t.file) (map (entry_of (puts_of script)) m.tree) ≡ true
+  any-unclosed : list_any (is_unclosed_entry t.file) (map (file_entry (puts_of script)) m.tree) ≡ true
   unfolding unclosed_file
-  any-unclosed = any-found (λ (row : TreeRow). is_unclosed_of 1 row && has_file t.file row) (is_unclosed_entry t.file) (entry_of (puts_of script)) m.tree (target_row commands t) p.unclosed is-unclosed
+  any-unclosed = any-found (λ (row : TreeRow). is_unclosed_of 1 row && has_file t.file row) (is_unclosed_entry t.file) (file_entry (puts_of script)) m.tree (target_row commands t) p.target.unclosed is-unclosed
 
   sealed-key : (row : SlotRow) → row.block.file < m.next_file → (change_state sealed_slot row).block.file < m.next_file
   unfolding change_state
@@ -172,24 +164,17 @@ module _ (script : Script) (servers : List Server) (m : MetaImage) (commands : �
   pub put-closed : Between script servers (closed_state m t.file (commands + 1)) (commands + 1)
   unfolding next_turn apply_all apply write_entry with_slots close_file seal_file
   put-closed =
-      let long = length-append m.history (Wrote.Closed t.file 1 (commands + 1) ∷ []) in
       record {
-        steady = record {
-          views = p.steady.views;
-          dropped = p.steady.dropped;
-          up = p.steady.up;
-          few_files = omega (arith, p.steady.few_files);
-          few_leases = omega (arith, p.steady.few_leases);
-          few_condemned = p.steady.few_condemned;
-          few_entries = omega (arith, p.steady.few_entries, long);
-          some_file = p.steady.some_file;
-          written = written-closed script m.history m.tree m.next_file commands t.file t.path p.steady.written
-              (each_weaker _ (MayClose t.file 1 (commands + 1)) m.tree may-close p.own) any-unclosed p.created p.path_is;
-          rows = each_changed (λ row. (IsRow script servers m.slots m.next_file row) × ((row.file == t.file) ≡ true → row ≡ target_row commands t))
-              (IsRow script servers (seal_file t.file m.slots) m.next_file) (has_file t.file) close_row m.tree row-closed row-other
-              (each_with (IsRow script servers m.slots m.next_file) (λ (row : TreeRow). (row.file == t.file) ≡ true → row ≡ target_row commands t) _ m.tree (λ row is own. (is, own)) p.steady.rows p.own);
-          slots_below = each_changed (λ (row : SlotRow). row.block.file < m.next_file) (λ (row : SlotRow). row.block.file < m.next_file) (is_of_file t.file) (change_state sealed_slot) m.slots
-              (λ row is below. sealed-key row below) (λ row is below. below) p.steady.slots_below;
-        };
-        none_to_come = λ server key above. p.none_to_come server key (omega (arith, above, p.next));
+        as_first = p.steady.as_first;
+        none_dropped = p.steady.none_dropped;
+        up = p.steady.up;
+        few = close-few;
+        written = written-closed script m.history m.tree m.next_file commands t.file t.path p.steady.written p.target.above
+            (each_weaker _ (MayClose t.file 1 (commands + 1)) m.tree may-close p.target.own) any-unclosed p.target.created p.target.path_is;
+        rows = each_changed (λ row. (IsRow script servers m.slots m.next_file row) × (has_file t.file row ≡ true → row ≡ target_row commands t))
+            (IsRow script servers (seal_file t.file m.slots) m.next_file) (has_file t.file) close_row m.tree row-closed row-other
+            (each_with (IsRow script servers m.slots m.next_file) (λ (row : TreeRow). has_file t.file row ≡ true → row ≡ target_row commands t) _ m.tree (λ row is own. (is, own)) p.steady.rows p.target.own);
+        slots_below = each_changed (λ (row : SlotRow). row.block.file < m.next_file) (λ (row : SlotRow). row.block.file < m.next_file) (is_of_file t.file) (change_state sealed_slot) m.slots
+            (λ row is below. sealed-key row below) (λ row is below. below) p.steady.slots_below;
+        none_to_come = p.steady.none_to_come;
       }

@@ -1,10 +1,13 @@
 -- A put is granted a server for a slot.
-use Rattle.std.proofs.Common.{◌≡◌, ℕ, ◌+◌, ◌<◌, ◌≤◌, ◌==◌, nat_lt, Bool, true, false, List, [], ◌∷◌, length, Some, None, refl, sym, ap, subst, ◌∙◌, arith, inl, inr}
+use Rattle.std.proofs.Common.{◌≡◌, ℕ, ◌+◌, ◌*◌, ◌<◌, ◌≤◌, nat_lt, Bool, true, false, List, [], ◌∷◌, length, Some, None, refl, sym, ap, subst, ◌∙◌, arith, inl, inr}
 use Rattle.std.proofs.lemmas.Bool.{cases_lt}
 use Rattle.std.proofs.lemmas.Bool.Decides.{nat_tests}
 use Rattle.std.specs.Prelude.{is_none}
 use Rattle.qfs_base.specs.Layout.{rows_of}
+use Rattle.qfs_base.specs.Rules.{rules_of}
 use Rattle.qfs_base.specs.Shape.{Shape}
+use Rattle.qfs_base.specs.Sizes.{SLOTS}
+use Rattle.qfs_base.specs.declared.chunk.BlockId.{BlockId}
 use Rattle.qfs_base.specs.declared.history.Outcome.TheVariants as Ended
 use Rattle.qfs_base.specs.declared.image.MetaImage.{MetaImage}
 use Rattle.qfs_base.specs.declared.image.ServerView.{ServerView}
@@ -16,17 +19,17 @@ use Rattle.qfs_base.specs.declared.reply.MetaReply.TheVariants as Told
 use Rattle.qfs_base.specs.declared.request.MetaRequest.TheVariants as Ask
 use Rattle.qfs_base.specs.declared.script.Script.{Script}
 use Rattle.qfs_model_meta.specs.Apply.{with_slots, grant_slot, apply, apply_all}
-use Rattle.qfs_model_meta.specs.Change.{GrantSlot}
+use Rattle.qfs_base.specs.declared.change.Change.TheVariants.{GrantSlot}
 use Rattle.qfs_model_meta.specs.Decide.{decide, decide_request}
 use Rattle.qfs_model_meta.specs.Decision.{Makes, refuse, unless, need}
 use Rattle.qfs_model_meta.specs.Lists.{no_sources, block_count, new_grant}
 use Rattle.qfs_model_meta.specs.Placing.{census, choose, barred_for_put, with_live_servers}
-use Rattle.qfs_model_meta.specs.PutRequests.{taken_refusal, failed_grant, chosen_for_put, put_granted, grant_for_put, grant_after, grant_in, decide_grant, lacks_grant, slot_id}
+use Rattle.qfs_model_meta.specs.PutRequests.{taken_refusal, failed_grant, failed_with, chosen_for_put, put_granted, grant_for_put, grant_in, decide_grant, lacks_grant}
 use Rattle.qfs_model_meta.specs.Range.{in_range, is_slot_number}
 use Rattle.qfs_model_meta.specs.Servers.{server_at}
-use Rattle.qfs_model_meta.specs.Slots.{never_granted, is_slot, slot_at, grants_of_block, granted_slot, with_slot}
+use Rattle.qfs_model_meta.specs.Slots.{slot_id, never_granted, is_slot, is_of_file, slot_at, grants_of_block, granted_slot, with_slot, without_grant}
 use Rattle.qfs_model_meta.specs.Step.{first_server, next_turn, meta_step}
-use Rattle.qfs_model_meta.specs.TreeRows.{file_row}
+use Rattle.qfs_model_meta.specs.TreeRows.{file_row, has_file}
 use Rattle.qfs_model_server.specs.Server.{Server}
 use Rattle.qfs_model_slot.specs.Slot.{slot_of}
 use Rattle.qfs_laws_first.proofs.Chosen.{IsChosen, choose-first, barred-few}
@@ -35,7 +38,7 @@ use Rattle.qfs_laws_first.proofs.MetaSteps.{AreFew, step-makes}
 use Rattle.qfs_laws_first.proofs.Reading.{IsShort, blocks_of-one}
 use Rattle.qfs_laws_first.proofs.Rows.{each_weaker}
 use Rattle.qfs_laws_first.proofs.States.{first_block, granted_once, IsGranted, IsRow, Target, target_row, Puts}
-use Rattle.qfs_laws_first.proofs.Tables.{slot_at-placed, slot_at-other, is_slot-other, is_slot-same, is_slot-kind, each_with_slot, grants-more}
+use Rattle.qfs_laws_first.proofs.Tables.{slot_at-placed, slot_at-other, is_slot-other, is_slot-same, each_with_slot, grants-more}
 
 -- the grant of a slot on a server
 abbrev pub grant_on : Shape → ℕ → ℕ → ℕ → ℕ → Granted
@@ -59,19 +62,19 @@ module _ (script : Script) (servers : List Server) (m : MetaImage) (commands : �
   never : slot_at m.slots (first_block t.file) slot ≡ never_granted
   never = p.ungranted slot (omega arith)
 
-  chosen-here : 9 ≤ script.servers → IsChosen script.servers (chosen_for_put (first_block t.file) slot m)
-  unfolding chosen_for_put barred_for_put never_granted
-  chosen-here enough =
-      let barred : List ℕ = with_live_servers m.servers (slot_at m.slots (first_block t.file) slot).failed (grants_of_block (first_block t.file) m.slots) in
-      let failed : length (slot_at m.slots (first_block t.file) slot).failed ≡ 0 = ap (λ (r : SlotRecord). length r.failed) never in
-      let few : length barred < script.servers = omega (arith, barred-few m.servers (slot_at m.slots (first_block t.file) slot).failed (grants_of_block (first_block t.file) m.slots), failed, p.few_grants, enough) in
-      subst (λ views. IsChosen script.servers (choose (census views m.slots) barred)) (sym p.steady.views)
+  -- some server is granted
+  pub grant-chosen : 9 ≤ script.servers → IsChosen script.servers (chosen_for_put (first_block t.file) slot m.servers m.slots never_granted)
+  unfolding chosen_for_put barred_for_put never_granted without_grant failed_with
+  grant-chosen enough =
+      let barred : List ℕ = with_live_servers m.servers [] (grants_of_block (first_block t.file) m.slots) in
+      let few : length barred < script.servers = omega (arith, barred-few m.servers [] (grants_of_block (first_block t.file) m.slots), p.few_grants, enough) in
+      subst (λ views. IsChosen script.servers (choose (census views m.slots) barred)) (sym p.steady.as_first)
       (choose-first m.slots script.servers barred few)
 
   known-life : (server : ℕ) → 1 ≤ server → server ≤ script.servers → (server_at m.servers server).life ≡ 1
   unfolding first_server
   known-life server first last =
-      ap (λ views. (server_at views server).life) p.steady.views ∙ ap (λ (v : ServerView). v.life) (view-first script.servers server first last)
+      ap (λ views. (server_at views server).life) p.steady.as_first ∙ ap (λ (v : ServerView). v.life) (view-first script.servers server first last)
 
   granted-record : (server : ℕ) → 1 ≤ server → server ≤ script.servers
       → granted_slot server (server_at m.servers server).life 1 0 (slot_at m.slots (first_block t.file) slot) ≡ granted_once server
@@ -79,41 +82,40 @@ module _ (script : Script) (servers : List Server) (m : MetaImage) (commands : �
   granted-record server first last = rw (known-life server first last, never) refl
 
   -- what is told of the grant
-  told : (layout : Shape) (len server : ℕ) → 1 ≤ server → server ≤ script.servers
-      → new_grant layout len (first_block t.file) slot server 0 no_sources m ≡ grant_on layout len t.file slot server
+  told : (server : ℕ) → 1 ≤ server → server ≤ script.servers
+      → new_grant script.layout (length t.bytes) (first_block t.file) slot server 0 no_sources m ≡ grant_on script.layout (length t.bytes) t.file slot server
   unfolding new_grant never_granted
-  told layout len server first last = rw (known-life server first last, never) refl
+  told server first last = rw (known-life server first last, never) refl
 
-  grant-decided : (layout : Shape) (server : ℕ) → IsShort layout (length t.bytes) → 1 ≤ server → server ≤ script.servers → chosen_for_put (first_block t.file) slot m ≡ Some server
-      → decide layout 1 m (Ask.Grant t.file 0 slot false)
-      ≡ Makes (GrantSlot (first_block t.file) slot server 1 0 ∷ []) (Told.Granted (grant_on layout (length t.bytes) t.file slot server))
-  unfolding decide in_range is_slot_number unless decide_request decide_grant need grant_in refuse taken_refusal failed_grant grant_after grant_for_put put_granted apply_all never_granted file_row
-  grant-decided layout server short first last chosen =
-      let in_order : nat_lt slot 9 ≡ true = grind (arith, nat_tests) in
-      let some : nat_lt 0 (block_count layout (length t.bytes)) ≡ true = ap (nat_lt 0) (blocks_of-one layout (length t.bytes) short) in
-      let pending : (slot_at m.slots (first_block t.file) slot).grant ≡ None = ap (λ (r : SlotRecord). r.grant) never in
-      ap (λ b. unless b Told.Nothing (decide_request layout 1 m (Ask.Grant t.file 0 slot false))) in_order
-      ∙ ap (need Told.Gone (grant_in layout 1 (first_block t.file) slot false m (slot_at m.slots (first_block t.file) slot).grant)) p.unclosed
-      ∙ ap (λ pending. grant_in layout 1 (first_block t.file) slot false m pending (target_row commands t)) pending
-      ∙ ap (λ b. unless b Told.NoBlock (grant_after layout 1 (length t.bytes) (first_block t.file) slot [] m)) some
-      ∙ ap (need (Told.NoServer (first_block t.file) slot) (grant_for_put layout 1 (length t.bytes) (first_block t.file) slot [] m)) chosen
-      ∙ ap (λ g. Makes (GrantSlot (first_block t.file) slot server 1 0 ∷ []) (Told.Granted g)) (told layout (length t.bytes) server first last)
+  grant-decided : (server : ℕ) → IsShort script.layout (length t.bytes) → 1 ≤ server → server ≤ script.servers
+      → chosen_for_put (first_block t.file) slot m.servers m.slots never_granted ≡ Some server
+      → decide (rules_of script) 1 m (Ask.Grant t.file 0 slot false)
+      ≡ Makes (GrantSlot (first_block t.file) slot server 1 0 ∷ []) (Told.Granted (grant_on script.layout (length t.bytes) t.file slot server))
+  unfolding rules_of decide in_range is_slot_number unless decide_request decide_grant need grant_in refuse taken_refusal failed_grant grant_for_put put_granted never_granted file_row
+  grant-decided server short first last chosen =
+      let layout : Shape = script.layout in
+      let len : ℕ = length t.bytes in
+      let block : BlockId = first_block t.file in
+      let in_order : nat_lt slot SLOTS ≡ true = grind (arith, nat_tests) in
+      let some : nat_lt 0 (block_count layout len) ≡ true = ap (nat_lt 0) (blocks_of-one layout len short) in
+      ap (λ b. unless b Told.Nothing (decide_request (rules_of script) 1 m (Ask.Grant t.file 0 slot false))) in_order
+      ∙ ap (need Told.Gone (grant_in layout 1 block slot false m (slot_at m.slots block slot))) p.target.unclosed
+      ∙ ap (λ state. grant_in layout 1 block slot false m state (target_row commands t)) never
+      ∙ ap (λ b. unless b Told.NoBlock (need (Told.NoServer block slot) (grant_for_put layout 1 len block slot m None) (chosen_for_put block slot m.servers m.slots never_granted))) some
+      ∙ ap (need (Told.NoServer block slot) (grant_for_put layout 1 len block slot m None)) chosen
+      ∙ ap (λ g. Makes (GrantSlot block slot server 1 0 ∷ []) (Told.Granted g)) (told server first last)
 
-  grant-few : (server : ℕ) → commands ≤ 4096 → AreFew (apply_all (GrantSlot (first_block t.file) slot server 1 0 ∷ []) m)
+  grant-few : (server : ℕ) → AreFew (2 * commands + 2) (apply_all (GrantSlot (first_block t.file) slot server 1 0 ∷ []) m)
   unfolding apply_all apply grant_slot with_slots
-  grant-few server few = record {
-    files = omega (arith, p.steady.few_files);
-    leases = omega (arith, p.steady.few_leases);
-    condemned = omega (arith, p.steady.few_condemned);
-    entries = omega (arith, p.steady.few_entries);
-  }
+  grant-few server = p.steady.few
 
-  pub grant-served : (layout : Shape) (server : ℕ) → IsShort layout (length t.bytes) → commands ≤ 4096 → 1 ≤ server → server ≤ script.servers → chosen_for_put (first_block t.file) slot m ≡ Some server
-      → meta_step layout 1 (Ask.Grant t.file 0 slot false) Ended.Done m
-      ≡ record { meta = granted_state m t.file slot server; reply = Told.Granted (grant_on layout (length t.bytes) t.file slot server) }
-  grant-served layout server short few first last chosen =
-      step-makes layout m (Ask.Grant t.file 0 slot false) p.steady.dropped (GrantSlot (first_block t.file) slot server 1 0 ∷ [])
-      (Told.Granted (grant_on layout (length t.bytes) t.file slot server)) (grant-decided layout server short first last chosen) (grant-few server few)
+  pub grant-served : (server : ℕ) → IsShort script.layout (length t.bytes) → commands ≤ 4096 → 1 ≤ server → server ≤ script.servers
+      → chosen_for_put (first_block t.file) slot m.servers m.slots never_granted ≡ Some server
+      → meta_step (rules_of script) 1 (Ask.Grant t.file 0 slot false) Ended.Done m
+      ≡ record { meta = granted_state m t.file slot server; reply = Told.Granted (grant_on script.layout (length t.bytes) t.file slot server) }
+  grant-served server short few first last chosen =
+      step-makes (rules_of script) m (Ask.Grant t.file 0 slot false) p.steady.none_dropped (GrantSlot (first_block t.file) slot server 1 0 ∷ [])
+      (Told.Granted (grant_on script.layout (length t.bytes) t.file slot server)) (2 * commands + 2) (grant-decided server short first last chosen) (grant-few server) (omega (arith, few))
 
   -- ---- the slots then
 
@@ -123,12 +125,12 @@ module _ (script : Script) (servers : List Server) (m : MetaImage) (commands : �
 
   stays-other : (server file number : ℕ) → (t.file ≡ file → slot ≡ number → ⊥) → slot_at (new_slots server) (first_block file) number ≡ slot_at m.slots (first_block file) number
   stays-other server file number differ =
-      slot_at-other (first_block t.file) (first_block file) slot number _ m.slots (is_slot-other (first_block t.file) (first_block file) slot number _ differ)
+      slot_at-other (first_block t.file) slot _ (first_block file) number m.slots (is_slot-other (first_block t.file) (first_block file) slot number _ differ)
 
   pub granted-now : (server : ℕ) → 1 ≤ server → server ≤ script.servers → slot_at (new_slots server) (first_block t.file) slot ≡ granted_once server
   granted-now server first last = slot_at-placed (first_block t.file) slot _ m.slots ∙ granted-record server first last
 
-  row-kept : (server : ℕ) (row : TreeRow) → IsRow script servers m.slots m.next_file row → ((row.file == t.file) ≡ true → row ≡ target_row commands t)
+  row-kept : (server : ℕ) (row : TreeRow) → IsRow script servers m.slots m.next_file row → (has_file t.file row ≡ true → row ≡ target_row commands t)
       → IsRow script servers (new_slots server) m.next_file row
   row-kept server row is own = record {
     above = is.above;
@@ -161,24 +163,18 @@ module _ (script : Script) (servers : List Server) (m : MetaImage) (commands : �
             }
       ]
 
-  has-grant : (server : ℕ) → is_none (granted_once server).grant ≡ false
-  has-grant server = refl
-
-  lacks-none : (server : ℕ) → 1 ≤ server → server ≤ script.servers → (row : SlotRow) → ((row.block.file == t.file) ≡ true → lacks_grant m.slots (slot_id row) ≡ false)
-      → (row.block.file == t.file) ≡ true → lacks_grant (new_slots server) (slot_id row) ≡ false
-  unfolding lacks_grant slot_id
+  lacks-none : (server : ℕ) → 1 ≤ server → server ≤ script.servers → (row : SlotRow) → (is_of_file t.file row ≡ true → lacks_grant m.slots (slot_id row) ≡ false)
+      → is_of_file t.file row ≡ true → lacks_grant (new_slots server) (slot_id row) ≡ false
+  unfolding lacks_grant slot_id is_slot
   lacks-none server first last row old own = at (is_slot row.block row.slot (record { block = first_block t.file; slot = slot; state = granted_once server })) refl
     where
       at : (b : Bool) → is_slot row.block row.slot (record { block = first_block t.file; slot = slot; state = granted_once server }) ≡ b → is_none (slot_at (new_slots server) row.block row.slot).grant ≡ false
       at true is =
           let same = is_slot-same row.block row.slot (record { block = first_block t.file; slot = slot; state = granted_once server }) is in
-          let found : slot_at (new_slots server) row.block row.slot ≡ granted_once server =
-          subst (λ block. slot_at (new_slots server) block row.slot ≡ granted_once server) same.0
-          (subst (λ number. slot_at (new_slots server) (first_block t.file) number ≡ granted_once server) same.1 (granted-now server first last)) in
+          let found : slot_at (new_slots server) row.block row.slot ≡ granted_once server = rw (same.0, same.1) (granted-now server first last) in
           ap (λ (r : SlotRecord). is_none r.grant) found
       at false is =
-          let other : is_slot row.block row.slot (record { block = first_block t.file; slot = slot; state = granted_slot server (server_at m.servers server).life 1 0 (slot_at m.slots (first_block t.file) slot) }) ≡ false = is_slot-kind row.block (first_block t.file) row.slot slot (granted_once server) false _ is in
-          ap (λ (r : SlotRecord). is_none r.grant) (slot_at-other (first_block t.file) row.block slot row.slot _ m.slots other) ∙ old own
+          ap (λ (r : SlotRecord). is_none r.grant) (slot_at-other (first_block t.file) slot _ row.block row.slot m.slots is) ∙ old own
 
   new-has : (server : ℕ) → 1 ≤ server → server ≤ script.servers → lacks_grant (new_slots server) (record { block = first_block t.file; slot = slot }) ≡ false
   unfolding lacks_grant
@@ -189,35 +185,20 @@ module _ (script : Script) (servers : List Server) (m : MetaImage) (commands : �
   unfolding next_turn apply_all apply grant_slot with_slots slot_id
   put-granted server first last = record {
     steady = record {
-      views = p.steady.views;
-      dropped = p.steady.dropped;
+      as_first = p.steady.as_first;
+      none_dropped = p.steady.none_dropped;
       up = p.steady.up;
-      few_files = p.steady.few_files;
-      few_leases = p.steady.few_leases;
-      few_condemned = p.steady.few_condemned;
-      few_entries = p.steady.few_entries;
-      some_file = p.steady.some_file;
+      few = p.steady.few;
       written = p.steady.written;
-      rows = each_with (IsRow script servers m.slots m.next_file) _ (IsRow script servers (new_slots server) m.next_file) m.tree (row-kept server) p.steady.rows p.own;
-      slots_below = each_with_slot (λ (row : SlotRow). row.block.file < m.next_file) (first_block t.file) slot _ m.slots (omega (arith, p.next)) p.steady.slots_below;
+      rows = each_with (IsRow script servers m.slots m.next_file) _ (IsRow script servers (new_slots server) m.next_file) m.tree (row-kept server) p.steady.rows p.target.own;
+      slots_below = each_with_slot (λ (row : SlotRow). row.block.file < m.next_file) (first_block t.file) slot _ m.slots (omega (arith, p.target.next)) p.steady.slots_below;
+      none_to_come = p.steady.none_to_come;
     };
-    next = p.next;
-    created = p.created;
-    path_is = p.path_is;
-    bytes_are = p.bytes_are;
-    some = p.some;
-    most = p.most;
-    own = p.own;
-    unclosed = p.unclosed;
+    target = p.target;
     grants = λ number within. grant-one server number first last within;
     ungranted = λ number above. stays-other server t.file number (λ same one. omega (arith, one, above)) ∙ p.ungranted number (omega (arith, above));
-    all_granted = each_with_slot (λ (row : SlotRow). (row.block.file == t.file) ≡ true → lacks_grant (new_slots server) (slot_id row) ≡ false) (first_block t.file) slot _ m.slots
+    all_granted = each_with_slot (λ (row : SlotRow). is_of_file t.file row ≡ true → lacks_grant (new_slots server) (slot_id row) ≡ false) (first_block t.file) slot _ m.slots
         (λ own. new-has server first last) (each_weaker _ _ m.slots (lacks-none server first last) p.all_granted);
     few_grants = omega (arith, grants-more (first_block t.file) (first_block t.file) slot (granted_slot server (server_at m.servers server).life 1 0 (slot_at m.slots (first_block t.file) slot)) m.slots, p.few_grants);
-    none_to_come = p.none_to_come;
     unstored = p.unstored;
   }
-
-  -- some server is granted
-  pub grant-chosen : 9 ≤ script.servers → IsChosen script.servers (chosen_for_put (first_block t.file) slot m)
-  grant-chosen enough = chosen-here enough

@@ -5,11 +5,12 @@ use Rattle.std.proofs.lemmas.List.{append-nil, length-append}
 use Rattle.std.specs.Prelude.{slice_get}
 use Rattle.std.specs.Option.{option_and_then, option_map}
 use Rattle.qfs_base.specs.NameTree.{PathNames, add_refusal}
+use Rattle.qfs_base.specs.Rules.{rules_of}
 use Rattle.qfs_base.specs.Shape.{Shape}
 use Rattle.qfs_base.specs.declared.command.Command.{Command}
 use Rattle.qfs_base.specs.declared.command.Command.TheVariants as Does
 use Rattle.qfs_base.specs.declared.command.FileCommand.TheVariants as File
-use Rattle.qfs_base.specs.declared.command.Reply.TheVariants as Report
+use Rattle.qfs_base.specs.declared.command.Reply.TheVariants as Says
 use Rattle.qfs_base.specs.declared.history.Entry.{Entry}
 use Rattle.qfs_base.specs.declared.history.Entry.TheVariants as Wrote
 use Rattle.qfs_base.specs.declared.history.Outcome.TheVariants as Ended
@@ -24,34 +25,34 @@ use Rattle.qfs_base.specs.declared.request.MetaRequest.{MetaRequest}
 use Rattle.qfs_base.specs.declared.request.MetaRequest.TheVariants as Ask
 use Rattle.qfs_base.specs.declared.request.NodeRequest.{NodeRequest}
 use Rattle.qfs_base.specs.declared.request.NodeRequest.TheVariants as To
+use Rattle.qfs_base.specs.declared.rules.Rules.{Rules}
 use Rattle.qfs_base.specs.declared.script.Script.{Script}
 use Rattle.qfs_model_actor.specs.Actor.{present_command, work_left}
 use Rattle.qfs_model_actor.specs.Command.{file_work, work_of}
 use Rattle.qfs_model_actor.specs.Put.{put_work}
-use Rattle.qfs_model_actor.specs.Work.{Work, request_in}
+use Rattle.qfs_model_actor.specs.Work.{Report, Work, request_in}
 use Rattle.qfs_model_meta.specs.Apply.{write_entry, add_file, grant_slot, with_slots, apply, apply_all}
 use Rattle.qfs_model_meta.specs.PutRequests.{chosen_for_put}
-use Rattle.qfs_model_meta.specs.Slots.{slot_at}
+use Rattle.qfs_model_meta.specs.Slots.{never_granted, slot_at}
 use Rattle.qfs_model_meta.specs.Step.{Served, next_turn, meta_step}
 use Rattle.qfs_model_meta.specs.TreeRows.{standing}
 use Rattle.qfs_model_slot.specs.Slot.{slot_of}
-use Rattle.qfs_model_world.specs.Events.{Event, event_asking, event_in}
-use Rattle.qfs_model_world.specs.EveryGet.{is_release}
+use Rattle.qfs_model_world.specs.Agrees.{place_of_report}
+use Rattle.qfs_model_world.specs.Events.{Event}
 use Rattle.qfs_model_world.specs.Puts.{PutCommand, command_of, put_in, put_of, put_path, puts_of}
 use Rattle.qfs_model_world.specs.World.{World, numbered, renumbered}
-use Rattle.qfs_model_world.proofs.OneActor.{done_step}
 use Rattle.qfs_laws_first.specs.FirstPath.{IsFirstPath}
 use Rattle.qfs_laws_first.proofs.Chosen.{IsChosen}
-use Rattle.qfs_laws_first.proofs.Gets.{put-refused-there, between-later}
+use Rattle.qfs_laws_first.proofs.Gets.{put-refused-there}
 use Rattle.qfs_laws_first.proofs.Histories.{slice_get-last}
-use Rattle.qfs_laws_first.proofs.Moves.{work_left-heard, work_left-next, meta_goes_on, meta_ends, chunk_goes_on, event-here}
+use Rattle.qfs_laws_first.proofs.Moves.{work_left-heard, work_left-next, meta_goes_on, meta_ends, chunk_goes_on}
 use Rattle.qfs_laws_first.proofs.PutCloses.{closed_state, close-served, put-closed}
 use Rattle.qfs_laws_first.proofs.PutCreates.{created_state, create-refused, create-made, create-few, put-created}
 use Rattle.qfs_laws_first.proofs.PutGrants.{grant_on, granted_state, grant-served, grant-chosen, granted-now, put-granted}
 use Rattle.qfs_laws_first.proofs.PutStores.{none-stored, put-stored}
 use Rattle.qfs_laws_first.proofs.Reading.{IsShort}
-use Rattle.qfs_laws_first.proofs.Reports.{IsGood, borne-more, no-release, place-here, placed-at, place-of-refused, place-of-stored}
-use Rattle.qfs_laws_first.proofs.Runs.{Granting, Storing, Run, Next, goes-on-to, ends-with}
+use Rattle.qfs_laws_first.proofs.Reports.{place-here}
+use Rattle.qfs_laws_first.proofs.Runs.{Granting, Storing, Run, Next, goes-on-to, ends-with, told-then, refused-so}
 use Rattle.qfs_laws_first.proofs.Servers.{IsUp, with_copy, put-stores}
 use Rattle.qfs_laws_first.proofs.States.{first_block, first_key, granted_once, Between, Puts}
 use Rattle.qfs_laws_first.proofs.Works.{at_slot, at_store, put-asks, put-refused, put-goes_on, slot-asks, slot-goes_on, store-asks, store-goes_on, close-asks, close-ends}
@@ -101,12 +102,12 @@ module _ (script : Script) (commands : List Command) (steps : List Event) (w : W
   abbrev c : ℕ
   c = length r.actor.ended
 
-  served-here : (request : MetaRequest) (served : Served) → meta_step script.layout 1 request Ended.Done w.meta ≡ served → meta_step w.layout 1 request Ended.Done w.meta ≡ served
-  served-here request served is = ap (λ layout. meta_step layout 1 request Ended.Done w.meta) r.layout ∙ is
+  served-here : (request : MetaRequest) (served : Served) → meta_step (rules_of script) 1 request Ended.Done w.meta ≡ served → meta_step w.rules 1 request Ended.Done w.meta ≡ served
+  served-here request served is = ap (λ rules. meta_step rules 1 request Ended.Done w.meta) r.rules ∙ is
 
   -- ---- Create
 
-  module _ (path : PathNames) (bytes : List ℕ) (silent : r.actor.heard ≡ []) (b : Between script w.servers w.meta c)
+  module _ (path : PathNames) (bytes : List ℕ) (told_is : r.told ≡ r.actor.ended) (silent : r.actor.heard ≡ []) (b : Between script w.servers w.meta c)
       (present : present_command r.actor ≡ Some (Does.File (File.Put path (Of.Hex bytes))))
       (is : command_of script 1 (c + 1) ≡ Some (Does.File (File.Put path (Of.Hex bytes))))
       (few : c ≤ 4096) (some : 1 ≤ length bytes) (most : length bytes ≤ 32) where
@@ -117,32 +118,17 @@ module _ (script : Script) (commands : List Command) (steps : List Event) (w : W
     work = put_work script.layout (c + 1) path bytes
 
     left : work_left r.actor ≡ Some work
-    unfolding work_of file_work
-    left = work_left-next r.actor (Does.File (File.Put path (Of.Hex bytes))) silent present ∙ ap (λ layout. Some (put_work layout (c + 1) path bytes)) r.own_layout
-
-    listed : event_in w done_step ≡ Some (event_asking w done_step r.actor request)
-    listed = event-here w r.actor work r.alone left request (put-asks script.layout (c + 1) path bytes)
-
-    no-release-here : is_release (event_asking w done_step r.actor request).request ≡ false
-    unfolding event_asking is_release
-    no-release-here = refl
+    unfolding work_of file_work rules_of
+    left = work_left-next r.actor (Does.File (File.Put path (Of.Hex bytes))) silent present ∙ ap (λ (rules : Rules). Some (put_work rules.layout (c + 1) path bytes)) r.own_rules
 
     refused : (why : TreeRefusal) → add_refusal (standing w.meta.tree) path ≡ Some why → Next script commands steps w
     refused why not_free =
-        let place : ℕ = length w.meta.history in
-        let good : IsGood script (steps ++ event_asking w done_step r.actor request ∷ []) (w.meta.history ++ []) (c + 1) (Report.Refused place why) = record {
-          command = File.Put path (Of.Hex bytes);
-          is = is;
-          says = borne-more script w.meta.history [] (c + 1) (File.Put path (Of.Hex bytes)) (Report.Refused place why)
-              (omega arith, put-refused-there script w.servers w.meta c (c + 1) (c + 1) (2 * c) b.steady path (Of.Hex bytes) why not_free);
-          placed = placed-at (steps ++ event_asking w done_step r.actor request ∷ []) (c + 1) place (Report.Refused place why) (place-of-refused place why) (place-here steps w r.actor request);
-        } in
-        ends-with script commands steps w r request listed w.meta (Report.Refused place why) [] (sym (append-nil w.meta.history))
-        (meta_ends w r.actor work r.alone left (Ask.Create path (c + 1) (length bytes)) w.meta (Said.Refused why place) (Report.Refused place why)
+        refused-so script commands steps w r request why (File.Put path (Of.Hex bytes)) told_is
+        (meta_ends w r.actor work r.alone left (Ask.Create path (c + 1) (length bytes)) w.meta (Said.Refused why (length w.meta.history)) (Says.Refused (length w.meta.history) why)
         (put-asks script.layout (c + 1) path bytes)
-        (create-refused w.layout w.meta path (c + 1) (length bytes) b.steady.dropped why not_free)
-        (put-refused script.layout (c + 1) path bytes why place))
-        good (no-release _ _ no-release-here) (between-later script w.servers w.meta c b)
+        (create-refused w.rules w.meta path (c + 1) (length bytes) b.none_dropped most why not_free)
+        (put-refused script.layout (c + 1) path bytes why (length w.meta.history)))
+        is (put-refused-there script w.servers w.meta c (2 * c + 1) b path (Of.Hex bytes) why not_free) b
 
     written : (created_state w.meta path (c + 1) (length bytes)).history ≡ w.meta.history ++ Wrote.Created w.meta.next_file path ∷ []
     unfolding next_turn apply_all apply add_file write_entry
@@ -155,22 +141,26 @@ module _ (script : Script) (commands : List Command) (steps : List Event) (w : W
         let short = short-file script commands (length bytes) first_path some most in
         let reply : MetaReply = Said.Created file place in
         let more = put-goes_on script.layout (c + 1) path bytes file place short in
-        goes-on-to script commands steps w r request listed w.servers (created_state w.meta path (c + 1) (length bytes)) (From.Meta reply)
-        (Wrote.Created file path ∷ []) written no-release-here
+        goes-on-to script commands steps w r request w.servers (created_state w.meta path (c + 1) (length bytes)) (From.Meta reply)
+        (Wrote.Created file path ∷ []) written r.told
         (meta_goes_on w r.actor work r.alone left (Ask.Create path (c + 1) (length bytes)) (created_state w.meta path (c + 1) (length bytes)) reply
         (To.Meta (Ask.Grant file 0 0 false)) (put-asks script.layout (c + 1) path bytes)
-        (create-made w.layout w.meta path (c + 1) (length bytes) b.steady.dropped free (create-few script w.servers w.meta c path bytes b few))
+        (create-made w.rules w.meta path (c + 1) (length bytes) b.none_dropped most (2 * c + 2) free (create-few script w.servers w.meta c path bytes b) (omega (arith, few)))
         (ap request_in more ∙ slot-asks script.layout bytes file 0 (omega arith)))
-        (inr (inl (record {
-          t = record { file = file; path = path; bytes = bytes };
-          slot = 0;
-          within = omega arith;
-          left = work_left-heard r.actor work (From.Meta reply) left ∙ ap Some more;
-          puts = put-created script w.servers w.meta c path bytes b free (path-at script (c + 1) path bytes is) (bytes-at script (c + 1) path bytes is) some most;
-          few = few;
-          command = File.Put path (Of.Hex bytes);
-          is = is;
-        })))
+        refl r.openings
+        (inl (
+          told_is,
+          inr (inl (record {
+            t = record { file = file; path = path; bytes = bytes };
+            slot = 0;
+            within = omega arith;
+            left = work_left-heard r.actor work (From.Meta reply) left ∙ ap Some more;
+            puts = put-created script w.servers w.meta c path bytes b free (path-at script (c + 1) path bytes is) (bytes-at script (c + 1) path bytes is) some most;
+            few = few;
+            command = File.Put path (Of.Hex bytes);
+            is = is;
+          })),
+        ))
 
     pub put-starts : Next script commands steps w
     put-starts = at (add_refusal (standing w.meta.tree) path) refl
@@ -181,16 +171,12 @@ module _ (script : Script) (commands : List Command) (steps : List Event) (w : W
 
   -- ---- Grant
 
-  module _ (g : Granting script w.servers w.meta r.actor) (below : g.slot < 9) where
+  module _ (told_is : r.told ≡ r.actor.ended) (g : Granting script w.servers w.meta r.actor) (below : g.slot < 9) where
     abbrev grant_request : NodeRequest
     grant_request = To.Meta (Ask.Grant g.t.file 0 g.slot false)
 
     abbrev grant_work : Work
     grant_work = at_slot script.layout g.t.bytes g.t.file g.slot
-
-    grant-no-release : is_release (event_asking w done_step r.actor grant_request).request ≡ false
-    unfolding event_asking is_release
-    grant-no-release = refl
 
     grant-written : (server : ℕ) → (granted_state w.meta g.t.file g.slot server).history ≡ w.meta.history
     unfolding next_turn apply_all apply grant_slot with_slots
@@ -201,42 +187,45 @@ module _ (script : Script) (commands : List Command) (steps : List Event) (w : W
     unfolding next_turn apply_all apply grant_slot with_slots
     granted-then server first last = granted-now script w.servers w.meta c g.t g.slot g.puts below server first last
 
-    grants-on : IsChosen script.servers (chosen_for_put (first_block g.t.file) g.slot w.meta) → Next script commands steps w
+    grants-on : IsChosen script.servers (chosen_for_put (first_block g.t.file) g.slot w.meta.servers w.meta.slots never_granted) → Next script commands steps w
     grants-on chosen =
         let layout : Shape = script.layout in
         let server : ℕ = chosen.server in
-        let short = short-file script commands (length g.t.bytes) first_path g.puts.some g.puts.most in
+        let short = short-file script commands (length g.t.bytes) first_path g.puts.target.some g.puts.target.most in
         let reply : MetaReply = Said.Granted (grant_on layout (length g.t.bytes) g.t.file g.slot server) in
         let more = slot-goes_on layout g.t.bytes g.t.file g.slot server below in
-        goes-on-to script commands steps w r grant_request
-        (event-here w r.actor grant_work r.alone g.left grant_request (slot-asks layout g.t.bytes g.t.file g.slot below))
-        w.servers (granted_state w.meta g.t.file g.slot server) (From.Meta reply) [] (grant-written server ∙ sym (append-nil w.meta.history)) grant-no-release
+        goes-on-to script commands steps w r grant_request w.servers (granted_state w.meta g.t.file g.slot server) (From.Meta reply) []
+        (grant-written server ∙ sym (append-nil w.meta.history)) r.told
         (meta_goes_on w r.actor grant_work r.alone g.left (Ask.Grant g.t.file 0 g.slot false) (granted_state w.meta g.t.file g.slot server) reply
         (To.Chunk server (Serve.Put (first_key g.t.file g.slot) 1 (slot_of layout g.t.bytes 0 g.slot)))
         (slot-asks layout g.t.bytes g.t.file g.slot below)
-        (served-here (Ask.Grant g.t.file 0 g.slot false) _ (grant-served script w.servers w.meta c g.t g.slot g.puts below layout server short g.few chosen.first chosen.last chosen.chosen))
+        (served-here (Ask.Grant g.t.file 0 g.slot false) _ (grant-served script w.servers w.meta c g.t g.slot g.puts below server short g.few chosen.first chosen.last chosen.chosen))
         (ap request_in more ∙ store-asks layout g.t.bytes g.t.file g.slot server))
-        (inr (inr (inl (record {
-          t = g.t;
-          slot = g.slot;
-          within = below;
-          server = server;
-          first = chosen.first;
-          last = chosen.last;
-          granted = granted-then server chosen.first chosen.last;
-          left = work_left-heard r.actor grant_work (From.Meta reply) g.left ∙ ap Some more;
-          puts = put-granted script w.servers w.meta c g.t g.slot g.puts below server chosen.first chosen.last;
-          few = g.few;
-          command = g.command;
-          is = g.is;
-        }))))
+        refl r.openings
+        (inl (
+          told_is,
+          inr (inr (record {
+            t = g.t;
+            slot = g.slot;
+            within = below;
+            server = server;
+            first = chosen.first;
+            last = chosen.last;
+            granted = granted-then server chosen.first chosen.last;
+            left = work_left-heard r.actor grant_work (From.Meta reply) g.left ∙ ap Some more;
+            puts = put-granted script w.servers w.meta c g.t g.slot g.puts below server chosen.first chosen.last;
+            few = g.few;
+            command = g.command;
+            is = g.is;
+          })),
+        ))
 
     pub put-grants : Next script commands steps w
     put-grants = grants-on (grant-chosen script w.servers w.meta c g.t g.slot g.puts below first_path.enough)
 
   -- ---- Put
 
-  module _ (s : Storing script w.servers w.meta r.actor) where
+  module _ (told_is : r.told ≡ r.actor.ended) (s : Storing script w.servers w.meta r.actor) where
     abbrev key_bytes : List ℕ
     key_bytes = slot_of script.layout s.t.bytes 0 s.slot
 
@@ -246,82 +235,79 @@ module _ (script : Script) (commands : List Command) (steps : List Event) (w : W
     abbrev store_work : Work
     store_work = at_store script.layout s.t.bytes s.t.file s.slot s.server
 
-    store-no-release : is_release (event_asking w done_step r.actor store_request).request ≡ false
-    unfolding event_asking is_release
-    store-no-release = refl
-
     stores-on : IsUp w.servers s.server → Next script commands steps w
     stores-on up =
         let layout : Shape = script.layout in
         let key = first_key s.t.file s.slot in
         let more = store-goes_on layout s.t.bytes s.t.file s.slot s.server in
         let then = slot-asks-some layout s.t.bytes s.t.file (s.slot + 1) (omega (arith, s.within)) in
-        goes-on-to script commands steps w r store_request
-        (event-here w r.actor store_work r.alone s.left store_request (store-asks layout s.t.bytes s.t.file s.slot s.server))
-        (renumbered w.servers s.server (with_copy up.server key key_bytes)) w.meta (From.Chunk (record { answer = Did.Stored; room = [] })) [] (sym (append-nil w.meta.history)) store-no-release
+        goes-on-to script commands steps w r store_request (renumbered w.servers s.server (with_copy up.server key key_bytes)) w.meta
+        (From.Chunk (record { answer = Did.Stored; room = [] })) [] (sym (append-nil w.meta.history)) r.told
         (chunk_goes_on w r.actor store_work r.alone s.left s.server (Serve.Put key 1 key_bytes) up.server (with_copy up.server key key_bytes)
         (record { answer = Did.Stored; room = [] }) then.0
         (store-asks layout s.t.bytes s.t.file s.slot s.server) up.there
-        (put-stores up.server key key_bytes up.up up.life (none-stored script w.servers w.meta c s.t s.slot s.puts s.server s.first s.last s.granted up.server up.there up.up up.life))
+        (put-stores w.servers s.server up key key_bytes (none-stored script w.servers w.meta c s.t s.slot s.puts s.server s.first s.last s.granted up))
         (ap request_in more ∙ then.1))
-        (inr (inl (record {
-          t = s.t;
-          slot = s.slot + 1;
-          within = omega (arith, s.within);
-          left = work_left-heard r.actor store_work (From.Chunk (record { answer = Did.Stored; room = [] })) s.left ∙ ap Some more;
-          puts = put-stored script w.servers w.meta c s.t s.slot s.puts s.server s.first s.last s.granted up.server up.there up.up up.life;
-          few = s.few;
-          command = s.command;
-          is = s.is;
-        })))
+        refl r.openings
+        (inl (
+          told_is,
+          inr (inl (record {
+            t = s.t;
+            slot = s.slot + 1;
+            within = omega (arith, s.within);
+            left = work_left-heard r.actor store_work (From.Chunk (record { answer = Did.Stored; room = [] })) s.left ∙ ap Some more;
+            puts = put-stored script w.servers w.meta c s.t s.slot s.puts s.server s.first s.last s.granted up;
+            few = s.few;
+            command = s.command;
+            is = s.is;
+          })),
+        ))
 
     pub put-stores-on : Next script commands steps w
     put-stores-on = stores-on (s.puts.steady.up s.server s.first s.last)
 
   -- ---- Close
 
-  module _ (g : Granting script w.servers w.meta r.actor) (p : Puts script w.servers w.meta c g.t 9 9)
+  module _ (told_is : r.told ≡ r.actor.ended) (g : Granting script w.servers w.meta r.actor) (p : Puts script w.servers w.meta c g.t 9 9)
       (left : work_left r.actor ≡ Some (at_slot script.layout g.t.bytes g.t.file 9)) where
     abbrev close_request : NodeRequest
     close_request = To.Meta (Ask.Close g.t.file)
-
-    close-no-release : is_release (event_asking w done_step r.actor close_request).request ≡ false
-    unfolding event_asking is_release
-    close-no-release = refl
 
     close-written : (closed_state w.meta g.t.file (c + 1)).history ≡ w.meta.history ++ Wrote.Closed g.t.file 1 (c + 1) ∷ []
     unfolding next_turn apply_all apply write_entry with_slots
     close-written = refl
 
     pub put-closes : Next script commands steps w
+    unfolding place_of_report
     put-closes =
         let layout : Shape = script.layout in
         let place : ℕ = length w.meta.history in
         let entry : Entry = Wrote.Closed g.t.file 1 (c + 1) in
-        let short = short-file script commands (length g.t.bytes) first_path g.puts.some g.puts.most in
+        let short = short-file script commands (length g.t.bytes) first_path g.puts.target.some g.puts.target.most in
         let long = length-append w.meta.history (entry ∷ []) in
-        let good : IsGood script (steps ++ event_asking w done_step r.actor close_request ∷ []) (w.meta.history ++ entry ∷ []) (c + 1) (Report.Stored place (length g.t.bytes)) = record {
+        let report : Report = Says.Stored place (length g.t.bytes) in
+        ends-with script commands steps w r close_request w.servers (closed_state w.meta g.t.file (c + 1)) (From.Meta (Said.Done place)) (entry ∷ [])
+        close-written (r.actor.ended ++ report ∷ []) report
+        (meta_ends w r.actor (at_slot layout g.t.bytes g.t.file 9) r.alone left (Ask.Close g.t.file) (closed_state w.meta g.t.file (c + 1)) (Said.Done place)
+        report (close-asks layout g.t.bytes g.t.file)
+        (served-here (Ask.Close g.t.file) _ (close-served script w.servers w.meta c g.t p short g.few))
+        (close-ends layout g.t.bytes g.t.file place))
+        refl refl (told-then script commands steps w r told_is report)
+        (record {
           command = g.command;
           is = g.is;
-          says = (omega (arith, long), record { file = g.t.file; written = slice_get-last w.meta.history entry; length_is = ap length (sym g.puts.bytes_are) });
-          placed = placed-at (steps ++ event_asking w done_step r.actor close_request ∷ []) (c + 1) place (Report.Stored place (length g.t.bytes)) (place-of-stored place (length g.t.bytes)) (place-here steps w r.actor close_request);
-        } in
-        ends-with script commands steps w r close_request
-        (event-here w r.actor (at_slot layout g.t.bytes g.t.file 9) r.alone left close_request (close-asks layout g.t.bytes g.t.file))
-        (closed_state w.meta g.t.file (c + 1)) (Report.Stored place (length g.t.bytes)) (entry ∷ []) close-written
-        (meta_ends w r.actor (at_slot layout g.t.bytes g.t.file 9) r.alone left (Ask.Close g.t.file) (closed_state w.meta g.t.file (c + 1)) (Said.Done place)
-        (Report.Stored place (length g.t.bytes)) (close-asks layout g.t.bytes g.t.file)
-        (served-here (Ask.Close g.t.file) _ (close-served script w.servers w.meta c g.t p layout short g.few))
-        (close-ends layout g.t.bytes g.t.file place))
-        good (no-release _ _ close-no-release) (put-closed script w.servers w.meta c g.t p)
+          says = (omega (arith, long), record { file = g.t.file; written = slice_get-last w.meta.history entry; length_is = ap length (sym g.puts.target.bytes_are) });
+          placed = place-here steps w r.actor close_request;
+        })
+        (put-closed script w.servers w.meta c g.t p)
 
   -- a put before a slot, or at its end
-  pub put-goes : Granting script w.servers w.meta r.actor → Next script commands steps w
-  put-goes g =
+  pub put-goes : r.told ≡ r.actor.ended → Granting script w.servers w.meta r.actor → Next script commands steps w
+  put-goes told_is g =
       elim (cases_lt g.slot 9) [
-        | inl below ↦ put-grants g below
+        | inl below ↦ put-grants told_is g below
         | inr above ↦
             let end : g.slot ≡ 9 = omega (arith, above, g.within) in
-            put-closes g (subst (λ n. Puts script w.servers w.meta c g.t n n) end g.puts)
+            put-closes told_is g (subst (λ n. Puts script w.servers w.meta c g.t n n) end g.puts)
             (subst (λ n. work_left r.actor ≡ Some (at_slot script.layout g.t.bytes g.t.file n)) end g.left)
       ]

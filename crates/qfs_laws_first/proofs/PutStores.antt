@@ -1,5 +1,5 @@
 -- A put stores a slot on the server of its grant.
-use Rattle.std.proofs.Common.{◌≡◌, ℕ, ◌+◌, ◌<◌, ◌≤◌, ◌==◌, true, List, Some, None, refl, sym, ap, subst, ◌∙◌, arith, inl, inr}
+use Rattle.std.proofs.Common.{◌≡◌, ℕ, ◌+◌, ◌<◌, ◌≤◌, true, List, None, refl, ap, subst, ◌∙◌, arith, inl, inr}
 use Rattle.std.proofs.lemmas.Bool.{cases_lt}
 use Rattle.qfs_base.specs.declared.chunk.ChunkKey.{ChunkKey}
 use Rattle.qfs_base.specs.declared.image.MetaImage.{MetaImage}
@@ -7,13 +7,13 @@ use Rattle.qfs_base.specs.declared.image.TreeRow.{TreeRow}
 use Rattle.qfs_base.specs.declared.script.Script.{Script}
 use Rattle.qfs_base.specs.Key.{key_cmp}
 use Rattle.qfs_base.specs.KeyMap.{value_at}
-use Rattle.std.specs.Option.{option_and_then}
 use Rattle.qfs_model_meta.specs.Slots.{slot_at}
+use Rattle.qfs_model_meta.specs.TreeRows.{has_file}
 use Rattle.qfs_model_server.specs.Server.{Server}
 use Rattle.qfs_model_slot.specs.Slot.{slot_of}
-use Rattle.qfs_model_world.specs.World.{numbered, renumbered}
+use Rattle.qfs_model_world.specs.World.{renumbered}
 use Rattle.qfs_laws_first.proofs.Kept.{closed-elsewhere, file-kept, each_with}
-use Rattle.qfs_laws_first.proofs.Servers.{with_copy, stored_at, stored-own, stored-other, are_up-changed}
+use Rattle.qfs_laws_first.proofs.Servers.{IsUp, with_copy, stored_at, stored-here, stored-own, stored-other, are_up-changed}
 use Rattle.qfs_laws_first.proofs.States.{first_block, first_key, granted_once, IsGranted, IsRow, Target, target_row, Puts}
 
 -- keys of different files, or of different slots
@@ -25,23 +25,21 @@ apart_slots file slot number differ same = differ (ap (λ (k : ChunkKey). k.slot
 
 module _ (script : Script) (servers : List Server) (m : MetaImage) (commands : ℕ) (t : Target) (slot : ℕ)
     (p : Puts script servers m commands t (slot + 1) slot) (server : ℕ) (first : 1 ≤ server) (last : server ≤ script.servers)
-    (granted : slot_at m.slots (first_block t.file) slot ≡ granted_once server) (before : Server) (there : numbered servers server ≡ Some before)
-    (up : before.up ≡ true) (life : before.life ≡ 1) where
+    (granted : slot_at m.slots (first_block t.file) slot ≡ granted_once server) (u : IsUp servers server) where
   abbrev bytes_here : List ℕ
   bytes_here = slot_of script.layout t.bytes 0 slot
 
   abbrev new_servers : List Server
-  new_servers = renumbered servers server (with_copy before (first_key t.file slot) bytes_here)
+  new_servers = renumbered servers server (with_copy u.server (first_key t.file slot) bytes_here)
 
   -- the server has no such copy yet
-  pub none-stored : value_at key_cmp before.copies (first_key t.file slot) ≡ None
-  none-stored =
-      sym (ap (option_and_then (λ (s : Server). value_at key_cmp s.copies (first_key t.file slot))) there) ∙ p.unstored server slot (omega arith)
+  pub none-stored : value_at key_cmp u.server.copies (first_key t.file slot) ≡ None
+  none-stored = stored-here servers server u.server (first_key t.file slot) None u.there (p.unstored server slot (omega arith))
 
   stays : (other : ℕ) (key : ChunkKey) → (key ≡ first_key t.file slot → ⊥) → stored_at new_servers other key ≡ stored_at servers other key
-  stays other key differ = stored-other servers server other before (first_key t.file slot) key bytes_here there differ
+  stays other key differ = stored-other servers server other u.server (first_key t.file slot) key bytes_here u.there differ
 
-  row-kept : (row : TreeRow) → IsRow script servers m.slots m.next_file row → ((row.file == t.file) ≡ true → row ≡ target_row commands t)
+  row-kept : (row : TreeRow) → IsRow script servers m.slots m.next_file row → (has_file t.file row ≡ true → row ≡ target_row commands t)
       → IsRow script new_servers m.slots m.next_file row
   row-kept row is own = record {
     above = is.above;
@@ -71,7 +69,7 @@ module _ (script : Script) (servers : List Server) (m : MetaImage) (commands : �
               first = first;
               last = last;
               granted = granted;
-              stored = λ more. stored-own servers server before (first_key t.file slot) bytes_here there;
+              stored = λ more. stored-own servers server u.server (first_key t.file slot) bytes_here u.there;
             })
       ]
 
@@ -79,30 +77,20 @@ module _ (script : Script) (servers : List Server) (m : MetaImage) (commands : �
   pub put-stored : Puts script new_servers m commands t (slot + 1) (slot + 1)
   put-stored = record {
     steady = record {
-      views = p.steady.views;
-      dropped = p.steady.dropped;
-      up = are_up-changed script.servers servers server before (with_copy before (first_key t.file slot) bytes_here) there up life p.steady.up;
-      few_files = p.steady.few_files;
-      few_leases = p.steady.few_leases;
-      few_condemned = p.steady.few_condemned;
-      few_entries = p.steady.few_entries;
-      some_file = p.steady.some_file;
+      as_first = p.steady.as_first;
+      none_dropped = p.steady.none_dropped;
+      up = are_up-changed servers server u (with_copy u.server (first_key t.file slot) bytes_here) u.up u.life u.form script.servers p.steady.up;
+      few = p.steady.few;
       written = p.steady.written;
-      rows = each_with (IsRow script servers m.slots m.next_file) _ (IsRow script new_servers m.slots m.next_file) m.tree row-kept p.steady.rows p.own;
+      rows = each_with (IsRow script servers m.slots m.next_file) _ (IsRow script new_servers m.slots m.next_file) m.tree row-kept p.steady.rows p.target.own;
       slots_below = p.steady.slots_below;
+      none_to_come = λ other key above.
+          stays other key (apart_files key t.file slot (λ same. omega (arith, same, above, p.target.next))) ∙ p.steady.none_to_come other key above;
     };
-    next = p.next;
-    created = p.created;
-    path_is = p.path_is;
-    bytes_are = p.bytes_are;
-    some = p.some;
-    most = p.most;
-    own = p.own;
-    unclosed = p.unclosed;
+    target = p.target;
     grants = grant-one;
     ungranted = p.ungranted;
     all_granted = p.all_granted;
     few_grants = p.few_grants;
-    none_to_come = λ other key above. stays other key (apart_files key t.file slot (λ same. omega (arith, same, above))) ∙ p.none_to_come other key above;
     unstored = λ other number above. stays other (first_key t.file number) (apart_slots t.file slot number (λ same. omega (arith, same, above))) ∙ p.unstored other number (omega (arith, above));
   }

@@ -182,9 +182,6 @@ pieces_to-more layout bytes slot =
     ∙ map-append (piece layout bytes) (range_with_len 0 slot) ((0 + slot) ∷ [])
     ∙ ap (λ j. pieces_to layout bytes slot ++ piece layout bytes j ∷ []) start)
 
-pub pieces_to-none : (layout : Shape) (bytes : List ℕ) → pieces_to layout bytes 0 ≡ []
-pieces_to-none layout bytes = refl
-
 data_of-six : (layout : Shape) (bytes : List ℕ) → data_of (pieces_to layout bytes 6) ≡ stripes_of layout bytes
 unfolding data_of piece_of given_or_restored
 data_of-six layout bytes = refl

@@ -1,5 +1,6 @@
--- The replies of an actor so far: what each of them says of the history, and that it was placed in a step of its command.
-use Rattle.std.proofs.Common.{◌≡◌, ℕ, zero, suc, ◌+◌, ◌≤◌, ◌==◌, ◌||◌, Bool, true, false, List, [], ◌∷◌, ◌++◌, length, filter, Option, Some, None, refl, ap, subst, ◌∙◌, arith, add-one}
+-- The replies of an actor so far: what each of them says of the history, that it was placed in a step of its command, and
+-- that each file that was opened is read.
+use Rattle.std.proofs.Common.{◌≡◌, ℕ, zero, suc, ◌+◌, ◌≤◌, ◌==◌, ◌||◌, Bool, true, false, List, [], ◌∷◌, ◌++◌, length, filter, Option, Some, None, refl, sym, ap, subst, ◌∙◌, arith, add-one}
 use Rattle.std.proofs.lemmas.List.{length-append}
 use Rattle.std.proofs.lemmas.List.Elements.{filter-append}
 use Rattle.std.proofs.lemmas.List.Folds.{list_any-append}
@@ -12,18 +13,21 @@ use Rattle.qfs_base.specs.declared.command.FileCommand.{FileCommand}
 use Rattle.qfs_base.specs.declared.command.Reply.TheVariants as Says
 use Rattle.qfs_base.specs.declared.history.Entry.{Entry}
 use Rattle.qfs_base.specs.declared.history.FileReply.TheVariants as Told
-use Rattle.qfs_base.specs.declared.reply.TreeRefusal.{TreeRefusal}
+use Rattle.qfs_base.specs.declared.reply.MetaReply.TheVariants as Said
+use Rattle.qfs_base.specs.declared.reply.NodeReply.{NodeReply}
+use Rattle.qfs_base.specs.declared.reply.NodeReply.TheVariants as From
+use Rattle.qfs_base.specs.declared.reply.Opened.{Opened}
 use Rattle.qfs_base.specs.declared.request.NodeRequest.{NodeRequest}
 use Rattle.qfs_base.specs.declared.script.Script.{Script}
 use Rattle.qfs_model_actor.specs.Actor.{Actor}
 use Rattle.qfs_model_actor.specs.Work.{Report}
 use Rattle.qfs_model_world.specs.Agrees.{AgreesStored, place_of_report}
 use Rattle.qfs_model_world.specs.Events.{Event, event_asking, place_before, is_step_of, steps_of}
-use Rattle.qfs_model_world.specs.EveryGet.{is_release}
 use Rattle.qfs_model_world.specs.Puts.{command_of, puts_of}
 use Rattle.qfs_model_world.specs.World.{World, numbered}
 use Rattle.qfs_model_world.proofs.OneActor.{done_step}
 use Rattle.qfs_laws_first.proofs.Histories.{reply_at-more, slice_get-more, slice_get-last}
+use Rattle.qfs_laws_first.proofs.Rows.{each_weaker}
 use Rattle.qfs_laws_first.proofs.Tables.{each_append}
 use Rattle.qfs_laws_first.proofs.Tests.{same-number}
 
@@ -76,7 +80,7 @@ place-more steps more number place has =
     ∙ or-left _ _ has
 
 -- the last step is one of the command, and took place there
-pub place-last : (steps : List Event) (event : Event) (number : ℕ) → is_step_of 1 number event ≡ true → HasPlace (steps ++ event ∷ []) number (place_before event)
+place-last : (steps : List Event) (event : Event) (number : ℕ) → is_step_of 1 number event ≡ true → HasPlace (steps ++ event ∷ []) number (place_before event)
 unfolding steps_of
 place-last steps event number own =
     let at : Event → Bool = λ other. place_before other == place_before event in
@@ -98,96 +102,84 @@ good-more script steps new history more number report g = record {
   placed = placed-more steps new number (place_of_report report) g.placed;
 }
 
-abbrev GoodAt : Script → List Event → List Entry → ℕ × Report → Type 0
+abbrev pub GoodAt : Script → List Event → List Entry → ℕ × Report → Type 0
 GoodAt script steps history r = IsGood script steps history r.0 r.1
 
-goods-more : (script : Script) (steps new : List Event) (history more : List Entry) (reports : List (ℕ × Report)) → Each (GoodAt script steps history) reports
+pub goods-more : (script : Script) (steps new : List Event) (history more : List Entry) (reports : List (ℕ × Report)) → Each (GoodAt script steps history) reports
     → Each (GoodAt script (steps ++ new) (history ++ more)) reports
 goods-more script steps new history more [] each = tt
 goods-more script steps new history more (r ∷ rs) each = (good-more script steps new history more r.0 r.1 each.0, goods-more script steps new history more rs each.1)
 
-each_enumerated : {X : Type 0} (P : ℕ × X → Type 0) (from : ℕ) (xs : List X) (x : X) → Each P (enumerate_from from xs) → P (length xs + from, x) → Each P (enumerate_from from (xs ++ x ∷ []))
+pub each_enumerated : {X : Type 0} (P : ℕ × X → Type 0) (from : ℕ) (xs : List X) (x : X) → Each P (enumerate_from from xs) → P (length xs + from, x) → Each P (enumerate_from from (xs ++ x ∷ []))
 each_enumerated P from [] x each last = let e : 0 + from ≡ from = omega arith in (subst (λ n. P (n, x)) e last, tt)
 each_enumerated P from (y ∷ ys) x each last =
     let e : length (y ∷ ys) + from ≡ length ys + (from + 1) = omega arith in
     (each.0, each_enumerated P (from + 1) ys x each.1 (subst (λ n. P (n, x)) e last))
 
--- ---- releases
+-- ---- openings
 
--- a lease is released in the last step of a get, which has read then
-pub record IsReadBy (ended : List Report) (event : Event) : Type 0 where
+-- the file that a reply says is open
+abbrev pub opened_in : NodeReply → Option Opened
+opened_in (From.Meta (Said.Opened o)) = Some o
+opened_in reply = None
+
+-- a get that opened this file in a step has read it, or will: its bytes at the place of that step
+pub record IsReadBy (told : List Report) (event : Event) (o : Opened) : Type 0 where
   pub by : event.actor ≡ 1
-  pub place : ℕ
+  pub place : o.place ≡ place_before event
   pub bytes : List ℕ
-  pub reply : numbered ended event.command ≡ Some (Says.Read place bytes)
+  pub reply : numbered told event.command ≡ Some (Says.Read o.place bytes)
 
-abbrev pub ReadsWhereReleased : List Report → Event → Type 0
-ReadsWhereReleased ended event = IsTrue (is_release event.request) → IsReadBy ended event
+-- so is each file that is opened in a step
+abbrev pub ReadsWhereOpened : List Report → Event → Type 0
+ReadsWhereOpened told event = (o : Opened) → opened_in event.reply ≡ Some o → IsReadBy told event o
 
-numbered-more : {X : Type 0} (xs : List X) (x : X) (number : ℕ) (y : X) → numbered xs number ≡ Some y → numbered (xs ++ x ∷ []) number ≡ Some y
+pub numbered-more : {X : Type 0} (xs ys : List X) (number : ℕ) (y : X) → numbered xs number ≡ Some y → numbered (xs ++ ys) number ≡ Some y
 unfolding numbered
-numbered-more xs x zero y found = absurd (cc)
-numbered-more xs x (suc k) y found = slice_get-more xs (x ∷ []) k y found
+numbered-more xs ys zero y found = absurd (cc)
+numbered-more xs ys (suc k) y found = slice_get-more xs ys k y found
 
 -- the last of a list by its number
-pub last-number : {X : Type 0} (xs : List X) (x : X) → numbered (xs ++ x ∷ []) (length xs + 1) ≡ Some x
+last-number : {X : Type 0} (xs : List X) (x : X) → numbered (xs ++ x ∷ []) (length xs + 1) ≡ Some x
 unfolding numbered
 last-number xs x = rw (add-one (length xs)) (slice_get-last xs x)
 
-releases-more : (ended : List Report) (report : Report) (steps : List Event) → Each (ReadsWhereReleased ended) steps → Each (ReadsWhereReleased (ended ++ report ∷ [])) steps
-releases-more ended report [] each = tt
-releases-more ended report (event ∷ steps) each =
-    ((λ is. let r = each.0 is in record { by = r.by; place = r.place; bytes = r.bytes; reply = numbered-more ended report event.command _ r.reply }), releases-more ended report steps each.1)
+-- one reply more
+pub openings-more : (told : List Report) (report : Report) (steps : List Event) → Each (ReadsWhereOpened told) steps → Each (ReadsWhereOpened (told ++ report ∷ [])) steps
+openings-more told report steps each =
+    each_weaker (ReadsWhereOpened told) (ReadsWhereOpened (told ++ report ∷ [])) steps
+    (λ event reads o opened.
+    let r = reads o opened in
+    record { by = r.by; place = r.place; bytes = r.bytes; reply = numbered-more told (report ∷ []) event.command _ r.reply })
+    each
 
--- ---- an actor so far
+-- one step more, which opens nothing
+pub no-opening : (told : List Report) (steps : List Event) (event : Event) (reply : NodeReply) → event.reply ≡ reply → opened_in reply ≡ None
+    → Each (ReadsWhereOpened told) steps → Each (ReadsWhereOpened told) (steps ++ event ∷ [])
+no-opening told steps event reply replied none each =
+    each_append (ReadsWhereOpened told) steps (event ∷ []) each
+    ((λ o opened. let some : None ≡ Some o = sym none ∙ ap opened_in (sym replied) ∙ opened in absurd (cc)), tt)
 
-pub record SoFar (script : Script) (steps : List Event) (history : List Entry) (ended : List Report) : Type 0 where
-  pub replies : Each (λ (r : ℕ × Report). IsGood script steps history r.0 r.1) (enumerate_from 1 ended)
-  pub releases : Each (ReadsWhereReleased ended) steps
-
--- its command goes on
-pub so-far-more : (script : Script) (steps : List Event) (history more : List Entry) (ended : List Report) (event : Event) → SoFar script steps history ended
-    → is_release event.request ≡ false → SoFar script (steps ++ event ∷ []) (history ++ more) ended
-so-far-more script steps history more ended event so none = record {
-  replies = goods-more script steps (event ∷ []) history more (enumerate_from 1 ended) so.replies;
-  releases = each_append (ReadsWhereReleased ended) steps (event ∷ []) so.releases ((λ is. absurd (cc)), tt);
-}
-
--- its command has ended
-pub so-far-ended : (script : Script) (steps : List Event) (history more : List Entry) (ended : List Report) (event : Event) (report : Report) → SoFar script steps history ended
-    → IsGood script (steps ++ event ∷ []) (history ++ more) (length ended + 1) report → ReadsWhereReleased (ended ++ report ∷ []) event
-    → SoFar script (steps ++ event ∷ []) (history ++ more) (ended ++ report ∷ [])
-so-far-ended script steps history more ended event report so good release = record {
-  replies = each_enumerated (GoodAt script (steps ++ event ∷ []) (history ++ more)) 1 ended report (goods-more script steps (event ∷ []) history more (enumerate_from 1 ended) so.replies) good;
-  releases = each_append (ReadsWhereReleased (ended ++ report ∷ [])) steps (event ∷ []) (releases-more ended report steps so.releases) (release, tt);
-}
+-- the file that the actor opens is read
+pub opening-here : (w : World) (actor : Actor) (request : NodeRequest) (o : Opened) (bytes : List ℕ)
+    → (event_asking w done_step actor request).reply ≡ From.Meta (Said.Opened o) → o.place ≡ length w.meta.history
+    → ReadsWhereOpened (actor.ended ++ Says.Read o.place bytes ∷ []) (event_asking w done_step actor request)
+unfolding event_asking
+opening-here w actor request o bytes replied place other opened =
+    let some : Some o ≡ Some other = ap opened_in (sym replied) ∙ opened in
+    let same : o ≡ other = cc in
+    subst (IsReadBy (actor.ended ++ Says.Read o.place bytes ∷ []) (event_asking w done_step actor request)) same
+    (record { by = refl; place = place; bytes = bytes; reply = last-number actor.ended (Says.Read o.place bytes) })
 
 -- ---- the step of the one actor
 
-pub own-step : (w : World) (actor : Actor) (request : NodeRequest) → is_step_of 1 (length actor.ended + 1) (event_asking w done_step actor request) ≡ true
+own-step : (w : World) (actor : Actor) (request : NodeRequest) → is_step_of 1 (length actor.ended + 1) (event_asking w done_step actor request) ≡ true
 unfolding is_step_of event_asking
 own-step w actor request = rw (same-number 1, same-number (length actor.ended + 1)) refl
 
-pub request-kept : (w : World) (actor : Actor) (request : NodeRequest) → (event_asking w done_step actor request).request ≡ request
-unfolding event_asking
-request-kept w actor request = refl
-
-pub place-kept : (w : World) (actor : Actor) (request : NodeRequest) → place_before (event_asking w done_step actor request) ≡ length w.meta.history
+place-kept : (w : World) (actor : Actor) (request : NodeRequest) → place_before (event_asking w done_step actor request) ≡ length w.meta.history
 unfolding event_asking
 place-kept w actor request = refl
-
--- the reply that a get ends with is that of its release
-pub read-here : (w : World) (actor : Actor) (request : NodeRequest) (place : ℕ) (bytes : List ℕ)
-    → ReadsWhereReleased (actor.ended ++ Says.Read place bytes ∷ []) (event_asking w done_step actor request)
-unfolding event_asking
-read-here w actor request place bytes is = record { by = refl; place = place; bytes = bytes; reply = at }
-  where
-    at : numbered (actor.ended ++ Says.Read place bytes ∷ []) (length actor.ended + 1) ≡ Some (Says.Read place bytes)
-    at = last-number actor.ended (Says.Read place bytes)
-
--- a step that releases nothing
-pub no-release : (ended : List Report) (event : Event) → is_release event.request ≡ false → ReadsWhereReleased ended event
-no-release ended event none is = absurd (cc)
 
 -- the last step of a command took place at the end of the history before it
 pub place-here : (steps : List Event) (w : World) (actor : Actor) (request : NodeRequest)
@@ -195,20 +187,3 @@ pub place-here : (steps : List Event) (w : World) (actor : Actor) (request : Nod
 place-here steps w actor request =
     subst (HasPlace (steps ++ event_asking w done_step actor request ∷ []) (length actor.ended + 1)) (place-kept w actor request)
     (place-last steps (event_asking w done_step actor request) (length actor.ended + 1) (own-step w actor request))
-
--- a reply that has this place
-pub placed-at : (steps : List Event) (number place : ℕ) (report : Report) → place_of_report report ≡ Some place → HasPlace steps number place
-    → IfSome (place_of_report report) (HasPlace steps number)
-placed-at steps number place report is has = rw is has
-
-pub place-of-refused : (place : ℕ) (why : TreeRefusal) → place_of_report (Says.Refused place why) ≡ Some place
-unfolding place_of_report
-place-of-refused place why = refl
-
-pub place-of-stored : (place len : ℕ) → place_of_report (Says.Stored place len) ≡ Some place
-unfolding place_of_report
-place-of-stored place len = refl
-
-pub place-of-read : (place : ℕ) (bytes : List ℕ) → place_of_report (Says.Read place bytes) ≡ Some place
-unfolding place_of_report
-place-of-read place bytes = refl

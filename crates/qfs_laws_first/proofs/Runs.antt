@@ -1,38 +1,46 @@
 -- The world of the first path at each step: where its actor is, and what holds there.
-use Rattle.std.proofs.Common.{◌≡◌, ◌⊎◌, ℕ, ◌+◌, ◌<◌, ◌≤◌, false, List, [], ◌∷◌, ◌++◌, length, Some, None, Ok, refl, sym, ap, subst, ◌∙◌, inl, inr}
-use Rattle.std.proofs.lemmas.List.{length-append}
+use Rattle.std.proofs.Common.{◌≡◌, ◌⊎◌, ℕ, ◌+◌, ◌*◌, ◌<◌, ◌≤◌, List, [], ◌∷◌, ◌++◌, length, Some, None, Ok, refl, sym, ap, subst, ◌∙◌, arith, inl, inr}
+use Rattle.std.proofs.lemmas.List.{append-nil, length-append}
 use Rattle.std.specs.Prelude.{slice_get}
+use Rattle.std.specs.List.{enumerate_from}
 use Rattle.std.specs.Option.{option_and_then}
 use Rattle.qfs_base.specs.FileReplies.{reply_at}
 use Rattle.qfs_base.specs.NameTree.{PathNames}
+use Rattle.qfs_base.specs.Rules.{rules_of}
+use Rattle.qfs_base.specs.Table.{Each}
 use Rattle.qfs_base.specs.declared.command.Command.{Command}
 use Rattle.qfs_base.specs.declared.command.Command.TheVariants as Does
 use Rattle.qfs_base.specs.declared.command.FileCommand.{FileCommand}
 use Rattle.qfs_base.specs.declared.command.FileCommand.TheVariants as File
+use Rattle.qfs_base.specs.declared.command.Reply.TheVariants as Says
 use Rattle.qfs_base.specs.declared.history.Entry.{Entry}
 use Rattle.qfs_base.specs.declared.history.FileReply.TheVariants as Told
 use Rattle.qfs_base.specs.declared.history.Outcome.TheVariants as Ended
 use Rattle.qfs_base.specs.declared.image.MetaImage.{MetaImage}
+use Rattle.qfs_base.specs.declared.reply.MetaReply.TheVariants as Said
 use Rattle.qfs_base.specs.declared.reply.NodeReply.{NodeReply}
+use Rattle.qfs_base.specs.declared.reply.NodeReply.TheVariants as From
 use Rattle.qfs_base.specs.declared.reply.Opened.{Opened}
+use Rattle.qfs_base.specs.declared.reply.TreeRefusal.{TreeRefusal}
 use Rattle.qfs_base.specs.declared.request.NodeRequest.{NodeRequest}
 use Rattle.qfs_base.specs.declared.script.Script.{Script}
 use Rattle.qfs_model_actor.specs.Actor.{Actor, work_left, request_of}
 use Rattle.qfs_model_actor.specs.Read.{Source}
-use Rattle.qfs_model_actor.specs.Work.{Report}
+use Rattle.qfs_model_actor.specs.Work.{Report, Work}
 use Rattle.qfs_model_meta.specs.Slots.{slot_at}
 use Rattle.qfs_model_server.specs.Server.{Server}
 use Rattle.qfs_model_slot.specs.Slot.{slot_of}
+use Rattle.qfs_model_world.specs.Agrees.{place_of_report}
 use Rattle.qfs_model_world.specs.Events.{Event, event_asking, event_by, event_in}
-use Rattle.qfs_model_world.specs.EveryGet.{is_release}
 use Rattle.qfs_model_world.specs.Puts.{command_of, puts_of}
 use Rattle.qfs_model_world.specs.World.{World, numbered, move_asking, move_actor, move}
 use Rattle.qfs_model_world.proofs.OneActor.{done_step}
-use Rattle.qfs_laws_first.proofs.Moves.{heard_more, ended_so}
+use Rattle.qfs_laws_first.proofs.Gets.{later}
+use Rattle.qfs_laws_first.proofs.Moves.{heard_more, ended_so, Moved}
 use Rattle.qfs_laws_first.proofs.Reading.{IsShort}
-use Rattle.qfs_laws_first.proofs.Reports.{HasPlace, IsGood, ReadsWhereReleased, SoFar, so-far-more, so-far-ended}
-use Rattle.qfs_laws_first.proofs.Servers.{stored_at}
-use Rattle.qfs_laws_first.proofs.States.{first_block, first_key, first_copy, granted_once, Between, Reads, Target, Puts}
+use Rattle.qfs_laws_first.proofs.Reports.{HasPlace, IsGood, GoodAt, borne-more, goods-more, each_enumerated, opened_in, ReadsWhereOpened, openings-more, no-opening, place-here}
+use Rattle.qfs_laws_first.proofs.Servers.{first_chunk, stored_at}
+use Rattle.qfs_laws_first.proofs.States.{first_block, first_key, first_copy, granted_once, Between, Within, Target, Puts}
 use Rattle.qfs_laws_first.proofs.Works.{at_slot, at_store, at_fetch}
 
 -- ---- where the actor is
@@ -74,17 +82,18 @@ pub record CanFetch (script : Script) (servers : List Server) (sources : List So
   pub first : 1 ≤ server
   pub last : server ≤ script.servers
   pub listed : slice_get sources slot ≡ Some (Ok (first_copy server))
-  pub stored : stored_at servers server (first_key file slot) ≡ Some (slot_of script.layout bytes 0 slot)
+  pub stored : stored_at servers server (first_key file slot) ≡ Some (first_chunk (slot_of script.layout bytes 0 slot))
 
 -- in a get, before a slot is fetched; slot 6 stands for the end
-pub record Fetching (script : Script) (steps : List Event) (servers : List Server) (m : MetaImage) (actor : Actor) : Type 0 where
+pub record Fetching (script : Script) (steps : List Event) (servers : List Server) (m : MetaImage) (actor : Actor) (told : List Report) : Type 0 where
   pub o : Opened
+  pub again : Report → Work
   pub sources : List Source
   pub bytes : List ℕ
   pub slot : ℕ
   pub within : slot ≤ 6
-  pub left : work_left actor ≡ Some (at_fetch script.layout o sources bytes slot)
-  pub reads : Reads script servers m (length actor.ended)
+  pub left : work_left actor ≡ Some (at_fetch script.layout again o sources bytes slot)
+  pub reads : Within script servers m (length actor.ended)
   pub few : length actor.ended ≤ 4096
   pub len : o.len ≡ length bytes
   pub short : IsShort script.layout (length bytes)
@@ -94,21 +103,26 @@ pub record Fetching (script : Script) (steps : List Event) (servers : List Serve
   pub before : o.place ≤ length m.history
   pub right : reply_at (puts_of script) m.history o.place (File.Get path None) ≡ Told.Read bytes
   pub placed : HasPlace steps (length actor.ended + 1) o.place
+  pub told_is : told ≡ actor.ended ++ Says.Read o.place bytes ∷ []
 
-abbrev pub Stage : Script → List Event → List Server → MetaImage → Actor → Type 0
-Stage script steps servers m actor =
-    Resting script servers m actor ⊎ (Granting script servers m actor ⊎ (Storing script servers m actor ⊎ Fetching script steps servers m actor))
+-- the replies that were given, or that a get which has opened its file will have given, are these
+abbrev pub Stage : Script → List Event → List Server → MetaImage → Actor → List Report → Type 0
+Stage script steps servers m actor told =
+    ((told ≡ actor.ended) × (Resting script servers m actor ⊎ (Granting script servers m actor ⊎ Storing script servers m actor)))
+    ⊎ Fetching script steps servers m actor told
 
 -- the world after these steps
 pub record Run (script : Script) (commands : List Command) (steps : List Event) (w : World) : Type 0 where
   pub actor : Actor
-  pub layout : w.layout ≡ script.layout
+  pub rules : w.rules ≡ rules_of script
   pub alone : w.actors ≡ actor ∷ []
   pub number : actor.number ≡ 1
-  pub own_layout : actor.layout ≡ script.layout
+  pub own_rules : actor.rules ≡ rules_of script
   pub own_commands : actor.commands ≡ commands
-  pub so_far : SoFar script steps w.meta.history actor.ended
-  pub stage : Stage script steps w.servers w.meta actor
+  pub replies : Each (GoodAt script steps w.meta.history) (enumerate_from 1 actor.ended)
+  pub told : List Report
+  pub openings : Each (ReadsWhereOpened told) steps
+  pub stage : Stage script steps w.servers w.meta actor told
 
 -- ---- one step more
 
@@ -132,54 +146,89 @@ pub ended-long : (ended : List Report) (report : Report) → length (ended ++ re
 ended-long ended report = length-append ended (report ∷ [])
 
 module _ (script : Script) (commands : List Command) (steps : List Event) (w : World) (r : Run script commands steps w) (request : NodeRequest)
-    (listed : event_in w done_step ≡ Some (event_asking w done_step r.actor request)) where
-  abbrev this_step : Event
-  this_step = event_asking w done_step r.actor request
+    (servers : List Server) (m : MetaImage) (reply : NodeReply) (more : List Entry) (written : m.history ≡ w.meta.history ++ more) (told : List Report) where
+  abbrev steps_then : List Event
+  steps_then = steps ++ event_asking w done_step r.actor request ∷ []
 
   -- the command goes on
-  pub goes-on-to : (servers : List Server) (m : MetaImage) (reply : NodeReply) (more : List Entry) → m.history ≡ w.meta.history ++ more
-      → is_release this_step.request ≡ false
-      → move w done_step ≡ record w { meta = m; servers = servers; actors = heard_more r.actor reply ∷ [] }
-      → Stage script (steps ++ this_step ∷ []) servers m (heard_more r.actor reply) → Next script commands steps w
-  goes-on-to servers m reply more written none moved stage =
+  pub goes-on-with : Moved w r.actor request servers m reply (heard_more r.actor reply) → Each (ReadsWhereOpened told) steps_then
+      → Stage script steps_then servers m (heard_more r.actor reply) told → Next script commands steps w
+  goes-on-with moved openings stage =
       inr (
-        this_step,
-        listed,
-        subst (Run script commands (steps ++ this_step ∷ [])) (sym moved) (record {
+        event_asking w done_step r.actor request,
+        moved.listed,
+        subst (Run script commands steps_then) (sym moved.moved) (record {
           actor = heard_more r.actor reply;
-          layout = r.layout;
+          rules = r.rules;
           alone = refl;
           number = r.number;
-          own_layout = r.own_layout;
+          own_rules = r.own_rules;
           own_commands = r.own_commands;
-          so_far = subst (λ history. SoFar script (steps ++ this_step ∷ []) history r.actor.ended) (sym written)
-              (so-far-more script steps w.meta.history more r.actor.ended this_step r.so_far none);
+          replies = subst (λ history. Each (GoodAt script steps_then history) (enumerate_from 1 r.actor.ended)) (sym written)
+              (goods-more script steps (event_asking w done_step r.actor request ∷ []) w.meta.history more (enumerate_from 1 r.actor.ended) r.replies);
+          told = told;
+          openings = openings;
           stage = stage;
         }),
       )
 
+  -- the same where the step opens no file
+  pub goes-on-to : Moved w r.actor request servers m reply (heard_more r.actor reply) → opened_in reply ≡ None → Each (ReadsWhereOpened told) steps
+      → Stage script steps_then servers m (heard_more r.actor reply) told → Next script commands steps w
+  goes-on-to moved none openings stage = goes-on-with moved (no-opening told steps _ reply moved.replied none openings) stage
+
   -- the command has ended
-  pub ends-with : (m : MetaImage) (report : Report) (more : List Entry) → m.history ≡ w.meta.history ++ more
-      → move w done_step ≡ record w { meta = m; actors = ended_so r.actor report ∷ [] }
-      → IsGood script (steps ++ this_step ∷ []) (w.meta.history ++ more) (length r.actor.ended + 1) report
-      → ReadsWhereReleased (r.actor.ended ++ report ∷ []) this_step
-      → Between script w.servers m (length r.actor.ended + 1) → Next script commands steps w
-  ends-with m report more written moved good release between =
+  pub ends-with : (report : Report) → Moved w r.actor request servers m reply (ended_so r.actor report) → opened_in reply ≡ None
+      → told ≡ r.actor.ended ++ report ∷ [] → Each (ReadsWhereOpened told) steps
+      → IsGood script steps_then (w.meta.history ++ more) (length r.actor.ended + 1) report
+      → Between script servers m (length r.actor.ended + 1) → Next script commands steps w
+  ends-with report moved none told_is openings good between =
       inr (
-        this_step,
-        listed,
-        subst (Run script commands (steps ++ this_step ∷ [])) (sym moved) (record {
+        event_asking w done_step r.actor request,
+        moved.listed,
+        subst (Run script commands steps_then) (sym moved.moved) (record {
           actor = ended_so r.actor report;
-          layout = r.layout;
+          rules = r.rules;
           alone = refl;
           number = r.number;
-          own_layout = r.own_layout;
+          own_rules = r.own_rules;
           own_commands = r.own_commands;
-          so_far = subst (λ history. SoFar script (steps ++ this_step ∷ []) history (r.actor.ended ++ report ∷ [])) (sym written)
-              (so-far-ended script steps w.meta.history more r.actor.ended this_step report r.so_far good release);
-          stage = inl (record {
-            silent = refl;
-            between = subst (Between script w.servers m) (sym (ended-long r.actor.ended report)) between;
-          });
+          replies = subst (λ history. Each (GoodAt script steps_then history) (enumerate_from 1 (r.actor.ended ++ report ∷ []))) (sym written)
+              (each_enumerated (GoodAt script steps_then (w.meta.history ++ more)) 1 r.actor.ended report
+              (goods-more script steps (event_asking w done_step r.actor request ∷ []) w.meta.history more (enumerate_from 1 r.actor.ended) r.replies) good);
+          told = told;
+          openings = no-opening told steps _ reply moved.replied none openings;
+          stage = inl (
+            told_is,
+            inl (record {
+              silent = refl;
+              between = subst (Between script servers m) (sym (ended-long r.actor.ended report)) between;
+            }),
+          );
         }),
       )
+
+module _ (script : Script) (commands : List Command) (steps : List Event) (w : World) (r : Run script commands steps w) where
+  -- one reply more is told
+  pub told-then : r.told ≡ r.actor.ended → (report : Report) → Each (ReadsWhereOpened (r.actor.ended ++ report ∷ [])) steps
+  told-then told_is report = openings-more r.actor.ended report steps (subst (λ told. Each (ReadsWhereOpened told) steps) told_is r.openings)
+
+  -- the name tree refused the command
+  pub refused-so : (request : NodeRequest) (why : TreeRefusal) (command : FileCommand) → r.told ≡ r.actor.ended
+      → Moved w r.actor request w.servers w.meta (From.Meta (Said.Refused why (length w.meta.history))) (ended_so r.actor (Says.Refused (length w.meta.history) why))
+      → command_of script 1 (length r.actor.ended + 1) ≡ Some (Does.File command)
+      → reply_at (puts_of script) w.meta.history (length w.meta.history) command ≡ Told.Refused why
+      → Between script w.servers w.meta (length r.actor.ended) → Next script commands steps w
+  unfolding place_of_report
+  refused-so request why command told_is moved is there between =
+      let place : ℕ = length w.meta.history in
+      let number : ℕ = length r.actor.ended + 1 in
+      ends-with script commands steps w r request w.servers w.meta (From.Meta (Said.Refused why place)) [] (sym (append-nil w.meta.history))
+      (r.actor.ended ++ Says.Refused place why ∷ []) (Says.Refused place why) moved refl refl (told-then told_is (Says.Refused place why))
+      (record {
+        command = command;
+        is = is;
+        says = borne-more script w.meta.history [] number command (Says.Refused place why) (omega arith, there);
+        placed = place-here steps w r.actor request;
+      })
+      (later script w.servers w.meta (length r.actor.ended) (2 * length r.actor.ended + 1) between (2 * (length r.actor.ended + 1) + 1) (omega arith))

@@ -1,21 +1,19 @@
 -- What placing a row in a table, and changing rows of it, leaves of what each row holds, and of the records of slots.
-use Rattle.std.proofs.Common.{◌≡◌, ℕ, zero, suc, ◌+◌, ◌<◌, ◌≤◌, ◌==◌, Bool, true, false, cond, ◌&&◌, List, [], ◌∷◌, ◌++◌, length, map, filter, find, Option, Some, None, unwrap_or, refl, sym, ap, ◌∙◌, arith}
-use Rattle.std.proofs.lemmas.Bool.{eqb-true}
+use Rattle.std.proofs.Common.{◌≡◌, ℕ, zero, suc, ◌+◌, ◌<◌, ◌≤◌, Bool, true, false, cond, List, [], ◌∷◌, ◌++◌, length, map, filter, find, Option, Some, None, unwrap_or, refl, sym, ap, ◌∙◌, arith}
 use Rattle.std.specs.Cmp.{IsTotalOrder, nat_cmp_total, on_total, then_total, ranked, tied_itself}
 use Rattle.std.specs.Option.{option_map}
 use Rattle.std.specs.List.{range_with_len}
-use Rattle.std.specs.Ordering.{nat_cmp, ordering_then}
+use Rattle.std.specs.Ordering.{nat_cmp, is_eq, ordering_then}
 use Rattle.std.specs.declared.cmp.Ordering.{Ordering}
 use Rattle.std.specs.declared.cmp.Ordering.TheVariants.{Less, Equal, Greater}
-use Rattle.qfs_base.specs.Key.{block_cmp}
 use Rattle.qfs_base.specs.KeyLaws.{block_cmp-Equal, block_cmp_total}
 use Rattle.qfs_base.specs.Table.{Each, place, place_before, change_row, change_where}
 use Rattle.qfs_base.specs.declared.chunk.BlockId.{BlockId}
 use Rattle.qfs_base.specs.declared.image.Grant.{Grant}
 use Rattle.qfs_base.specs.declared.image.SlotRecord.{SlotRecord}
 use Rattle.qfs_base.specs.declared.image.SlotRow.{SlotRow}
-use Rattle.qfs_model_meta.specs.Slots.{never_granted, same_block, slot_cmp, is_slot, is_of_block, is_of_file, slot_at, granted_copy, grants_of_block, sealed_slot, change_state, with_slot, seal_file}
-use Rattle.qfs_laws_first.proofs.Tests.{same-number, and-both}
+use Rattle.qfs_model_meta.specs.Slots.{never_granted, slot_cmp, is_slot, is_of_block, is_of_file, slot_at, granted_copy, grants_of_block, sealed_slot, change_state, with_slot, seal_file}
+use Rattle.qfs_laws_first.proofs.Tests.{tie, fails}
 
 -- ---- any table
 
@@ -65,21 +63,18 @@ pub each_range : (P : ℕ → Type 0) (from n : ℕ) → ((i : ℕ) → from ≤
 each_range P from zero h = tt
 each_range P from (suc n) h = (h from (omega arith) (omega arith), each_range P (from + 1) n (λ i a b. h i (omega arith) (omega arith)))
 
+-- what is placed is found where no other row passes
+pub find-alone : {X : Type 0} (test : X → Bool) (order : X → X → Ordering) (new : X) (rows : List X) → test new ≡ true → Each (λ row. test row ≡ false) rows
+    → find test (place order new rows) ≡ Some new
+find-alone test order new [] own others = rw own refl
+find-alone test order new (row ∷ rows) own others = one (order new row) (find-alone test order new rows own others.1)
+  where
+    one : (o : Ordering) → find test (place order new rows) ≡ Some new → find test (place_before new row rows (place order new rows) o) ≡ Some new
+    one Less rest = rw own refl
+    one Equal rest = rw own refl
+    one Greater rest = rw others.0 rest
+
 -- ---- slots
-
-pub is_slot-self : (row : SlotRow) → is_slot row.block row.slot row ≡ true
-unfolding is_slot same_block
-is_slot-self row = rw (same-number row.block.file, same-number row.block.index, same-number row.slot) refl
-
--- a row of a slot has its block and its number
-pub is_slot-same : (block : BlockId) (slot : ℕ) (row : SlotRow) → is_slot block slot row ≡ true → (row.block ≡ block) × (row.slot ≡ slot)
-unfolding is_slot same_block
-is_slot-same block slot row is =
-    let parts = and-both _ _ is in
-    let keys = and-both _ _ parts.0 in
-    let file : row.block.file ≡ block.file = eqb-true _ _ keys.0 in
-    let index : row.block.index ≡ block.index = eqb-true _ _ keys.1 in
-    ((λ i. record { file = file i; index = index i }), eqb-true _ _ parts.1)
 
 slot_cmp_total : IsTotalOrder slot_cmp
 unfolding slot_cmp
@@ -90,81 +85,65 @@ then-Equal Less b e = absurd (cc)
 then-Equal Equal b e = (refl, e)
 then-Equal Greater b e = absurd (cc)
 
--- rows that tie are of one slot
-ties : (a b : SlotRow) → slot_cmp a b ≡ Equal → (a.block ≡ b.block) × (a.slot ≡ b.slot)
-unfolding slot_cmp
-ties a b e = let parts = then-Equal _ _ e in (block_cmp-Equal a.block b.block parts.0, ranked a.slot b.slot Equal (sym parts.1))
-
-tied : (a b : SlotRow) → a.block ≡ b.block → a.slot ≡ b.slot → slot_cmp a b ≡ Equal
-unfolding slot_cmp
-tied a b block slot =
-    ap (λ k. ordering_then (block_cmp a.block k) (nat_cmp a.slot b.slot)) (sym block)
-    ∙ ap (λ k. ordering_then (block_cmp a.block a.block) (nat_cmp a.slot k)) (sym slot)
-    ∙ tied_itself slot_cmp_total (record { block = a.block; slot = a.slot; state = a.state })
-
-apart : (new row : SlotRow) (b : Bool) → slot_cmp new row ≡ Greater → is_slot new.block new.slot row ≡ b → b ≡ false
-apart new row true above is =
-    let same = is_slot-same new.block new.slot row is in
-    let tie : slot_cmp new row ≡ Equal = tied new row (sym same.0) (sym same.1) in
-    absurd (cc)
-apart new row false above is = refl
-
-found-one : (new row : SlotRow) (rows further : List SlotRow) (o : Ordering) → slot_cmp new row ≡ o
-    → find (is_slot new.block new.slot) further ≡ Some new → find (is_slot new.block new.slot) (place_before new row rows further o) ≡ Some new
-found-one new row rows further Less is rest = rw (is_slot-self new) refl
-found-one new row rows further Equal is rest = rw (is_slot-self new) refl
-found-one new row rows further Greater is rest = rw (apart new row (is_slot new.block new.slot row) is refl) rest
-
--- the row that was placed is found
-find-placed : (new : SlotRow) (rows : List SlotRow) → find (is_slot new.block new.slot) (place slot_cmp new rows) ≡ Some new
-find-placed new [] = rw (is_slot-self new) refl
-find-placed new (row ∷ rows) = found-one new row rows (place slot_cmp new rows) (slot_cmp new row) refl (find-placed new rows)
-
-other-one : (block : BlockId) (slot : ℕ) (new row : SlotRow) (rows further : List SlotRow) (o : Ordering) → slot_cmp new row ≡ o
-    → is_slot block slot new ≡ false → find (is_slot block slot) further ≡ find (is_slot block slot) rows
-    → find (is_slot block slot) (place_before new row rows further o) ≡ find (is_slot block slot) (row ∷ rows)
+-- a row of a slot has its block and its number
+pub is_slot-same : (block : BlockId) (slot : ℕ) (row : SlotRow) → is_slot block slot row ≡ true → (block ≡ row.block) × (slot ≡ row.slot)
 unfolding is_slot
-other-one block slot new row rows further Less is distinct rest = rw distinct refl
-other-one block slot new row rows further Equal is distinct rest =
-    let same = ties new row is in
-    let too : (same_block row.block block && (row.slot == slot)) ≡ false = rw (← same.0, ← same.1) distinct in
-    rw (distinct, too) refl
-other-one block slot new row rows further Greater is distinct rest =
-    ap (cond (is_slot block slot row) (Some row)) rest
+is_slot-same block slot row is =
+    let parts = then-Equal _ _ (tie _ is) in
+    (block_cmp-Equal block row.block parts.0, ranked slot row.slot Equal (sym parts.1))
 
--- and every other slot has the row that it had
-find-other : (block : BlockId) (slot : ℕ) (new : SlotRow) (rows : List SlotRow) → is_slot block slot new ≡ false
-    → find (is_slot block slot) (place slot_cmp new rows) ≡ find (is_slot block slot) rows
-find-other block slot new [] distinct = rw distinct refl
-find-other block slot new (row ∷ rows) distinct = other-one block slot new row rows (place slot_cmp new rows) (slot_cmp new row) refl distinct (find-other block slot new rows distinct)
-
-abbrev record_in : Option SlotRow → SlotRecord
-record_in found = unwrap_or (option_map (λ (row : SlotRow). row.state) found) never_granted
-
-pub slot_at-placed : (block : BlockId) (slot : ℕ) (state : SlotRecord) (slots : List SlotRow) → slot_at (with_slot block slot state slots) block slot ≡ state
-unfolding slot_at with_slot
-slot_at-placed block slot state slots = ap record_in (find-placed (record { block = block; slot = slot; state = state }) slots)
-
-pub slot_at-other : (block other : BlockId) (slot number : ℕ) (state : SlotRecord) (slots : List SlotRow)
-    → is_slot other number (record { block = block; slot = slot; state = state }) ≡ false
-    → slot_at (with_slot block slot state slots) other number ≡ slot_at slots other number
-unfolding slot_at with_slot
-slot_at-other block other slot number state slots distinct = ap record_in (find-other other number (record { block = block; slot = slot; state = state }) slots distinct)
+pub is_slot-self : (block : BlockId) (slot : ℕ) (state : SlotRecord) → is_slot block slot (record { block = block; slot = slot; state = state }) ≡ true
+unfolding is_slot slot_cmp
+is_slot-self block slot state = ap is_eq (tied_itself slot_cmp_total (record { block = block; slot = slot; state = state }))
 
 -- a slot of another file or of another number is another one
 pub is_slot-other : (block other : BlockId) (slot number : ℕ) (state : SlotRecord) → (block.file ≡ other.file → slot ≡ number → ⊥)
     → is_slot other number (record { block = block; slot = slot; state = state }) ≡ false
-is_slot-other block other slot number state differ = one (is_slot other number (record { block = block; slot = slot; state = state })) refl
-  where
-    one : (b : Bool) → is_slot other number (record { block = block; slot = slot; state = state }) ≡ b → is_slot other number (record { block = block; slot = slot; state = state }) ≡ false
-    one true is = let same = is_slot-same other number (record { block = block; slot = slot; state = state }) is in absurd (differ (ap (λ (k : BlockId). k.file) same.0) same.1)
-    one false is = is
+is_slot-other block other slot number state differ =
+    fails _ (λ is. let same = is_slot-same other number _ is in differ (ap (λ (k : BlockId). k.file) (sym same.0)) (sym same.1))
 
--- the test looks at no record
-pub is_slot-kind : (block of : BlockId) (slot number : ℕ) (state : SlotRecord) (b : Bool) (other : SlotRecord)
-    → is_slot block slot (record { block = of; slot = number; state = state }) ≡ b → is_slot block slot (record { block = of; slot = number; state = other }) ≡ b
-unfolding is_slot
-is_slot-kind block of slot number state b other is = is
+abbrev record_in : Option SlotRow → SlotRecord
+record_in found = unwrap_or (option_map (λ (row : SlotRow). row.state) found) never_granted
+
+-- a slot that was placed is found, and every other slot has the row that it had
+module _ (block : BlockId) (slot : ℕ) (state : SlotRecord) where
+  abbrev new : SlotRow
+  new = record { block = block; slot = slot; state = state }
+
+  find-placed : (rows : List SlotRow) → find (is_slot block slot) (place slot_cmp new rows) ≡ Some new
+  unfolding is_slot slot_cmp
+  find-placed [] = rw (is_slot-self block slot state) refl
+  find-placed (row ∷ rows) = one (slot_cmp new row) refl (find-placed rows)
+    where
+      one : (o : Ordering) → slot_cmp new row ≡ o → find (is_slot block slot) (place slot_cmp new rows) ≡ Some new
+          → find (is_slot block slot) (place_before new row rows (place slot_cmp new rows) o) ≡ Some new
+      one Less is rest = rw (is_slot-self block slot state) refl
+      one Equal is rest = rw (is_slot-self block slot state) refl
+      one Greater is rest = rw is rest
+
+  find-other : (other : BlockId) (number : ℕ) (rows : List SlotRow) → is_slot other number new ≡ false
+      → find (is_slot other number) (place slot_cmp new rows) ≡ find (is_slot other number) rows
+  unfolding slot_cmp is_slot
+  find-other other number [] distinct = rw distinct refl
+  find-other other number (row ∷ rows) distinct = one (slot_cmp new row) refl (find-other other number rows distinct)
+    where
+      one : (o : Ordering) → slot_cmp new row ≡ o → find (is_slot other number) (place slot_cmp new rows) ≡ find (is_slot other number) rows
+          → find (is_slot other number) (place_before new row rows (place slot_cmp new rows) o) ≡ find (is_slot other number) (row ∷ rows)
+      one Less is rest = rw distinct refl
+      one Equal is rest =
+          let same = is_slot-same block slot row (ap is_eq is) in
+          let too : is_slot other number row ≡ false = rw (← same.0, ← same.1) distinct in
+          rw (distinct, too) refl
+      one Greater is rest = ap (cond (is_slot other number row) (Some row)) rest
+
+  pub slot_at-placed : (slots : List SlotRow) → slot_at (with_slot block slot state slots) block slot ≡ state
+  unfolding slot_at with_slot
+  slot_at-placed slots = ap record_in (find-placed slots)
+
+  pub slot_at-other : (other : BlockId) (number : ℕ) (slots : List SlotRow) → is_slot other number new ≡ false
+      → slot_at (with_slot block slot state slots) other number ≡ slot_at slots other number
+  unfolding slot_at with_slot
+  slot_at-other other number slots distinct = ap record_in (find-other other number slots distinct)
 
 -- a slot that no row is of was never granted
 pub slot_at-none : (block : BlockId) (slot : ℕ) (slots : List SlotRow) → Each (λ row. is_slot block slot row ≡ false) slots → slot_at slots block slot ≡ never_granted
@@ -173,53 +152,44 @@ slot_at-none block slot slots each = ap record_in (find-none (is_slot block slot
 
 -- ---- a file that is closed
 
-sealed-key : (file : ℕ) (block : BlockId) (slot : ℕ) (row : SlotRow) (b : Bool) → is_slot block slot (change_row (change_state sealed_slot) row b) ≡ is_slot block slot row
+sealed-key : (block : BlockId) (slot : ℕ) (row : SlotRow) (b : Bool) → is_slot block slot (change_row (change_state sealed_slot) row b) ≡ is_slot block slot row
 unfolding is_slot change_state
-sealed-key file block slot row true = refl
-sealed-key file block slot row false = refl
+sealed-key block slot row true = refl
+sealed-key block slot row false = refl
 
-find-sealed : (file : ℕ) (block : BlockId) (slot : ℕ) (rows : List SlotRow) → block.file ≡ file
-    → find (is_slot block slot) (seal_file file rows) ≡ option_map (change_state sealed_slot) (find (is_slot block slot) rows)
+-- each row of a slot is changed where the slot is one of the file
+find-sealed : (file : ℕ) (block : BlockId) (slot : ℕ) (rows : List SlotRow) (own : Bool) → is_eq (nat_cmp file block.file) ≡ own
+    → find (is_slot block slot) (seal_file file rows) ≡ option_map (λ row. change_row (change_state sealed_slot) row own) (find (is_slot block slot) rows)
 unfolding seal_file is_of_file
-find-sealed file block slot [] own = refl
-find-sealed file block slot (row ∷ rows) own = one (is_slot block slot row) refl (find-sealed file block slot rows own)
+find-sealed file block slot [] own of = refl
+find-sealed file block slot (row ∷ rows) own of = one (is_slot block slot row) refl (find-sealed file block slot rows own of)
   where
-    one : (b : Bool) → is_slot block slot row ≡ b → find (is_slot block slot) (seal_file file rows) ≡ option_map (change_state sealed_slot) (find (is_slot block slot) rows)
-        → find (is_slot block slot) (seal_file file (row ∷ rows)) ≡ option_map (change_state sealed_slot) (find (is_slot block slot) (row ∷ rows))
+    one : (b : Bool) → is_slot block slot row ≡ b
+        → find (is_slot block slot) (seal_file file rows) ≡ option_map (λ row. change_row (change_state sealed_slot) row own) (find (is_slot block slot) rows)
+        → find (is_slot block slot) (seal_file file (row ∷ rows)) ≡ option_map (λ row. change_row (change_state sealed_slot) row own) (find (is_slot block slot) (row ∷ rows))
     one true is rest =
-        let same = is_slot-same block slot row is in
-        let of : (row.block.file == file) ≡ true = rw (same.0, own) (same-number file) in
-        rw (sealed-key file block slot row (row.block.file == file), is, of) refl
-    one false is rest = rw (sealed-key file block slot row (row.block.file == file), is) rest
-
-find-unsealed : (file : ℕ) (block : BlockId) (slot : ℕ) (rows : List SlotRow) → (block.file == file) ≡ false
-    → find (is_slot block slot) (seal_file file rows) ≡ find (is_slot block slot) rows
-unfolding seal_file is_of_file
-find-unsealed file block slot [] other = refl
-find-unsealed file block slot (row ∷ rows) other = one (is_slot block slot row) refl (find-unsealed file block slot rows other)
-  where
-    one : (b : Bool) → is_slot block slot row ≡ b → find (is_slot block slot) (seal_file file rows) ≡ find (is_slot block slot) rows
-        → find (is_slot block slot) (seal_file file (row ∷ rows)) ≡ find (is_slot block slot) (row ∷ rows)
-    one true is rest =
-        let same = is_slot-same block slot row is in
-        let of : (row.block.file == file) ≡ false = rw same.0 other in
-        rw (sealed-key file block slot row (row.block.file == file), is, of) refl
-    one false is rest = rw (sealed-key file block slot row (row.block.file == file), is) rest
+        let same : is_eq (nat_cmp file row.block.file) ≡ own = rw (← (is_slot-same block slot row is).0) of in
+        rw (sealed-key block slot row (is_eq (nat_cmp file row.block.file)), is, same) refl
+    one false is rest = rw (sealed-key block slot row (is_eq (nat_cmp file row.block.file)), is) rest
 
 sealed_record : (found : Option SlotRow) → record_in (option_map (change_state sealed_slot) found) ≡ sealed_slot (record_in found)
 unfolding change_state sealed_slot never_granted granted_copy
 sealed_record None = refl
 sealed_record (Some row) = refl
 
-pub slot_at-sealed : (file : ℕ) (block : BlockId) (slot : ℕ) (slots : List SlotRow) → block.file ≡ file
+unsealed_record : (found : Option SlotRow) → record_in (option_map (λ row. row) found) ≡ record_in found
+unsealed_record None = refl
+unsealed_record (Some row) = refl
+
+pub slot_at-sealed : (file : ℕ) (block : BlockId) (slot : ℕ) (slots : List SlotRow) → is_eq (nat_cmp file block.file) ≡ true
     → slot_at (seal_file file slots) block slot ≡ sealed_slot (slot_at slots block slot)
 unfolding slot_at
-slot_at-sealed file block slot slots own = ap record_in (find-sealed file block slot slots own) ∙ sealed_record (find (is_slot block slot) slots)
+slot_at-sealed file block slot slots own = ap record_in (find-sealed file block slot slots true own) ∙ sealed_record (find (is_slot block slot) slots)
 
-pub slot_at-unsealed : (file : ℕ) (block : BlockId) (slot : ℕ) (slots : List SlotRow) → (block.file == file) ≡ false
+pub slot_at-unsealed : (file : ℕ) (block : BlockId) (slot : ℕ) (slots : List SlotRow) → is_eq (nat_cmp file block.file) ≡ false
     → slot_at (seal_file file slots) block slot ≡ slot_at slots block slot
 unfolding slot_at
-slot_at-unsealed file block slot slots other = ap record_in (find-unsealed file block slot slots other)
+slot_at-unsealed file block slot slots other = ap record_in (find-sealed file block slot slots false other) ∙ unsealed_record (find (is_slot block slot) slots)
 
 -- ---- how many grants a block has
 
@@ -284,14 +254,3 @@ pub each_with_slot : (P : SlotRow → Type 0) (block : BlockId) (slot : ℕ) (st
     → P (record { block = block; slot = slot; state = state }) → Each P slots → Each P (with_slot block slot state slots)
 unfolding with_slot
 each_with_slot P block slot state slots new each = each_placed P slot_cmp (record { block = block; slot = slot; state = state }) slots new each
-
--- what is placed is found where no other row passes
-pub find-alone : {X : Type 0} (test : X → Bool) (order : X → X → Ordering) (new : X) (rows : List X) → test new ≡ true → Each (λ row. test row ≡ false) rows
-    → find test (place order new rows) ≡ Some new
-find-alone test order new [] own others = rw own refl
-find-alone test order new (row ∷ rows) own others = one (order new row) (find-alone test order new rows own others.1)
-  where
-    one : (o : Ordering) → find test (place order new rows) ≡ Some new → find test (place_before new row rows (place order new rows) o) ≡ Some new
-    one Less rest = rw own refl
-    one Equal rest = rw own refl
-    one Greater rest = rw others.0 rest

@@ -1,7 +1,8 @@
 -- The name tree of the metaserver, and the files of the history: a tree of files that a history gives follows the same rules.
-use Rattle.std.proofs.Common.{◌≡◌, ℕ, zero, suc, ◌≤◌, ◌==◌, Bool, true, false, cond, not, ◌&&◌, List, [], ◌∷◌, map, find, Option, Some, None, refl, sym, ap, subst, ◌∙◌, arith}
+use Rattle.std.proofs.Common.{◌≡◌, ℕ, zero, suc, ◌≤◌, ◌==◌, Bool, true, false, true≢false, cond, List, [], ◌∷◌, map, find, Option, Some, None, refl, sym, ap, subst, ◌∙◌, arith}
 use Rattle.std.proofs.lemmas.Bool.{eqb-true}
 use Rattle.std.specs.Option.{option_map, option_map_or, option_or}
+use Rattle.std.specs.Ordering.{nat_cmp, is_eq}
 use Rattle.std.specs.declared.cmp.Ordering.{Ordering}
 use Rattle.std.specs.declared.cmp.Ordering.TheVariants.{Less, Equal, Greater}
 use Rattle.qfs_base.specs.FileReplies.{bytes_of_content, bytes_at}
@@ -9,26 +10,32 @@ use Rattle.qfs_base.specs.Files.{Puts, FileEntry, kind_of_content, files_standin
 use Rattle.qfs_base.specs.NameTree.{PathNames, Standing, kind_at, stands_at, path_eq, row_cmp, added, file_refusal, look_refusal}
 use Rattle.qfs_base.specs.Table.{Each, place, change_row, change_where}
 use Rattle.qfs_base.specs.declared.image.TreeRow.{TreeRow}
+use Rattle.qfs_base.specs.declared.lists.NameKind.{NameKind}
 use Rattle.qfs_base.specs.declared.lists.NameKind.TheVariants as Is
 use Rattle.qfs_base.specs.declared.reply.TreeRefusal.{TreeRefusal}
 use Rattle.qfs_base.specs.declared.reply.TreeRefusal.TheVariants as Not
+use Rattle.qfs_model_meta.specs.Sound.{content_of, file_entry}
 use Rattle.qfs_model_meta.specs.TreeRows.{kind_of, standing, row_path, has_file, close_row, add_row, close_file}
-use Rattle.qfs_laws_first.specs.Standing.{content_if, entry_of}
+use Rattle.qfs_laws_first.proofs.Tests.{same-number, fails, own-key, same-key}
 
 -- ---- what stands in the tree
 
-kind-same : (file : ℕ) (bytes : List ℕ) (closed : Bool) → 1 ≤ file → kind_of_content (content_if file bytes closed) ≡ kind_of file closed
-unfolding kind_of_content content_if kind_of
-kind-same zero bytes closed above = absurd (omega arith)
-kind-same (suc n) bytes true above = refl
-kind-same (suc n) bytes false above = refl
+-- what stands at a file's row
+pub kinds : (file : ℕ) → 1 ≤ file → (kind_of file true ≡ Is.Closed) × (kind_of file false ≡ Is.Unclosed)
+unfolding kind_of
+kinds zero above = absurd (omega arith)
+kinds (suc n) above = (refl, refl)
 
-pub standing-files : (puts : Puts) (tree : List TreeRow) → Each (λ row. 1 ≤ row.file) tree → files_standing (map (entry_of puts) tree) ≡ standing tree
-unfolding files_standing standing entry_of
-standing-files puts [] above = refl
-standing-files puts (row ∷ rows) above =
-    let kind = kind-same row.file (puts row.actor row.command) row.closed above.0 in
-    rw (kind, standing-files puts rows above.1) refl
+kind-same : (puts : Puts) (row : TreeRow) (kind : NameKind) → kind_of_content (content_of puts row kind) ≡ kind
+unfolding kind_of_content content_of
+kind-same puts row Is.Directory = refl
+kind-same puts row Is.Unclosed = refl
+kind-same puts row Is.Closed = refl
+
+pub standing-files : (puts : Puts) (tree : List TreeRow) → files_standing (map (file_entry puts) tree) ≡ standing tree
+unfolding files_standing standing file_entry
+standing-files puts [] = refl
+standing-files puts (row ∷ rows) = rw (kind-same puts row (kind_of row.file row.closed), standing-files puts rows) refl
 
 -- ---- a file more
 
@@ -43,39 +50,42 @@ map-placed f order other same new (row ∷ rows) = one (order new row) refl (map
     one Equal is rest = rw (same new row, is) refl
     one Greater is rest = rw (same new row, is) (ap (λ more. f row ∷ more) rest)
 
-pub map-added : (puts : Puts) (row : TreeRow) (tree : List TreeRow) → map (entry_of puts) (add_row row tree) ≡ added entry_path (entry_of puts row) (map (entry_of puts) tree)
-unfolding add_row added entry_of
-map-added puts row tree = map-placed (entry_of puts) (row_cmp row_path) (row_cmp entry_path) (λ x y. refl) row tree
+pub map-added : (puts : Puts) (row : TreeRow) (tree : List TreeRow) → map (file_entry puts) (add_row row tree) ≡ added entry_path (file_entry puts row) (map (file_entry puts) tree)
+unfolding add_row added file_entry
+map-added puts row tree = map-placed (file_entry puts) (row_cmp row_path) (row_cmp entry_path) (λ x y. refl) row tree
 
 -- ---- a file is closed
 
 -- a row is of another file, or is unclosed and of this actor and command
 abbrev pub MayClose : ℕ → ℕ → ℕ → TreeRow → Type 0
-MayClose file actor command row = (row.file == file) ≡ true → (row.closed ≡ false) × (row.actor ≡ actor) × (row.command ≡ command)
+MayClose file actor command row = has_file file row ≡ true → (row.closed ≡ false) × (row.actor ≡ actor) × (row.command ≡ command)
 
-unclosed-same : (file : ℕ) (row : TreeRow) (puts : Puts) (b closed : Bool) → (row.file == file) ≡ b → row.closed ≡ closed → is_unclosed_entry file (entry_of puts row) ≡ (b && not closed)
-unfolding is_unclosed_entry entry_of content_if is_unclosed_content
-unclosed-same file row puts true true is shut = rw shut refl
-unclosed-same file row puts true false is shut = rw (shut, is) refl
-unclosed-same file row puts false true is shut = rw shut refl
-unclosed-same file row puts false false is shut = rw (shut, is) refl
+-- an entry of another file isn't its unclosed one
+apart-entry : (file : ℕ) (puts : Puts) (row : TreeRow) (kind : NameKind) → (row.file == file) ≡ false → is_unclosed_content file (content_of puts row kind) ≡ false
+unfolding is_unclosed_content content_of
+apart-entry file puts row Is.Directory differ = refl
+apart-entry file puts row Is.Unclosed differ = differ
+apart-entry file puts row Is.Closed differ = refl
 
-closed-one : (file actor command : ℕ) (puts : Puts) (row : TreeRow) (b : Bool) → (row.file == file) ≡ b → MayClose file actor command row
-    → entry_of puts (change_row close_row row (has_file file row)) ≡ change_row (close_entry file (puts actor command)) (entry_of puts row) (is_unclosed_entry file (entry_of puts row))
-unfolding has_file close_row close_entry entry_of content_if
-closed-one file actor command puts row true is may =
-    let row_is = may is in
-    let same : row.file ≡ file = eqb-true row.file file is in
-    rw (unclosed-same file row puts true false is row_is.0, is, row_is.1, row_is.2, same) refl
-closed-one file actor command puts row false is may =
-    rw (unclosed-same file row puts false row.closed is refl, is) refl
+module _ (file actor command : ℕ) (puts : Puts) (above : 1 ≤ file) where
+  closed-one : (row : TreeRow) (b : Bool) → is_eq (nat_cmp file row.file) ≡ b → MayClose file actor command row
+      → file_entry puts (change_row close_row row (has_file file row)) ≡ change_row (close_entry file (puts actor command)) (file_entry puts row) (is_unclosed_entry file (file_entry puts row))
+  unfolding has_file close_row close_entry is_unclosed_entry file_entry is_unclosed_content content_of
+  closed-one row true is may =
+      let row_is = may is in
+      let same : row.file ≡ file = sym (same-key file row.file is) in
+      let kind = kinds file above in
+      rw (is, row_is.0, row_is.1, row_is.2, same, kind.0, kind.1, same-number file) refl
+  closed-one row false is may =
+      let differ : (row.file == file) ≡ false =
+      fails _ (λ same. let own : is_eq (nat_cmp file row.file) ≡ true = rw (eqb-true row.file file same) (own-key file) in true≢false (sym own ∙ is)) in
+      rw (is, apart-entry file puts row (kind_of row.file row.closed) differ) refl
 
-pub map-closed : (file actor command : ℕ) (puts : Puts) (tree : List TreeRow) → Each (MayClose file actor command) tree
-    → map (entry_of puts) (close_file file tree) ≡ change_where (is_unclosed_entry file) (close_entry file (puts actor command)) (map (entry_of puts) tree)
-unfolding close_file
-map-closed file actor command puts [] may = refl
-map-closed file actor command puts (row ∷ rows) may =
-    rw (closed-one file actor command puts row (row.file == file) refl may.0, map-closed file actor command puts rows may.1) refl
+  pub map-closed : (tree : List TreeRow) → Each (MayClose file actor command) tree
+      → map (file_entry puts) (close_file file tree) ≡ change_where (is_unclosed_entry file) (close_entry file (puts actor command)) (map (file_entry puts) tree)
+  unfolding close_file
+  map-closed [] may = refl
+  map-closed (row ∷ rows) may = rw (closed-one row (is_eq (nat_cmp file row.file)) refl may.0, map-closed rows may.1) refl
 
 -- ---- a closed file is found
 
@@ -131,12 +141,12 @@ find-map f test (x ∷ xs) =
     [ true ↦ refl | false ↦ find-map f test xs ]
 
 -- the bytes at a path are those of the put that closed its file
-pub bytes-found : (puts : Puts) (tree : List TreeRow) (path : PathNames) (row : TreeRow) → find (stands_at row_path path) tree ≡ Some row → row.closed ≡ true
-    → bytes_at (map (entry_of puts) tree) path ≡ puts row.actor row.command
-unfolding bytes_at bytes_of_content entry_of content_if
-bytes-found puts tree path row found closed =
-    ap (λ o. option_map_or (λ (entry : FileEntry). bytes_of_content entry.content) o []) (find-map (entry_of puts) (stands_at entry_path path) tree ∙ ap (option_map (entry_of puts)) found)
-    ∙ ap (λ b. bytes_of_content (content_if row.file (puts row.actor row.command) b)) closed
+pub bytes-found : (puts : Puts) (tree : List TreeRow) (path : PathNames) (row : TreeRow) → 1 ≤ row.file → find (stands_at row_path path) tree ≡ Some row → row.closed ≡ true
+    → bytes_at (map (file_entry puts) tree) path ≡ puts row.actor row.command
+unfolding bytes_at bytes_of_content file_entry content_of
+bytes-found puts tree path row above found closed =
+    ap (λ o. option_map_or (λ (entry : FileEntry). bytes_of_content entry.content) o []) (find-map (file_entry puts) (stands_at entry_path path) tree ∙ ap (option_map (file_entry puts)) found)
+    ∙ ap (λ kind. bytes_of_content (content_of puts row kind)) (ap (kind_of row.file) closed ∙ (kinds row.file above).0)
 
 -- what is found passes the test and is one of the rows
 pub each_find : {X : Type 0} (P : X → Type 0) (test : X → Bool) (rows : List X) (row : X) → Each P rows → find test rows ≡ Some row → P row

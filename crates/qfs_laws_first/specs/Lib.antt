@@ -1,4 +1,3 @@
 pub mod Asks
 pub mod FirstPath
 pub mod Replies
-pub mod Standing

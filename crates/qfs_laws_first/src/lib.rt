@@ -29,9 +29,10 @@ pub fn puts_and_gets_delete_nothing()
 
 /// Where one actor puts files of 1 to 32 bytes and gets whole files, and all steps so far came out
 /// done, there is one legal file history, every reply agrees with it at a moment of its command,
-/// and is that a file was stored, was read, or was refused by the name tree. Every get that opened
-/// its file, released it and was served well has read the bytes of its path at its place, and no
-/// deletion names a current copy. The order may be one that goes on: it need not be whole.
+/// and is that a file was stored, was read, or was refused by the name tree. Every get that opened its
+/// file, has ended and was served well has read the bytes of its path at the place of its last
+/// opening, and no deletion names a current copy. The order may be one that goes on: it need not be
+/// whole.
 pub fn first_path_keeps_its_promises()
     ensures history { (script : Script) (commands : List Command) (order : List Step)
         → IsFirstPath script commands → AllDone order → OneFileHistory script order }

@@ -1,5 +1,6 @@
 -- What the machines ask that are built so far: the requests of puts and gets.
 use Rattle.std.specs.Prelude.{◌<◌, ◌≤◌, length, ⊤}
+use Rattle.qfs_base.specs.Sizes.{SLOTS, MOST_CHUNK_BYTES}
 use Rattle.qfs_base.specs.declared.request.ChunkRequest.{ChunkRequest}
 use Rattle.qfs_base.specs.declared.request.ChunkRequest.TheVariants as Serve
 use Rattle.qfs_base.specs.declared.request.MetaRequest.{MetaRequest}
@@ -17,9 +18,9 @@ IsAskedOfMeta (Ask.OpenFile path) = ⊤
 IsAskedOfMeta (Ask.Release lease) = ⊤
 IsAskedOfMeta request = ⊥
 
--- a chunk server is asked to store one of nine slots, of at most 67,108,864 bytes, and to read bytes of one
+-- a chunk server is asked to store a slot of a block, of no more bytes than a chunk can have, and to read bytes of one
 abbrev pub IsAskedOfServer : ChunkRequest → Type 0
-IsAskedOfServer (Serve.Put key life bytes) = (key.slot < 9) × (length bytes ≤ 67108864)
+IsAskedOfServer (Serve.Put key life bytes) = (key.slot < SLOTS) × (length bytes ≤ MOST_CHUNK_BYTES)
 IsAskedOfServer (Serve.Fetch key life from room) = ⊤
 IsAskedOfServer request = ⊥
 

@@ -1,3 +1,4 @@
 pub mod Askable
 pub mod Asking
+pub mod Endings
 pub mod Kept

@@ -1,10 +1,13 @@
 -- Copies that are condemned one after another, and what giving a file up changes.
-use Rattle.std.proofs.Common.{◌≡◌, ℕ, ◌+◌, ◌==◌, Bool, true, false, cond, not, List, [], ◌∷◌, ◌++◌, length, map, Option, Some, None, refl, sym, ap, ◌∙◌, append_assoc, length-append, arith}
+use Rattle.std.proofs.Common.{◌≡◌, ℕ, ◌+◌, Bool, true, false, cond, not, List, [], ◌∷◌, ◌++◌, length, map, Option, Some, None, refl, sym, ap, subst, ◌∙◌, append_assoc, length-append, arith}
 use Rattle.std.specs.Bool.{then_some}
 use Rattle.std.specs.List.{cons_option}
 use Rattle.std.specs.Option.{option_to_list}
 use Rattle.std.proofs.lemmas.List.{append-nil}
-use Rattle.std.specs.declared.cmp.Ordering.TheVariants.{Less}
+use Rattle.std.specs.Cmp.{ranked}
+use Rattle.std.specs.Ordering.{nat_cmp, is_eq, ordering_then}
+use Rattle.std.specs.declared.cmp.Ordering.{Ordering}
+use Rattle.std.specs.declared.cmp.Ordering.TheVariants.{Less, Equal, Greater}
 use Rattle.qfs_base.specs.declared.chunk.BlockId.{BlockId}
 use Rattle.qfs_base.specs.declared.chunk.Copy.{Copy}
 use Rattle.qfs_base.specs.declared.history.Entry.TheVariants as Wrote
@@ -16,7 +19,8 @@ use Rattle.qfs_base.specs.declared.image.SlotRow.{SlotRow}
 use Rattle.qfs_base.specs.declared.request.SlotId.{SlotId}
 use Rattle.qfs_base.specs.Table.{Each, IsRising, change_row, change_where}
 use Rattle.qfs_model_meta.specs.Apply.{apply, apply_all, write_entry, with_slots, change_record, give_up, fail_grant}
-use Rattle.qfs_model_meta.specs.Change.{Change, GiveUp, AbortFile, FailGrant}
+use Rattle.qfs_base.specs.declared.change.Change.{Change}
+use Rattle.qfs_base.specs.declared.change.Change.TheVariants.{GiveUp, AbortFile, FailGrant}
 use Rattle.qfs_model_meta.specs.Condemned.{condemn, condemned_row, list_if_live}
 use Rattle.qfs_model_meta.specs.PutRequests.{abort_changes}
 use Rattle.qfs_model_meta.specs.Servers.{is_live}
@@ -24,9 +28,8 @@ use Rattle.qfs_model_meta.specs.Slots.{is_slot, is_of_file, slot_at, slot_cmp, s
 use Rattle.qfs_model_meta.specs.TreeRows.{take_file}
 use Rattle.qfs_meta.specs.Condemning.{condemned_rows, condemning, live_granted, live_grants, aborting}
 use Rattle.qfs_meta.specs.declared.condemning.SlotCopy.{SlotCopy}
-use Rattle.qfs_meta.specs.Granting.{freed_row, freed_slots}
 use Rattle.qfs_meta.proofs.StepLaws.{last_change}
-use Rattle.qfs_meta.proofs.RisingLaws.{each_weaker, each_both, each_filtered, each_passes, each_found, filter_rises, same_file, same_key, slot_at-other}
+use Rattle.qfs_meta.proofs.RisingLaws.{each_weaker, each_both, each_filtered, each_passes, each_found, filter_rises, eq_is, same_key, slot_at-other}
 
 -- ---- one after another
 
@@ -84,37 +87,41 @@ key_kept : (id : SlotId) (change : SlotRecord → SlotRecord) (row : SlotRow) (b
 key_kept id change row true = same_key change row id.block id.slot
 key_kept id change row false = refl
 
-freed_at : (server : ℕ) (row : SlotRow) (b : Bool) →
-    change_row (change_state (failed_slot server)) (change_row (change_state ungranted_slot) row b) b
-    ≡ change_row (change_state (λ state. failed_slot server (ungranted_slot state))) row b
+changed_at : (first then : SlotRecord → SlotRecord) (row : SlotRow) (b : Bool) →
+    change_row (change_state then) (change_row (change_state first) row b) b ≡ change_row (change_state (λ state. then (first state))) row b
 unfolding change_state
-freed_at server row true = refl
-freed_at server row false = refl
+changed_at first then row true = refl
+changed_at first then row false = refl
 
--- the slot's grant is pending no more, and then its server counts as failed
-change_twice : (id : SlotId) (server : ℕ) (slots : List SlotRow) →
-    change_slot id.block id.slot (failed_slot server) (change_slot id.block id.slot ungranted_slot slots) ≡ freed_slots id server slots
+-- a slot's record changes, and then again
+change_twice : (id : SlotId) (first then : SlotRecord → SlotRecord) (slots : List SlotRow) →
+    change_slot id.block id.slot then (change_slot id.block id.slot first slots) ≡ change_slot id.block id.slot (λ state. then (first state)) slots
 unfolding change_slot
-change_twice id server [] = refl
-change_twice id server (row ∷ rows) =
+change_twice id first then [] = refl
+change_twice id first then (row ∷ rows) =
     let here = is_slot id.block id.slot row in
-    let once : SlotRow = change_row (change_state ungranted_slot) row here in
-    let head : change_row (change_state (failed_slot server)) once (is_slot id.block id.slot once) ≡ freed_row id server row =
-    ap (change_row (change_state (failed_slot server)) once) (key_kept id ungranted_slot row here) ∙ freed_at server row here in
-    λ i. head i ∷ change_twice id server rows i
+    let once : SlotRow = change_row (change_state first) row here in
+    let head : change_row (change_state then) once (is_slot id.block id.slot once) ≡ change_row (change_state (λ state. then (first state))) row here =
+    ap (change_row (change_state then) once) (key_kept id first row here) ∙ changed_at first then row here in
+    λ i. head i ∷ change_twice id first then rows i
 
-condemn-slots : (block : BlockId) (slot : ℕ) (copy : Copy) (m : MetaImage) → (condemn block slot copy m).slots ≡ m.slots
+pub condemn-slots : (block : BlockId) (slot : ℕ) (copy : Copy) (m : MetaImage) → (condemn block slot copy m).slots ≡ m.slots
 unfolding condemn list_if_live
 condemn-slots block slot copy m =
     elim (is_live m.servers copy) as (λ b. (list_if_live (condemned_row m.next_condemned block slot copy m.leases) m b).slots ≡ m.slots) [ true ↦ refl | false ↦ refl ]
 
+-- a slot's record once its server failed the put
+abbrev pub without_failed : ℕ → SlotRecord → SlotRecord
+without_failed server state = failed_slot server (ungranted_slot state)
+
 -- what is left once the server of a slot's pending grant failed the put
 pub failed-is : (id : SlotId) (grant : Grant) (m : MetaImage) → (slot_at m.slots id.block id.slot).grant ≡ Some grant →
-    apply m (FailGrant id.block id.slot) ≡ record (condemn id.block id.slot grant.copy m) { slots = freed_slots id grant.copy.server m.slots }
+    apply m (FailGrant id.block id.slot)
+    ≡ record (condemn id.block id.slot grant.copy m) { slots = change_slot id.block id.slot (without_failed grant.copy.server) m.slots }
 unfolding apply fail_grant give_up change_record with_slots
 failed-is id grant m pending =
     let slots = ap (λ slots. change_slot id.block id.slot (failed_slot grant.copy.server) (change_slot id.block id.slot ungranted_slot slots)) (condemn-slots id.block id.slot grant.copy m)
-    ∙ change_twice id grant.copy.server m.slots in
+    ∙ change_twice id ungranted_slot (failed_slot grant.copy.server) m.slots in
     ap (fail_grant id.block id.slot m) pending
     ∙ (λ i. record (condemn id.block id.slot grant.copy m) { slots = slots i })
 
@@ -123,29 +130,30 @@ unfolding condemn list_if_live
 condemn-servers block slot copy m =
     elim (is_live m.servers copy) as (λ b. (list_if_live (condemned_row m.next_condemned block slot copy m.leases) m b).servers ≡ m.servers) [ true ↦ refl | false ↦ refl ]
 
--- the servers and the slots once the server of a slot's pending grant failed the put
-pub failed-servers : (id : SlotId) (grant : Grant) (m : MetaImage) → (slot_at m.slots id.block id.slot).grant ≡ Some grant →
-    (apply_all (FailGrant id.block id.slot ∷ []) m).servers ≡ m.servers
-unfolding apply_all
-failed-servers id grant m pending = ap (λ (n : MetaImage). n.servers) (failed-is id grant m pending) ∙ condemn-servers id.block id.slot grant.copy m
-
-pub failed-slots : (id : SlotId) (grant : Grant) (m : MetaImage) → (slot_at m.slots id.block id.slot).grant ≡ Some grant →
-    (apply_all (FailGrant id.block id.slot ∷ []) m).slots ≡ freed_slots id grant.copy.server m.slots
-unfolding apply_all
-failed-slots id grant m pending = ap (λ (n : MetaImage). n.slots) (failed-is id grant m pending)
-
 -- ---- the grants of a file
+
+first_eq : (o p : Ordering) → is_eq (ordering_then o p) ≡ true → is_eq o ≡ true
+first_eq Less p e = e
+first_eq Equal p e = refl
+first_eq Greater p e = e
+
+-- a row under the key of another one is of its file
+same_file : (file : ℕ) (row other : SlotRow) → is_of_file file row ≡ true → is_slot row.block row.slot other ≡ true → is_of_file file other ≡ true
+unfolding is_of_file is_slot
+same_file file row other of is =
+    let same : row.block.file ≡ other.block.file = ranked row.block.file other.block.file Equal (sym (eq_is _ (first_eq _ _ (first_eq _ _ is)))) in
+    subst (λ n. is_eq (nat_cmp file n) ≡ true) same of
 
 forget_at : (file : ℕ) (row other : SlotRow) (b : Bool) (xs ys : List SlotRow) → is_of_file file row ≡ true → (is_slot row.block row.slot other ≡ b) →
     forget_file file xs ≡ forget_file file ys →
     forget_file file (change_row (change_state ungranted_slot) other b ∷ xs) ≡ forget_file file (other ∷ ys)
 unfolding forget_file is_of_file change_state
 forget_at file row other true xs ys of is rest =
-    let gone : (other.block.file == file) ≡ true = ap (λ number. number == file) (same_file other row is) ∙ of in
+    let gone : is_eq (nat_cmp file other.block.file) ≡ true = same_file file row other of is in
     ap (λ b. cond (not b) (change_row (change_state ungranted_slot) other true ∷ forget_file file xs) (forget_file file xs)) gone
     ∙ rest
     ∙ sym (ap (λ b. cond (not b) (other ∷ forget_file file ys) (forget_file file ys)) gone)
-forget_at file row other false xs ys of is rest = λ i. cond (not (other.block.file == file)) (other ∷ rest i) (rest i)
+forget_at file row other false xs ys of is rest = λ i. cond (not (is_eq (nat_cmp file other.block.file))) (other ∷ rest i) (rest i)
 
 -- a change of a slot of a file leaves the slots of the others
 forget_changed : (file : ℕ) (row : SlotRow) (slots : List SlotRow) → is_of_file file row ≡ true →

@@ -1,5 +1,5 @@
 -- What changes keep of the metaserver's state.
-use Rattle.std.proofs.Common.{◌≡◌, ℕ, ◌+◌, ◌<◌, ◌^◌, Bool, true, false, not, List, [], ◌∷◌, ◌++◌, length, refl, sym, subst, arith, length-append}
+use Rattle.std.proofs.Common.{◌≡◌, ℕ, ◌+◌, ◌<◌, ◌^◌, Bool, true, false, not, List, [], ◌∷◌, ◌++◌, length, Option, Some, None, refl, sym, subst, arith, length-append}
 use Rattle.std.proofs.lemmas.List.Elements.{All-cons, All-head, All-tail, All-map, All-filter, All-weaker}
 use Rattle.std.specs.List.{All}
 use Rattle.std.specs.Option.{IfSome}
@@ -15,14 +15,14 @@ use Rattle.qfs_base.specs.declared.chunk.Copy.{Copy}
 use Rattle.qfs_base.specs.declared.request.SlotId.{SlotId}
 use Rattle.qfs_base.specs.Table.{IsRising, place, place_before, change_row}
 use Rattle.qfs_model_meta.specs.Apply.{apply, add_file, write_entry, with_slots, finish_lease}
-use Rattle.qfs_model_meta.specs.Change.{AddFile, CloseFile, GiveLease, EndLease}
-use Rattle.qfs_model_meta.specs.Condemned.{condemn, condemned_row, list_if_live}
+use Rattle.qfs_base.specs.declared.change.Change.TheVariants.{AddFile, CloseFile, GiveLease, EndLease}
+use Rattle.qfs_model_meta.specs.Condemned.{condemn, condemn_any, condemned_row, list_if_live}
 use Rattle.qfs_model_meta.specs.Servers.{is_live}
-use Rattle.qfs_model_meta.specs.Slots.{change_state, sealed_slot, is_slot, is_of_file, seal_file, forget_file, with_slot, granted_slot, failed_slot, ungranted_slot, slot_cmp, slot_at, never_granted}
+use Rattle.qfs_model_meta.specs.Slots.{change_state, sealed_slot, is_slot, is_of_file, seal_file, forget_file, with_slot, granted_slot, granted_copy, slot_cmp, slot_at, never_granted}
 use Rattle.qfs_model_meta.specs.Step.{next_turn}
 use Rattle.qfs_model_meta.specs.TreeRows.{row_path, has_file, add_row, file_row, take_file, close_file, close_row}
 use Rattle.qfs_meta.specs.Condemning.{aborting}
-use Rattle.qfs_meta.specs.Granting.{granted_in, freed_row, freed_slots}
+use Rattle.qfs_meta.specs.Granting.{granting}
 use Rattle.qfs_meta.specs.Kept.{IsKept, IsGrantedOnServer, AreGrantedOnServers, IsServerNumber}
 use Rattle.qfs_meta.proofs.RisingLaws.{slot_at-here, slot_at-behind, place_rises, map_rises, filter_rises, slot_cmp_total, tree_order_total, state_keeps_order}
 use Rattle.qfs_meta.proofs.TableLaws.{change_where-map}
@@ -98,9 +98,9 @@ kept-close m file actor command kept place = record {
   grants = sealed_rows file m.slots kept.grants;
 }
 
-pub kept-lease : (m : MetaImage) (actor file : ℕ) → IsKept m → m.next_lease + 1 < 2 ^ 64 → IsKept (next_turn (apply m (GiveLease actor file)))
+pub kept-lease : (m : MetaImage) (actor file until : ℕ) → IsKept m → m.next_lease + 1 < 2 ^ 64 → IsKept (next_turn (apply m (GiveLease actor file until)))
 unfolding next_turn apply
-kept-lease m actor file kept lease = record {
+kept-lease m actor file until kept lease = record {
   files = kept.files;
   leases = lease;
   condemned = kept.condemned;
@@ -124,34 +124,6 @@ kept-release m lease kept = record {
   grants = kept.grants;
 }
 
-pub kept-grant : (m : MetaImage) (id : SlotId) (server actor : ℕ) → IsKept m → IsServerNumber server →
-    IsKept (next_turn (record m { slots = granted_in m.servers m.slots id server actor }))
-unfolding next_turn with_slot granted_slot
-kept-grant m id server actor kept number = record {
-  files = kept.files;
-  leases = kept.leases;
-  condemned = kept.condemned;
-  places = kept.places;
-  servers = kept.servers;
-  tree = kept.tree;
-  slots = place_rises slot_cmp_total _ m.slots kept.slots;
-  grants = placed_rows IsGrantedOnServer slot_cmp _ m.slots number kept.grants;
-}
-
-freed_row_granted : (id : SlotId) (server : ℕ) (row : SlotRow) → IsGrantedOnServer row → IsGrantedOnServer (freed_row id server row)
-unfolding change_state failed_slot ungranted_slot
-freed_row_granted id server row granted =
-    elim (is_slot id.block id.slot row) as (λ b. IsGrantedOnServer (change_row (change_state (λ state. failed_slot server (ungranted_slot state))) row b))
-    [ true ↦ tt | false ↦ granted ]
-
-pub freed_granted : (id : SlotId) (server : ℕ) (rows : List SlotRow) → AreGrantedOnServers rows → AreGrantedOnServers (freed_slots id server rows)
-freed_granted id server rows granted =
-    All-map IsGrantedOnServer (freed_row id server) rows (All-weaker IsGrantedOnServer _ (freed_row_granted id server) rows granted)
-
-pub freed_rises : (id : SlotId) (server : ℕ) (rows : List SlotRow) → IsRising slot_cmp rows → IsRising slot_cmp (freed_slots id server rows)
-freed_rises id server rows rising =
-    map_rises slot_cmp (freed_row id server) rows (state_keeps_order (λ state. failed_slot server (ungranted_slot state)) (is_slot id.block id.slot)) rising
-
 -- what condemning a copy leaves alone
 pub condemn-kept : (id : SlotId) (copy : Copy) (m : MetaImage) → IsKept m → (condemn id.block id.slot copy m).next_condemned < 2 ^ 64 → IsKept (condemn id.block id.slot copy m)
 unfolding condemn list_if_live
@@ -170,20 +142,27 @@ condemn-kept id copy m kept fits =
       | false ↦ λ fits. kept
     ] fits
 
-pub kept-again : (m n : MetaImage) (id : SlotId) (failed server actor : ℕ) → IsKept m → IsServerNumber server →
-    IsKept n →
-    IsKept (next_turn (record n { slots = granted_in m.servers (freed_slots id failed m.slots) id server actor }))
+kept_any : (id : SlotId) (copy : Option Copy) (m : MetaImage) → IsKept m → (condemn_any id.block id.slot m copy).next_condemned < 2 ^ 64 →
+    IsKept (condemn_any id.block id.slot m copy)
+unfolding condemn_any
+kept_any id None m kept fits = kept
+kept_any id (Some copy) m kept fits = condemn-kept id copy m kept fits
+
+pub kept-grant : (m : MetaImage) (id : SlotId) (server actor : ℕ) → IsKept m → IsServerNumber server → (granting id server actor m).next_condemned < 2 ^ 64 →
+    IsKept (next_turn (granting id server actor m))
 unfolding next_turn with_slot granted_slot
-kept-again m n id failed server actor kept number rest = record {
-  files = rest.files;
-  leases = rest.leases;
-  condemned = rest.condemned;
-  places = rest.places;
-  servers = rest.servers;
-  tree = rest.tree;
-  slots = place_rises slot_cmp_total _ (freed_slots id failed m.slots) (freed_rises id failed m.slots kept.slots);
-  grants = placed_rows IsGrantedOnServer slot_cmp _ (freed_slots id failed m.slots) number (freed_granted id failed m.slots kept.grants);
-}
+kept-grant m id server actor kept number fits =
+    let rest = kept_any id (granted_copy (slot_at m.slots id.block id.slot).grant) m kept fits in
+    record {
+      files = rest.files;
+      leases = rest.leases;
+      condemned = rest.condemned;
+      places = rest.places;
+      servers = rest.servers;
+      tree = rest.tree;
+      slots = place_rises slot_cmp_total _ m.slots kept.slots;
+      grants = placed_rows IsGrantedOnServer slot_cmp _ m.slots number kept.grants;
+    }
 
 pub kept-abort : (m : MetaImage) (file : ℕ) → IsKept m → length m.history + 1 < 2 ^ 32 → (aborting file m).next_condemned < 2 ^ 64 → IsKept (next_turn (aborting file m))
 unfolding next_turn forget_file take_file

@@ -1,4 +1,5 @@
 pub mod CensusLaws
+pub mod FreedLaws
 pub mod GetLaws
 pub mod GrantLaws
 pub mod KeptLaws

@@ -12,7 +12,7 @@ use Rattle.qfs_base.specs.declared.image.ServerView.{ServerView}
 use Rattle.qfs_base.specs.declared.image.SlotRow.{SlotRow}
 use Rattle.qfs_base.specs.NameTree.{PathNames}
 use Rattle.qfs_model_meta.specs.Apply.{apply, add_file, write_entry, finish_lease}
-use Rattle.qfs_model_meta.specs.Change.{AddFile, GiveLease, EndLease}
+use Rattle.qfs_base.specs.declared.change.Change.TheVariants.{AddFile, GiveLease, EndLease}
 use Rattle.qfs_model_meta.specs.Leases.{give_lease}
 use Rattle.qfs_model_meta.specs.Placing.{load_of, census}
 use Rattle.qfs_model_meta.specs.Step.{next_turn}
@@ -178,9 +178,9 @@ pub file_added : (m new : MetaImage) (path : PathNames) (actor command len : ℕ
 unfolding next_turn apply add_file write_entry
 file_added m new path actor command len is = ap (λ (n : MetaImage). loads_of n.servers n.slots) is
 
-pub lease_given : (m new : MetaImage) (actor file : ℕ) → new ≡ next_turn (apply m (GiveLease actor file)) → loads_of new.servers new.slots ≡ loads_of m.servers m.slots
+pub lease_given : (m new : MetaImage) (actor file until : ℕ) → new ≡ next_turn (apply m (GiveLease actor file until)) → loads_of new.servers new.slots ≡ loads_of m.servers m.slots
 unfolding next_turn apply give_lease
-lease_given m new actor file is = ap (λ (n : MetaImage). loads_of n.servers n.slots) is
+lease_given m new actor file until is = ap (λ (n : MetaImage). loads_of n.servers n.slots) is
 
 pub lease_ended : (m new : MetaImage) (lease : ℕ) → new ≡ next_turn (apply m (EndLease lease)) → loads_of new.servers new.slots ≡ loads_of m.servers m.slots
 unfolding next_turn apply finish_lease

@@ -9,7 +9,7 @@ use Rattle.qfs_base.specs.NameTree.{PathNames, add_refusal}
 use Rattle.qfs_base.specs.Outcome.{meta_outcome}
 use Rattle.qfs_base.specs.Shape.{Shape}
 use Rattle.qfs_model_meta.specs.Apply.{apply, apply_all}
-use Rattle.qfs_model_meta.specs.Change.{AddFile, CloseFile}
+use Rattle.qfs_base.specs.declared.change.Change.TheVariants.{AddFile, CloseFile}
 use Rattle.qfs_model_meta.specs.Lists.{block_count}
 use Rattle.qfs_model_meta.specs.PutRequests.{decide_create, decide_close, decide_abort, abort_unclosed, abort_changes, close_complete, incomplete, first_ungranted}
 use Rattle.qfs_model_meta.specs.Step.{next_turn}

@@ -1,22 +1,22 @@
 -- The table of slots keeps its order, and each of its rows is found under its key.
-use Rattle.std.proofs.Common.{◌≡◌, ℕ, Bool, true, false, cond, ◌&&◌, List, [], ◌∷◌, map, filter, find, Some, true≢false, refl, sym, ap, ◌∙◌, arith}
+use Rattle.std.proofs.Common.{◌≡◌, ℕ, Bool, true, false, cond, List, [], ◌∷◌, map, filter, find, Some, true≢false, refl, sym, ap, ◌∙◌}
 use Rattle.std.specs.Option.{option_map}
-use Rattle.std.specs.Prelude.{◌==◌, unwrap_or}
+use Rattle.std.specs.Prelude.{unwrap_or}
 use Rattle.std.specs.Cmp.{IsTotalOrder, nat_cmp_total, on_total, then_total, tied_itself}
 use Rattle.std.specs.Cmp.Lexicographic.{nat_list_cmp_total, lists_total}
-use Rattle.std.specs.Ordering.{nat_cmp, ordering_then, ordering_reverse}
+use Rattle.std.specs.Ordering.{nat_cmp, is_eq, ordering_then, ordering_reverse}
 use Rattle.std.specs.declared.cmp.Ordering.{Ordering}
 use Rattle.std.specs.declared.cmp.Ordering.TheVariants.{Less, Equal, Greater}
-use Rattle.std.proofs.lemmas.Bool.Decides.{nat_tests}
 use Rattle.qfs_base.specs.declared.chunk.BlockId.{BlockId}
 use Rattle.qfs_base.specs.declared.image.SlotRecord.{SlotRecord}
 use Rattle.qfs_base.specs.declared.image.SlotRow.{SlotRow}
+use Rattle.qfs_base.specs.declared.request.SlotId.{SlotId}
 use Rattle.qfs_base.specs.Key.{block_cmp}
 use Rattle.qfs_base.specs.KeyLaws.{block_cmp_total}
 use Rattle.qfs_base.specs.NameTree.{row_cmp}
 use Rattle.qfs_base.specs.Table.{Each, IsRising, place, place_before, change_row, change_where}
 use Rattle.qfs_model_meta.specs.TreeRows.{row_path}
-use Rattle.qfs_model_meta.specs.Slots.{same_block, is_slot, slot_cmp, slot_at, change_state, change_slot, never_granted}
+use Rattle.qfs_model_meta.specs.Slots.{is_slot, slot_cmp, slot_at, change_state, change_slot, never_granted}
 
 -- ---- facts of each row
 
@@ -57,10 +57,10 @@ each_mapped P f (row ∷ rows) each = (each.0, each_mapped P f rows each.1)
 -- ---- rising tables
 
 module _ {X : Type 0} {order : X → X → Ordering} (total : IsTotalOrder order) where
-  above_too : (new row : X) (rows : List X) → order new row ≡ Less → Each (λ later. order row later ≡ Less) rows → Each (λ later. order new later ≡ Less) rows
+  pub above_too : (new row : X) (rows : List X) → order new row ≡ Less → Each (λ later. order row later ≡ Less) rows → Each (λ later. order new later ≡ Less) rows
   above_too new row rows below each = each_weaker _ _ (λ later above. total.trans new row later below above) rows each
 
-  in_its_place : (new row : X) (rows : List X) → order new row ≡ Equal → Each (λ later. order row later ≡ Less) rows → Each (λ later. order new later ≡ Less) rows
+  pub in_its_place : (new row : X) (rows : List X) → order new row ≡ Equal → Each (λ later. order row later ≡ Less) rows → Each (λ later. order new later ≡ Less) rows
   in_its_place new row rows same each = each_weaker _ _ (λ later above. total.congr new row later same ∙ above) rows each
 
   pub place_rises : (new : X) (rows : List X) → IsRising order rows → IsRising order (place order new rows)
@@ -115,48 +115,60 @@ state_keeps_order change test x y = λ i.
     ordering_then (block_cmp (state_block change x (test x) i) (state_block change y (test y) i))
     (nat_cmp (state_slot change x (test x) i) (state_slot change y (test y) i))
 
-both_true : (a b : Bool) → (a && b) ≡ true → (a ≡ true) × (b ≡ true)
-both_true true b e = (refl, e)
-both_true false b e = absurd (true≢false (sym e))
-
-equal_numbers : (m n : ℕ) → (m == n) ≡ true → m ≡ n
-equal_numbers m n e = grind (arith, nat_tests)
-
-same_number : (n : ℕ) → (n == n) ≡ true
-same_number n = grind (arith, nat_tests)
+pub eq_is : (o : Ordering) → is_eq o ≡ true → o ≡ Equal
+eq_is Less e = absurd (true≢false (sym e))
+eq_is Equal e = refl
+eq_is Greater e = absurd (true≢false (sym e))
 
 -- a row that stands under the key of another one ties with it
-pub slot_ties : (row other : SlotRow) → is_slot other.block other.slot row ≡ true → slot_cmp row other ≡ Equal
-unfolding slot_cmp is_slot same_block
-slot_ties row other is =
-    let parts = both_true _ _ is in
-    let block = both_true _ _ parts.0 in
-    let file : row.block.file ≡ other.block.file = equal_numbers _ _ block.0 in
-    let index : row.block.index ≡ other.block.index = equal_numbers _ _ block.1 in
-    let slot : row.slot ≡ other.slot = equal_numbers _ _ parts.1 in
-    (λ i. ordering_then (ordering_then (nat_cmp (file i) other.block.file) (nat_cmp (index i) other.block.index)) (nat_cmp (slot i) other.slot))
-    ∙ tied_itself slot_cmp_total other
-
--- it is of the same file
-pub same_file : (row other : SlotRow) → is_slot other.block other.slot row ≡ true → row.block.file ≡ other.block.file
-unfolding is_slot same_block
-same_file row other is = equal_numbers _ _ (both_true _ _ (both_true _ _ is).0).0
+pub slot_ties : (row other : SlotRow) → is_slot other.block other.slot row ≡ true → slot_cmp other row ≡ Equal
+unfolding slot_cmp is_slot
+slot_ties row other is = eq_is _ is
 
 -- a row stands under its own key
 pub own_slot : (row : SlotRow) → is_slot row.block row.slot row ≡ true
-unfolding is_slot same_block
-own_slot row = λ i. (same_number row.block.file i && same_number row.block.index i) && same_number row.slot i
+unfolding slot_cmp is_slot
+own_slot row = ap is_eq (tied_itself slot_cmp_total row)
 
 less_equal : Less ≡ Equal → ⊥
 less_equal e = cc
+
+tied_back : (a b : SlotRow) → slot_cmp b a ≡ Equal → slot_cmp a b ≡ Equal
+tied_back a b same = slot_cmp_total.antisymm a b ∙ ap ordering_reverse same
 
 -- no row stands under the keys of two rows, one of which is above the other
 pub apart : (row later any : SlotRow) → slot_cmp row later ≡ Less → is_slot row.block row.slot any ≡ true → is_slot later.block later.slot any ≡ false
 apart row later any above is =
     elim (is_slot later.block later.slot any) as (λ b. is_slot later.block later.slot any ≡ b → b ≡ false) [
-      | true ↦ λ too. absurd (less_equal (sym above ∙ sym (slot_cmp_total.congr any row later (slot_ties any row is)) ∙ slot_ties any later too))
+      | true ↦ λ too. absurd (less_equal (sym above ∙ slot_cmp_total.congr row any later (slot_ties any row is) ∙ tied_back any later (slot_ties any later too)))
       | false ↦ λ other. refl
     ] refl
+
+-- a row under a key ties with each row of the key
+key_row : SlotId → SlotRow
+key_row id = record { block = id.block; slot = id.slot; state = never_granted }
+
+at_key : (id : SlotId) (row : SlotRow) → is_slot id.block id.slot row ≡ true → slot_cmp (key_row id) row ≡ Equal
+unfolding slot_cmp is_slot key_row
+at_key id row is = eq_is _ is
+
+-- of two rows, one of which is above the other, one alone stands under a key
+pub alone : (id : SlotId) (row later : SlotRow) → slot_cmp row later ≡ Less → is_slot id.block id.slot later ≡ true → is_slot id.block id.slot row ≡ false
+alone id row later above is =
+    elim (is_slot id.block id.slot row) as (λ b. is_slot id.block id.slot row ≡ b → b ≡ false) [
+      | true ↦ λ too. absurd (less_equal (sym above ∙ sym (slot_cmp_total.congr (key_row id) row later (at_key id row too)) ∙ at_key id later is))
+      | false ↦ λ other. refl
+    ] refl
+
+-- so none of the rows above it does
+pub none_above : (id : SlotId) (row : SlotRow) (rows : List SlotRow) → is_slot id.block id.slot row ≡ true → Each (λ later. slot_cmp row later ≡ Less) rows →
+    Each (λ later. is_slot id.block id.slot later ≡ false) rows
+none_above id row rows here above =
+    each_weaker _ _ (λ later below.
+    elim (is_slot id.block id.slot later) as (λ b. is_slot id.block id.slot later ≡ b → b ≡ false) [
+      | true ↦ λ is. absurd (true≢false (sym here ∙ alone id row later below is))
+      | false ↦ λ other. refl
+    ] refl) rows above
 
 -- what is known of the first row's slot, and of another
 pub slot_at-here : (row : SlotRow) (rows : List SlotRow) (block : BlockId) (slot : ℕ) → is_slot block slot row ≡ true → slot_at (row ∷ rows) block slot ≡ row.state
@@ -180,6 +192,17 @@ each_found (row ∷ rows) rising = (
   slot_at-here row rows row.block row.slot (own_slot row),
   each_weaker _ _ (λ later both. slot_at-behind row rows later.block later.slot (apart row later row both.0 (own_slot row)) ∙ both.1) rows
       (each_both (λ later. slot_cmp row later ≡ Less) (λ later. slot_at rows later.block later.slot ≡ later.state) rows rising.0 (each_found rows rising.1)),
+)
+
+-- each row of a slot is what is known of it
+pub each_known : (id : SlotId) (rows : List SlotRow) → IsRising slot_cmp rows →
+    Each (λ row. is_slot id.block id.slot row ≡ true → slot_at rows id.block id.slot ≡ row.state) rows
+each_known id [] rising = tt
+each_known id (row ∷ rows) rising = (
+  λ here. slot_at-here row rows id.block id.slot here,
+  each_weaker _ _ (λ later both is. slot_at-behind row rows id.block id.slot (alone id row later both.0 is) ∙ both.1 is) rows
+      (each_both (λ later. slot_cmp row later ≡ Less) (λ later. is_slot id.block id.slot later ≡ true → slot_at rows id.block id.slot ≡ later.state) rows rising.0
+      (each_known id rows rising.1)),
 )
 
 -- a change of a record leaves the row's key

@@ -1,5 +1,5 @@
 -- The rows of a table that have a key stand next to each other, and a binary search finds them.
-use Rattle.std.proofs.Common.{◌≡◌, ℕ, zero, suc, ◌+◌, ◌-◌, ◌≤◌, ◌<◌, nat_lt, Bool, true, false, cond, not, ◌&&◌, List, [], ◌∷◌, ◌++◌, length, take, drop, map, filter, find, slice_range, slice_get, slice_set, slice_index_or, insert, Some, true≢false, refl, sym, ap, ◌∙◌, subst, add-one, append_assoc, length-append, arith}
+use Rattle.std.proofs.Common.{◌≡◌, ℕ, zero, suc, ◌+◌, ◌-◌, ◌≤◌, ◌<◌, nat_lt, Bool, true, false, cond, not, List, [], ◌∷◌, ◌++◌, length, take, drop, map, filter, find, slice_range, slice_get, slice_set, slice_index_or, insert, Some, true≢false, refl, sym, ap, ◌∙◌, subst, add-one, append_assoc, length-append, arith}
 use Rattle.std.proofs.lemmas.Bool.Decides.{nat_tests}
 use Rattle.std.proofs.lemmas.List.{append-nil, take-append-drop, drop-drop, set_split, length-take-le, take_at, drop_at}
 use Rattle.std.proofs.lemmas.List.Edits.{get_or-between, length-between}
@@ -38,11 +38,6 @@ pub first_le : (o p : Ordering) → is_le (ordering_then o p) ≡ true → is_le
 first_le Less p e = refl
 first_le Equal p e = refl
 first_le Greater p e = e
-
-pub both_eq : (o p : Ordering) → is_eq (ordering_then o p) ≡ (is_eq o && is_eq p)
-both_eq Less p = refl
-both_eq Equal p = refl
-both_eq Greater p = refl
 
 -- ---- a table in the order of its keys
 
@@ -201,6 +196,16 @@ filter_part {X = X} test rows run part =
     ∙ (λ i. filter_all test inside part.inside i ++ filter_none test behind part.behind i)
     ∙ append-nil inside
 
+no_items : {X : Type 0} (xs : List X) → length xs ≡ 0 → xs ≡ []
+no_items [] none = refl
+no_items (x ∷ xs) none = absurd (omega arith)
+
+-- none passes where the run is empty
+pub filter_empty : {X : Type 0} (test : X → Bool) (rows : List X) (run : Run) → IsPart test rows run → run.end ≤ length rows → run.end ≤ run.start → filter test rows ≡ []
+filter_empty test rows run part within empty =
+    filter_part test rows run part
+    ∙ no_items (slice_range rows run.start run.end) (omega (arith, length-between rows run.start run.end within, empty))
+
 -- those that don't are the others
 pub without_part : {X : Type 0} (test : X → Bool) (rows : List X) (run : Run) → IsPart test rows run → without test rows ≡ take run.start rows ++ drop run.end rows
 without_part {X = X} test rows run part =
@@ -214,7 +219,7 @@ without_part {X = X} test rows run part =
     ∙ (λ i. before ++ (filter_none other inside (each_weaker _ _ (λ row e. ap not e) inside part.inside) i
     ++ filter_all other behind (each_weaker _ _ (λ row e. ap not e) behind part.behind) i))
 
-change_none : {X : Type 0} (test : X → Bool) (change : X → X) (rows : List X) → Each (λ row. test row ≡ false) rows → change_where test change rows ≡ rows
+pub change_none : {X : Type 0} (test : X → Bool) (change : X → X) (rows : List X) → Each (λ row. test row ≡ false) rows → change_where test change rows ≡ rows
 change_none test change [] each = refl
 change_none test change (row ∷ rows) each = λ i. change_row change row (each.0 i) ∷ change_none test change rows each.1 i
 

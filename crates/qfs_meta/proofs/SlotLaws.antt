@@ -1,21 +1,21 @@
 -- The keys of the table of slots: a slot, its block and its file.
-use Rattle.std.proofs.Common.{◌≡◌, ℕ, ◌<◌, ◌==◌, true, List, ◌&&◌, filter, slice_get, Option, refl, sym, ap, ◌∙◌, arith}
+use Rattle.std.proofs.Common.{◌≡◌, ℕ, ◌<◌, ◌==◌, true, List, [], filter, slice_get, Option, None, refl, sym, ap, ◌∙◌, arith}
 use Rattle.std.proofs.lemmas.Bool.Decides.{nat_tests}
 use Rattle.std.specs.Prelude.{unwrap_or}
 use Rattle.std.specs.Option.{option_map}
 use Rattle.std.specs.Cmp.{nat_cmp_total, ranked}
-use Rattle.std.specs.Ordering.{nat_cmp, is_eq, is_le, ordering_then}
+use Rattle.std.specs.Ordering.{nat_cmp, is_eq, is_le}
 use Rattle.std.specs.declared.cmp.Ordering.TheVariants.{Less, Equal, Greater}
 use Rattle.qfs_base.specs.declared.chunk.BlockId.{BlockId}
 use Rattle.qfs_base.specs.declared.image.SlotRow.{SlotRow}
 use Rattle.qfs_base.specs.declared.request.SlotId.{SlotId}
 use Rattle.qfs_base.specs.Key.{block_cmp}
 use Rattle.qfs_base.specs.KeyLaws.{block_cmp_total}
-use Rattle.qfs_base.specs.Table.{IsRising}
-use Rattle.qfs_model_meta.specs.Slots.{same_block, is_slot, is_of_block, is_of_file, slots_of, slot_cmp, slot_at, never_granted}
-use Rattle.qfs_meta.specs.Runs.{IsInOrder, has_key}
+use Rattle.qfs_base.specs.Table.{has_key, IsRising}
+use Rattle.qfs_model_meta.specs.Slots.{slot_order, block_order, file_order, is_slot, slot_cmp, slot_at, never_granted}
+use Rattle.qfs_meta.specs.Runs.{IsInOrder}
 use Rattle.qfs_meta.proofs.RisingLaws.{slot_cmp_total}
-use Rattle.qfs_meta.proofs.RunLaws.{by_row, in_order, key_falls, first_le, both_eq, find_first}
+use Rattle.qfs_meta.proofs.RunLaws.{by_row, in_order, key_falls, first_le, find_first}
 
 -- ---- the table is in order by each key
 
@@ -23,21 +23,21 @@ block_le : (a b : SlotRow) → slot_cmp a b ≡ Less → is_le (block_cmp a.bloc
 unfolding slot_cmp
 block_le a b below = first_le (block_cmp a.block b.block) (nat_cmp a.slot b.slot) (ap is_le below)
 
-pub by_slot : (id : SlotId) (rows : List SlotRow) → IsRising slot_cmp rows →
-    IsInOrder (λ (row : SlotRow). ordering_then (block_cmp id.block row.block) (nat_cmp id.slot row.slot)) rows
+pub by_slot : (id : SlotId) (rows : List SlotRow) → IsRising slot_cmp rows → IsInOrder (slot_order id) rows
 unfolding slot_cmp
 by_slot id = by_row slot_cmp_total (record { block = id.block; slot = id.slot; state = never_granted })
 
-pub by_block : (block : BlockId) (rows : List SlotRow) → IsRising slot_cmp rows → IsInOrder (λ (row : SlotRow). block_cmp block row.block) rows
+pub by_block : (block : BlockId) (rows : List SlotRow) → IsRising slot_cmp rows → IsInOrder (block_order block) rows
 by_block block = in_order slot_cmp _ (λ a b below. key_falls block_cmp_total block a.block b.block (block_le a b below))
 
-pub by_file : (file : ℕ) (rows : List SlotRow) → IsRising slot_cmp rows → IsInOrder (λ (row : SlotRow). nat_cmp file row.block.file) rows
+pub by_file : (file : ℕ) (rows : List SlotRow) → IsRising slot_cmp rows → IsInOrder (file_order file) rows
 by_file file =
     in_order slot_cmp _ (λ a b below. key_falls nat_cmp_total file a.block.file b.block.file (first_le _ (nat_cmp a.block.index b.block.index) (block_le a b below)))
 
 -- ---- its rows with each key
 
-numbers_agree : (m n : ℕ) → (m == n) ≡ is_eq (nat_cmp n m)
+-- two numbers are the same where they compare as equal
+pub numbers_agree : (m n : ℕ) → (m == n) ≡ is_eq (nat_cmp n m)
 numbers_agree m n =
     elim (nat_cmp n m) as (λ o. nat_cmp n m ≡ o → (m == n) ≡ is_eq o) [
       | Less ↦ λ e. let below : n < m = ranked n m Less (sym e) in grind (arith, nat_tests)
@@ -45,39 +45,20 @@ numbers_agree m n =
       | Greater ↦ λ e. let above : m < n = ranked n m Greater (sym e) in grind (arith, nat_tests)
     ] refl
 
-blocks_agree : (a b : BlockId) → same_block a b ≡ is_eq (block_cmp b a)
-unfolding same_block
-blocks_agree a b =
-    (λ i. numbers_agree a.file b.file i && numbers_agree a.index b.index i) ∙ sym (both_eq (nat_cmp b.file a.file) (nat_cmp b.index a.index))
-
-pub of_file : (file : ℕ) (row : SlotRow) → is_of_file file row ≡ is_eq (nat_cmp file row.block.file)
-unfolding is_of_file
-of_file file row = numbers_agree row.block.file file
-
-of_block : (block : BlockId) (row : SlotRow) → is_of_block block row ≡ is_eq (block_cmp block row.block)
-unfolding is_of_block
-of_block block row = blocks_agree row.block block
-
-of_slot : (id : SlotId) (row : SlotRow) → is_slot id.block id.slot row ≡ is_eq (ordering_then (block_cmp id.block row.block) (nat_cmp id.slot row.slot))
-unfolding is_slot
-of_slot id row =
-    (λ i. blocks_agree row.block id.block i && numbers_agree row.slot id.slot i) ∙ sym (both_eq (block_cmp id.block row.block) (nat_cmp id.slot row.slot))
-
-pub rows_of_file : (file : ℕ) (rows : List SlotRow) → filter (has_key (λ (row : SlotRow). nat_cmp file row.block.file)) rows ≡ slots_of file rows
-unfolding slots_of
-rows_of_file file rows = λ i. filter (λ row. sym (of_file file row) i) rows
-
-pub rows_of_block : (block : BlockId) (rows : List SlotRow) → filter (has_key (λ (row : SlotRow). block_cmp block row.block)) rows ≡ filter (is_of_block block) rows
-rows_of_block block rows = λ i. filter (λ row. sym (of_block block row) i) rows
+-- a slot without a row has no grant pending
+pub unknown_slot : (row : SlotRow) (rows : List SlotRow) → filter (has_key (slot_cmp row)) rows ≡ [] → (slot_at rows row.block row.slot).grant ≡ None
+unfolding slot_at is_slot slot_cmp never_granted
+unknown_slot row rows none =
+    ap (λ first. (unwrap_or (option_map (λ (r : SlotRow). r.state) first) never_granted).grant)
+    (find_first (is_slot row.block row.slot) rows ∙ ap (λ some. slice_get some 0) none)
 
 -- what is known of a slot is in the first of the rows with its key
 pub known_of_slot : (id : SlotId) (rows found : List SlotRow) (first : Option SlotRow) →
-    found ≡ filter (has_key (λ (row : SlotRow). ordering_then (block_cmp id.block row.block) (nat_cmp id.slot row.slot))) rows → first ≡ slice_get found 0 →
+    found ≡ filter (has_key (slot_order id)) rows → first ≡ slice_get found 0 →
     unwrap_or (option_map (λ (row : SlotRow). row.state) first) never_granted ≡ slot_at rows id.block id.slot
-unfolding slot_at
+unfolding slot_at is_slot
 known_of_slot id rows found first found_is first_is =
     ap (λ row. unwrap_or (option_map (λ (r : SlotRow). r.state) row) never_granted)
     (first_is
     ∙ ap (λ some. slice_get some 0) found_is
-    ∙ (λ i. slice_get (filter (λ row. sym (of_slot id row) i) rows) 0)
     ∙ sym (find_first (is_slot id.block id.slot) rows))

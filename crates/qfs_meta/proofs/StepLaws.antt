@@ -1,6 +1,8 @@
 -- How a step ends, by what was decided.
-use Rattle.std.proofs.Common.{◌≡◌, ℕ, ◌<◌, ◌≤◌, nat_lt, Result, Ok, Err, ◌&&◌, Bool, true, false, List, [], ◌∷◌, ◌++◌, fold, Option, Some, None, refl, sym, ap, ◌∙◌, arith}
+use Rattle.std.proofs.Common.{◌≡◌, ℕ, ◌<◌, ◌≤◌, nat_lt, nat_le, Result, Ok, Err, ◌&&◌, Bool, true, false, List, [], ◌∷◌, ◌++◌, fold, Option, Some, None, refl, sym, ap, ◌∙◌, arith}
+use Rattle.std.proofs.lemmas.Bool.Decides.{nat_tests}
 use Rattle.std.proofs.lemmas.Grind.{common_steps}
+use Rattle.std.specs.Prelude.{OnOk}
 use Rattle.std.specs.Result.{IfOk}
 use Rattle.qfs_base.specs.declared.history.Outcome.TheVariants as Ended
 use Rattle.qfs_base.specs.declared.image.MetaImage.{MetaImage}
@@ -9,7 +11,7 @@ use Rattle.qfs_base.specs.declared.reply.MetaReply.TheVariants as Told
 use Rattle.qfs_base.specs.declared.reply.TreeRefusal.{TreeRefusal}
 use Rattle.qfs_base.specs.Outcome.{meta_outcome}
 use Rattle.qfs_model_meta.specs.Apply.{apply, apply_all}
-use Rattle.qfs_model_meta.specs.Change.{Change}
+use Rattle.qfs_base.specs.declared.change.Change.{Change}
 use Rattle.qfs_model_meta.specs.Counters.{counters_fit}
 use Rattle.qfs_model_meta.specs.Decision.{Decision, Tells, Makes, refuse, unless, need, refuse_file}
 use Rattle.qfs_model_meta.specs.Step.{Served, end_step, carry_out, take_step, stays, next_turn}
@@ -103,8 +105,18 @@ pub IfOk-weaker : {T E : Type 0} (P Q : T → Type 0) → ((x : T) → P x → Q
 IfOk-weaker P Q weaker (Ok x) holds = weaker x holds
 IfOk-weaker P Q weaker (Err e) holds = tt
 
+pub OnOk-weaker : {T E : Type 0} (P Q : Type 0) → (P → Q) → (result : Result T E) → OnOk result P → OnOk result Q
+OnOk-weaker P Q weaker (Ok x) holds = weaker holds
+OnOk-weaker P Q weaker (Err e) holds = tt
+
 pub not_below : (n bound : ℕ) → bound ≤ n → nat_lt n bound ≡ false
 not_below n bound h = grind (arith, common_steps)
+
+pub is_at_most : (n bound : ℕ) → n ≤ bound → nat_le n bound ≡ true
+is_at_most n bound h = grind (arith, nat_tests)
+
+pub not_at_most : (n bound : ℕ) → bound < n → nat_le n bound ≡ false
+not_at_most n bound h = grind (arith, nat_tests)
 
 -- the last of some changes
 fold-append : {A B : Type 0} (f : B → A → B) (start : B) (xs ys : List A) → fold f start (xs ++ ys) ≡ fold f (fold f start xs) ys

@@ -1,7 +1,10 @@
 -- The choice of a server, one server after another.
-use Rattle.std.specs.Prelude.{ℕ, ◌+◌, nat_lt, cond, not, ◌&&◌, List, [], ◌∷◌, Option, Some, None}
+use Rattle.std.specs.Prelude.{ℕ, ◌+◌, ◌-◌, nat_lt, count_by, cond, not, ◌&&◌, List, [], ◌∷◌, Option, Some, None}
+use Rattle.std.specs.Option.{option_to_list}
+use Rattle.qfs_base.specs.declared.chunk.Copy.{Copy}
 use Rattle.qfs_base.specs.declared.image.ServerView.{ServerView}
 use Rattle.qfs_base.specs.NumberSet.{has}
+use Rattle.qfs_model_meta.specs.Slots.{is_on}
 use Rattle.qfs_meta.specs.Kept.{IsServerNumber}
 use Rattle.qfs_meta.specs.declared.census.Candidate.{Candidate}
 
@@ -21,9 +24,13 @@ after_server barred best number server load =
     (Some (lighter_of best (record { server = number; load = load })))
     best
 
--- the best candidate once the servers from a number on, with these loads, were looked at too
-abbrev pub best_from : List ℕ → Option Candidate → ℕ → List ServerView → List ℕ → Option Candidate
-best_from barred best number [] loads = best
-best_from barred best number (server ∷ servers) [] = best
-best_from barred best number (server ∷ servers) (load ∷ loads) =
-    best_from barred (after_server barred best number server load) (number + 1) servers loads
+-- a server's load without a copy, if it stands there
+abbrev pub load_without : Option Copy → ℕ → ServerView → ℕ → ℕ
+load_without copy number server load = load - count_by (is_on number server.life) (option_to_list copy)
+
+-- the best candidate once the servers from a number on, with these loads but for a copy, were looked at too
+abbrev pub best_from : Option Copy → List ℕ → Option Candidate → ℕ → List ServerView → List ℕ → Option Candidate
+best_from copy barred best number [] loads = best
+best_from copy barred best number (server ∷ servers) [] = best
+best_from copy barred best number (server ∷ servers) (load ∷ loads) =
+    best_from copy barred (after_server barred best number server (load_without copy number server load)) (number + 1) servers loads

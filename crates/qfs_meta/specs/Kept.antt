@@ -2,23 +2,24 @@
 use Rattle.std.specs.Prelude.{ℕ, ◌<◌, ◌≤◌, ◌^◌, List, length, All, IfSome}
 use Rattle.qfs_base.specs.declared.image.Grant.{Grant}
 use Rattle.qfs_base.specs.declared.image.MetaImage.{MetaImage}
+use Rattle.qfs_base.specs.declared.image.SlotRecord.{SlotRecord}
 use Rattle.qfs_base.specs.declared.image.SlotRow.{SlotRow}
 use Rattle.qfs_base.specs.NameTree.{row_cmp}
+use Rattle.qfs_base.specs.Sizes.{MOST_SERVERS}
 use Rattle.qfs_base.specs.Table.{IsRising}
 use Rattle.qfs_model_meta.specs.Slots.{slot_cmp}
 use Rattle.qfs_model_meta.specs.TreeRows.{row_path}
 
--- the most chunk servers
-abbrev pub most_servers : ℕ
-most_servers = 64
-
 -- a number that a server may have
 abbrev pub IsServerNumber : ℕ → Type 0
-IsServerNumber number = (1 ≤ number) × (number ≤ most_servers)
+IsServerNumber number = (1 ≤ number) × (number ≤ MOST_SERVERS)
 
 -- a slot's grant, if one is pending, is on a server
+abbrev pub IsGrantPossible : SlotRecord → Type 0
+IsGrantPossible state = IfSome state.grant (λ (grant : Grant). IsServerNumber grant.copy.server)
+
 abbrev pub IsGrantedOnServer : SlotRow → Type 0
-IsGrantedOnServer row = IfSome row.state.grant (λ (grant : Grant). IsServerNumber grant.copy.server)
+IsGrantedOnServer row = IsGrantPossible row.state
 
 abbrev pub AreGrantedOnServers : List SlotRow → Type 0
 AreGrantedOnServers slots = All IsGrantedOnServer slots
@@ -31,7 +32,7 @@ pub record IsKept (m : MetaImage) : Type 0 where
   pub leases : m.next_lease < 2 ^ 64
   pub condemned : m.next_condemned < 2 ^ 64
   pub places : length m.history < 2 ^ 32
-  pub servers : length m.servers ≤ most_servers
+  pub servers : length m.servers ≤ MOST_SERVERS
   pub tree : IsRising (row_cmp row_path) m.tree
   pub slots : IsRising slot_cmp m.slots
   pub grants : AreGrantedOnServers m.slots

@@ -1,15 +1,11 @@
 -- The rows of a table that have a key.
-use Rattle.std.specs.Prelude.{◌≡◌, ◌≤◌, Bool, List, length, take, drop, slice_range}
+use Rattle.std.specs.Prelude.{◌≡◌, ◌≤◌, List, length, take, drop, slice_range}
 use Rattle.std.specs.declared.cmp.Ordering.{Ordering}
 use Rattle.std.specs.declared.cmp.Ordering.TheVariants.{Less, Equal, Greater}
 use Rattle.std.specs.List.Sorted.{IsPartitionedBy}
-use Rattle.std.specs.Ordering.{is_eq, is_ge, is_gt}
+use Rattle.std.specs.Ordering.{is_ge, is_gt}
 use Rattle.qfs_base.specs.Table.{Each}
 use Rattle.qfs_meta.specs.declared.rows.Run.{Run}
-
--- whether a row has a key, by how the key compares with the rows'
-abbrev pub has_key : {X : Type 0} → (X → Ordering) → X → Bool
-has_key order row = is_eq (order row)
 
 -- the rows below a key come first, then those with it, and then those above it
 abbrev pub IsInOrder : {X : Type 0} → (X → Ordering) → List X → Type 0

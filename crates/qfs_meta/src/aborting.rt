@@ -4,7 +4,8 @@ ghost use Rattle.qfs_base.specs.Table.{IsRising};
 ghost use Rattle.qfs_model_meta.specs.Slots.{slot_cmp, forget_file};
 ghost use Rattle.qfs_model_meta.specs.TreeRows.{take_file};
 ghost use Rattle.qfs_meta.specs.Condemning.{aborting};
-ghost use Rattle.qfs_meta.specs.Kept.{IsKept, most_servers};
+ghost use Rattle.qfs_meta.specs.Kept.{IsKept};
+ghost use Rattle.qfs_base.specs.Sizes.{MOST_SERVERS};
 ghost use Rattle.qfs_meta.specs.Loads.{loads_of};
 
 use crate::condemning::{condemn_copies, live_grants};
@@ -24,7 +25,7 @@ fn forget_file(
     loads: &mut [usize],
     file: FileId,
 )
-    requires servers { length servers.now ≤ most_servers }
+    requires servers { length servers.now ≤ MOST_SERVERS }
     requires order { IsRising slot_cmp slots.old }
     requires loads { loads.old ≡ loads_of servers.now slots.old }
     ensures slots { slots.new ≡ forget_file file slots.old }

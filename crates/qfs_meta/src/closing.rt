@@ -2,13 +2,13 @@
 ghost use Rattle.std.specs.Prelude.{◌≡◌, ◌≤◌, length, map, filter, find, OnOk, OnErr};
 ghost use Rattle.qfs_base.specs.Table.{IsRising};
 ghost use Rattle.qfs_model_meta.specs.Apply.{apply};
-ghost use Rattle.qfs_model_meta.specs.Change.{CloseFile};
-ghost use Rattle.qfs_model_meta.specs.PutRequests.{lacks_grant, slot_id, block_slots, file_slots, first_ungranted};
-ghost use Rattle.qfs_model_meta.specs.Slots.{slot_cmp, slots_of, seal_file};
-ghost use Rattle.qfs_meta.specs.Kept.{IsKept, most_servers};
+ghost use Rattle.qfs_base.specs.declared.change.Change.TheVariants.{CloseFile};
+ghost use Rattle.qfs_model_meta.specs.PutRequests.{lacks_grant, block_slots, file_slots, first_ungranted};
+ghost use Rattle.qfs_model_meta.specs.Slots.{slot_cmp, slot_id, slots_of, seal_file};
+ghost use Rattle.qfs_meta.specs.Kept.{IsKept};
+ghost use Rattle.qfs_base.specs.Sizes.{MOST_SERVERS};
 ghost use Rattle.qfs_meta.specs.Loads.{loads_of};
 
-use crate::listed::SLOTS;
 use crate::loads::{count, uncount};
 use crate::rows::{RowChange, change_rows, change_run, run_of};
 use crate::slots::{granted_copy, slot_at, slots_of};
@@ -18,6 +18,7 @@ use qfs_base::image::{MetaImage, RecordList, ServerView, SlotRow, TreeRow};
 use qfs_base::numbers::{ActorId, FileId};
 use qfs_base::request::SlotId;
 use qfs_base::server_set::ServerSet;
+use qfs_base::sizes::SLOTS;
 use std::alloc::{AllocError, Global};
 
 /// Whether a slot has no pending grant.
@@ -30,7 +31,7 @@ fn lacks_grant(slots: &[SlotRow], id: SlotId) -> bool
 }
 
 /// A row's slot.
-#[tactic(auto, unfolding(qfs_model_meta::specs::PutRequests::slot_id))]
+#[tactic(auto, unfolding(qfs_model_meta::specs::Slots::slot_id))]
 fn slot_id(row: &SlotRow) -> SlotId
     ensures { result ≡ slot_id row.now }
 {
@@ -118,7 +119,7 @@ fn seal_file(
     loads: &mut [usize],
     file: FileId,
 )
-    requires servers { length servers.now ≤ most_servers }
+    requires servers { length servers.now ≤ MOST_SERVERS }
     requires order { IsRising slot_cmp slots.old }
     requires loads { loads.old ≡ loads_of servers.now slots.old }
     ensures slots { slots.new ≡ seal_file file slots.old }

@@ -3,7 +3,7 @@ ghost use Rattle.std.specs.Prelude.{◌≡◌, ◌+◌, ◌<◌, ◌^◌, IfOk, 
 ghost use Rattle.qfs_base.specs.NameTree.{row_cmp};
 ghost use Rattle.qfs_base.specs.Table.{IsRising};
 ghost use Rattle.qfs_model_meta.specs.Apply.{apply};
-ghost use Rattle.qfs_model_meta.specs.Change.{AddFile};
+ghost use Rattle.qfs_base.specs.declared.change.Change.TheVariants.{AddFile};
 ghost use Rattle.qfs_model_meta.specs.TreeRows.{row_path};
 
 use crate::rows::{Key, place};

@@ -1,8 +1,9 @@
 //! The requests of a get: a file is opened under a lease, which ends at its release.
 ghost use Rattle.std.specs.Prelude.{◌≡◌, ◌+◌, ◌<◌, ◌^◌, IfOk, OnOk, OnErr};
 ghost use Rattle.qfs_model_meta.specs.Apply.{apply};
-ghost use Rattle.qfs_model_meta.specs.Change.{GiveLease, EndLease};
+ghost use Rattle.qfs_base.specs.declared.change.Change.TheVariants.{GiveLease, EndLease};
 ghost use Rattle.qfs_model_meta.specs.GetRequests.{decide_open, decide_release};
+ghost use Rattle.qfs_model_meta.specs.Leases.{lease_end};
 ghost use Rattle.qfs_meta.specs.Kept.{IsKept};
 ghost use Rattle.qfs_meta.specs.Loads.{loads_of};
 ghost use Rattle.qfs_meta.specs.Serving.{Serves};
@@ -19,29 +20,52 @@ use qfs_base::reply::{MetaReply, Opened};
 use qfs_stripe::{Layout, LayoutCalls};
 use std::alloc::{AllocError, Global};
 
+/// The reading until which a lease lives that is given now: for good where the term is 0.
+#[tactic(auto, unfolding(qfs_model_meta::specs::Leases::lease_end, qfs_model_meta::specs::Servers::reading_after))]
+fn lease_end(term: u32, clock: u64) -> u64
+    ensures { result ≡ lease_end term clock }
+{
+    if term == 0 {
+        0
+    } else {
+        clock.saturating_add(term as u64)
+    }
+}
+
 /// Gives an actor the next lease, on a file. On want of memory the state stays.
 #[tactic(auto, unfolding(qfs_model_meta::specs::Apply::apply, qfs_model_meta::specs::Leases::give_lease))]
-fn give_lease(image: &mut MetaImage, actor: ActorId, file: FileId) -> Result<(), AllocError>
+fn give_lease(
+    image: &mut MetaImage,
+    actor: ActorId,
+    file: FileId,
+    until: u64,
+) -> Result<(), AllocError>
     requires { image.old.next_lease + 1 < 2 ^ 64 }
-    ensures ok { OnOk result (image.new ≡ apply image.old (GiveLease actor file)) }
+    ensures ok { OnOk result (image.new ≡ apply image.old (GiveLease actor file until)) }
     ensures err { OnErr result (image.new ≡ image.old) }
 {
     let lease = image.next_lease;
-    image.leases.push(Lease { lease, actor, file })?;
+    image.leases.push(Lease {
+        lease,
+        actor,
+        file,
+        until,
+    })?;
     image.next_lease = lease + 1;
     Ok(())
 }
 
-/// Opens a closed file under a lease. On want of memory the state stays.
+/// Opens a closed file under a lease for a term, in ticks. On want of memory the state stays.
 pub fn open(
     alloc: Global,
     layout: &Layout,
+    term: u32,
     image: &mut MetaImage,
     actor: ActorId,
     path: &Path,
 ) -> Result<MetaReply, AllocError>
     requires { IsKept image.old }
-    ensures ok { IfOk result (λ reply. Serves image.old (decide_open layout.now actor path.now image.old) image.new reply) }
+    ensures ok { IfOk result (λ reply. Serves image.old (decide_open layout.now term actor path.now image.old) image.new reply) }
     ensures err { OnErr result (image.new ≡ image.old) }
     ensures kept { IsKept image.new }
     ensures loads { loads_of image.new.servers image.new.slots ≡ loads_of image.old.servers image.old.slots }
@@ -63,7 +87,8 @@ pub fn open(
     if lease == LeaseId::MAX {
         return Ok(MetaReply::NoMemory);
     }
-    give_lease(image, actor, file)?;
+    let until = lease_end(term, image.clock);
+    give_lease(image, actor, file, until)?;
     raise_turn(image);
     Ok(MetaReply::Opened(Opened {
         lease,

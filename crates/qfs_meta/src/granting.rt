@@ -1,37 +1,35 @@
 //! The grant of a slot for a put.
-ghost use Rattle.std.specs.Prelude.{◌≡◌, ◌<◌, ◌≤◌, [], ◌∷◌, Some, length, map, IfOk, IfSome, OnOk, OnErr};
-ghost use Rattle.qfs_base.specs.Table.{IsRising};
-ghost use Rattle.qfs_model_meta.specs.Apply.{apply};
-ghost use Rattle.qfs_model_meta.specs.Change.{FailGrant};
-ghost use Rattle.qfs_model_meta.specs.Lists.{block_count};
-ghost use Rattle.qfs_model_meta.specs.PutRequests.{grant_after, decide_grant};
-ghost use Rattle.qfs_model_meta.specs.Slots.{slot_at, granted_slot, slot_cmp};
-ghost use Rattle.qfs_meta.specs.Granting.{chosen_in, told_in, granted_in, freed_row, freed_slots};
-ghost use Rattle.qfs_meta.specs.Kept.{IsKept, IsServerNumber, AreGrantedOnServers, most_servers};
+ghost use Rattle.std.specs.Prelude.{◌≡◌, ◌<◌, ◌≤◌, ◌^◌, length, IfOk, IfSome, OnOk, OnErr};
+ghost use Rattle.qfs_model_meta.specs.Lists.{block_count, new_grant, no_sources};
+ghost use Rattle.qfs_model_meta.specs.PutRequests.{decide_grant};
+ghost use Rattle.qfs_model_meta.specs.Slots.{slot_at};
+ghost use Rattle.qfs_meta.specs.Granting.{granted_anew, granting, grant_chosen};
+ghost use Rattle.qfs_meta.specs.Kept.{IsKept, IsGrantPossible, IsServerNumber};
 ghost use Rattle.qfs_meta.specs.Loads.{loads_of};
 ghost use Rattle.qfs_meta.specs.Serving.{Serves};
 
-use crate::census::{barred_for_put, choose};
+use crate::census::{chosen_for_put, failed_with};
 use crate::condemning::condemn;
 use crate::listed::no_sources;
-use crate::loads::{loads_of, place_slot};
+use crate::loads::{place_slot, replace_slot};
 use crate::names::unclosed_file;
 use crate::servers::server_at;
 use crate::slots::slot_at;
 use crate::turn::raise_turn;
 use qfs_base::chunk::Copy;
-use qfs_base::image::{Grant, MetaImage, RecordList, ServerView, SlotRecord, SlotRow};
-use qfs_base::listing::Listing;
+use qfs_base::image::{Grant, MetaImage, SlotRecord, SlotRow};
 use qfs_base::numbers::{ActorId, Life, ServerId};
 use qfs_base::reply::{Granted, MetaReply};
 use qfs_base::request::SlotId;
 use qfs_stripe::{Layout, LayoutCalls};
 use std::alloc::{AllocError, Global};
 
-/// A slot with a new grant for a put: its version is the next one.
-#[tactic(auto, unfolding(qfs_model_meta::specs::Slots::granted_slot))]
+/// A slot with a new grant for a put: its version is the next one. The server of a pending grant
+/// counts as failed.
+#[tactic(auto, unfolding(qfs_model_meta::specs::Slots::granted_slot, qfs_model_meta::specs::Slots::failed_slot, qfs_model_meta::specs::Slots::ungranted_slot, qfs_model_meta::specs::PutRequests::failed_with))]
 fn granted(state: &SlotRecord, server: ServerId, life: Life, actor: ActorId) -> SlotRecord
-    ensures { result ≡ granted_slot server life actor 0 state.now }
+    requires { IsGrantPossible state.now }
+    ensures { result ≡ granted_anew server life actor state.now }
 {
     let version = state.next;
     let copy = Copy {
@@ -47,87 +45,74 @@ fn granted(state: &SlotRecord, server: ServerId, life: Life, actor: ActorId) -> 
             actor,
             lease: 0,
         }),
-        failed: state.failed,
+        failed: failed_with(state),
     }
 }
 
-/// The server that a put of a slot is granted, if one is open for it.
-fn chosen_in(
-    servers: &[ServerView],
-    slots: &[SlotRow],
-    loads: &[usize],
-    id: SlotId,
-) -> Option<ServerId>
-    requires servers { length servers.now ≤ most_servers }
-    requires order { IsRising slot_cmp slots.now }
-    requires grants { AreGrantedOnServers slots.now }
-    requires loads { loads.now ≡ loads_of servers.now slots.now }
-    ensures chosen { result ≡ chosen_in servers.now slots.now id }
-    ensures number { IfSome result IsServerNumber }
-{
-    let record = slot_at(slots, id.block, id.slot);
-    let barred = barred_for_put(servers, slots, id.block, record.failed);
-    choose(servers, loads, barred)
-}
-
-/// Gives a slot a grant on a server, in the life that is known of it. On want of memory the slots
-/// stay.
-fn grant_in(
-    servers: &[ServerView],
-    slots: &mut RecordList,
+/// Gives a slot a grant on a server, in the life that is known of it, and condemns a pending one.
+/// On want of memory, and where a condemned number would be the last one of 64 bits, the state
+/// stays.
+fn give_grant(
+    alloc: Global,
+    image: &mut MetaImage,
     loads: &mut [usize],
     id: SlotId,
+    state: &SlotRecord,
     server: ServerId,
     actor: ActorId,
 ) -> Result<(), AllocError>
-    requires servers { length servers.now ≤ most_servers }
-    requires order { IsRising slot_cmp slots.old }
-    requires loads { loads.old ≡ loads_of servers.now slots.old }
-    ensures ok { OnOk result (slots.new ≡ granted_in servers.now slots.old id server actor) }
-    ensures err { OnErr result (slots.new ≡ slots.old) }
-    ensures loads { loads.new ≡ loads_of servers.now slots.new }
+    requires kept { IsKept image.old }
+    requires loads { loads.old ≡ loads_of image.old.servers image.old.slots }
+    requires state { state.now ≡ slot_at image.old.slots id.block id.slot }
+    ensures ok { OnOk result (image.new ≡ granting id server actor image.old) }
+    ensures fits { OnOk result (image.new.next_condemned < 2 ^ 64) }
+    ensures err { OnErr result (image.new ≡ image.old) }
+    ensures loads { loads.new ≡ loads_of image.new.servers image.new.slots }
 {
-    let life = server_at(servers, server).life;
-    let before = slot_at(slots.as_slice(), id.block, id.slot);
-    let state = granted(&before, server, life, actor);
+    let life = server_at(image.servers.as_slice(), server).life;
     let row = SlotRow {
         block: id.block,
         slot: id.slot,
-        state,
+        state: granted(state, server, life, actor),
     };
-    place_slot(servers, slots, loads, row)
+    let Some(pending) = state.grant else {
+        return place_slot(image.servers.as_slice(), &mut image.slots, loads, row);
+    };
+    condemn(alloc, image, id, pending.copy)?;
+    replace_slot(image.servers.as_slice(), &mut image.slots, loads, row);
+    Ok(())
 }
 
 /// What a put of a file of `len` bytes is told of the grant that it is about to get.
-fn told_in(
+#[tactic(auto, unfolding(qfs_model_meta::specs::Lists::new_grant))]
+fn told_of(
     alloc: Global,
     layout: &Layout,
     len: u32,
     id: SlotId,
-    servers: &[ServerView],
-    slots: &[SlotRow],
+    image: &MetaImage,
     server: ServerId,
 ) -> Result<Granted, AllocError>
-    requires order { IsRising slot_cmp slots.now }
+    requires kept { IsKept image.now }
     requires index { id.block.index < block_count layout.now len }
-    ensures { IfOk result (λ told. told ≡ told_in layout.now len id servers.now slots.now server) }
+    ensures { IfOk result (λ told. told ≡ new_grant layout.now len id.block id.slot server 0 no_sources image.now) }
 {
-    let record = slot_at(slots, id.block, id.slot);
+    let record = slot_at(image.slots.as_slice(), id.block, id.slot);
     Ok(Granted {
         block: id.block,
         slot: id.slot,
         version: record.next,
         server,
-        life: server_at(servers, server).life,
+        life: server_at(image.servers.as_slice(), server).life,
         lease: 0,
         sources: no_sources(alloc)?,
         rows: layout.rows_of(len, id.block.index),
     })
 }
 
-/// Grants a slot without a pending grant on the server that is chosen, if there is one. On want
-/// of memory the state stays.
-fn grant_first(
+/// Grants a slot on the server that is chosen, if there is one. A pending grant is condemned, and
+/// its server counts as failed. On want of memory the state stays.
+fn grant_open(
     alloc: Global,
     layout: &Layout,
     image: &mut MetaImage,
@@ -139,100 +124,22 @@ fn grant_first(
     requires kept { IsKept image.old }
     requires loads { loads.old ≡ loads_of image.old.servers image.old.slots }
     requires index { id.block.index < block_count layout.now len }
-    ensures ok { IfOk result (λ reply. Serves image.old (grant_after layout.now actor len id.block id.slot [] image.old) image.new reply) }
+    ensures ok { IfOk result (λ reply. Serves image.old (grant_chosen layout.now actor len id image.old) image.new reply) }
     ensures err { OnErr result (image.new ≡ image.old) }
     ensures kept { IsKept image.new }
     ensures loads { loads.new ≡ loads_of image.new.servers image.new.slots }
 {
     let servers = image.servers.as_slice();
     let slots = image.slots.as_slice();
-    let Some(server) = chosen_in(servers, slots, loads, id) else {
+    let state = slot_at(slots, id.block, id.slot);
+    let Some(server) = chosen_for_put(servers, slots, loads, id, &state) else {
         return Ok(MetaReply::NoServer {
             block: id.block,
             slot: id.slot,
         });
     };
-    let told = told_in(alloc, layout, len, id, servers, slots, server)?;
-    grant_in(
-        image.servers.as_slice(),
-        &mut image.slots,
-        loads,
-        id,
-        server,
-        actor,
-    )?;
-    raise_turn(image);
-    Ok(MetaReply::Granted(told))
-}
-
-/// A slot's row once the server of its grant failed the put.
-#[tactic(auto, unfolding(qfs_model_meta::specs::Slots::is_slot, qfs_model_meta::specs::Slots::same_block, qfs_model_meta::specs::Slots::change_state, qfs_model_meta::specs::Slots::failed_slot, qfs_model_meta::specs::Slots::ungranted_slot))]
-fn freed_row(row: &SlotRow, id: SlotId, server: ServerId) -> SlotRow
-    requires { IsServerNumber server }
-    ensures { result ≡ freed_row id server row.now }
-{
-    let mut freed = *row;
-    if row.block == id.block && row.slot == id.slot {
-        freed.state.grant = None;
-        freed.state.failed.insert(server);
-    }
-    freed
-}
-
-/// The slots once the server of the grant of one of them failed the put.
-fn freed_slots(
-    alloc: Global,
-    slots: &[SlotRow],
-    id: SlotId,
-    server: ServerId,
-) -> Result<Vec<SlotRow>, AllocError>
-    requires { IsServerNumber server }
-    ensures { IfOk result (λ freed. freed.items ≡ freed_slots id server slots.now) }
-{
-    slots
-        .iter()
-        .map(|row| freed_row(row, id, server))
-        .collect(alloc)
-}
-
-/// Grants a slot anew, whose pending grant's server failed the put, on the server that is chosen
-/// then, if there is one. The pending grant is condemned, and its server counts as failed. On want
-/// of memory, and where no server is chosen, the state stays.
-fn grant_again(
-    alloc: Global,
-    layout: &Layout,
-    image: &mut MetaImage,
-    loads: &mut [usize],
-    actor: ActorId,
-    len: u32,
-    id: SlotId,
-    pending: Grant,
-) -> Result<MetaReply, AllocError>
-    requires kept { IsKept image.old }
-    requires loads { loads.old ≡ loads_of image.old.servers image.old.slots }
-    requires index { id.block.index < block_count layout.now len }
-    requires pending { (slot_at image.old.slots id.block id.slot).grant ≡ Some pending }
-    ensures ok { IfOk result (λ reply. Serves image.old (grant_after layout.now actor len id.block id.slot (FailGrant id.block id.slot ∷ []) (apply image.old (FailGrant id.block id.slot))) image.new reply) }
-    ensures err { OnErr result (image.new ≡ image.old) }
-    ensures kept { IsKept image.new }
-    ensures loads { loads.new ≡ loads_of image.new.servers image.new.slots }
-{
-    let servers = image.servers.as_slice();
-    let rows = freed_slots(alloc, image.slots.as_slice(), id, pending.copy.server)?;
-    let mut freed = Listing::from_vec(rows);
-    let mut counted = loads_of(alloc, servers, freed.as_slice())?;
-    let freed_loads = counted.as_mut_slice();
-    let Some(server) = chosen_in(servers, freed.as_slice(), freed_loads, id) else {
-        return Ok(MetaReply::NoServer {
-            block: id.block,
-            slot: id.slot,
-        });
-    };
-    let told = told_in(alloc, layout, len, id, servers, freed.as_slice(), server)?;
-    grant_in(servers, &mut freed, freed_loads, id, server, actor)?;
-    condemn(alloc, image, id, pending.copy)?;
-    image.slots = freed;
-    loads.copy_from_slice(freed_loads);
+    let told = told_of(alloc, layout, len, id, image, server)?;
+    give_grant(alloc, image, loads, id, &state, server, actor)?;
     raise_turn(image);
     Ok(MetaReply::Granted(told))
 }
@@ -262,13 +169,10 @@ pub fn grant(
     if id.block.index >= layout.blocks_of(len) {
         return Ok(MetaReply::NoBlock);
     }
-    let Some(pending) = slot_at(image.slots.as_slice(), id.block, id.slot).grant else {
-        return grant_first(alloc, layout, image, loads, actor, len, id);
-    };
-    if !again {
-        return Ok(MetaReply::Taken {
+    match slot_at(image.slots.as_slice(), id.block, id.slot).grant {
+        Some(pending) if !again => Ok(MetaReply::Taken {
             version: pending.copy.version,
-        });
+        }),
+        _ => grant_open(alloc, layout, image, loads, actor, len, id),
     }
-    grant_again(alloc, layout, image, loads, actor, len, id, pending)
 }

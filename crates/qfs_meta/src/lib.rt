@@ -21,4 +21,4 @@ mod servers;
 mod slots;
 mod turn;
 
-pub use meta::{Meta, NotBuilt};
+pub use meta::Meta;

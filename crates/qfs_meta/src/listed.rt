@@ -10,11 +10,9 @@ use qfs_base::chunk::BlockId;
 use qfs_base::image::{ServerView, SlotRow};
 use qfs_base::listing::Listing;
 use qfs_base::lists::Nine;
-use qfs_base::numbers::{FileId, Slot};
+use qfs_base::numbers::FileId;
+use qfs_base::sizes::SLOTS;
 use std::alloc::{AllocError, Global};
-
-/// The slots of a block.
-pub const SLOTS: Slot = 9;
 
 /// No copy of any slot.
 #[tactic(auto, unfolding(qfs_model_meta::specs::Lists::no_sources))]

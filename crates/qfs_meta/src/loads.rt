@@ -1,10 +1,10 @@
 //! The load of each server: how many live current copies and grants stand on it. The loads stand
 //! beside the table of slots, and change with its rows.
-ghost use Rattle.std.specs.Prelude.{◌≡◌, ◌≤◌, ◌++◌, take, drop, count_by, length, IfOk, OnOk, OnErr};
+ghost use Rattle.std.specs.Prelude.{◌≡◌, ◌≤◌, ◌++◌, take, drop, count_by, length, is_some, IfOk, IsTrue, OnOk, OnErr};
 ghost use Rattle.std.specs.Option.{option_to_list};
 ghost use Rattle.qfs_base.specs.Table.{IsRising, place};
-ghost use Rattle.qfs_model_meta.specs.Slots.{is_on, count_on, slot_cmp};
-ghost use Rattle.qfs_meta.specs.Kept.{most_servers};
+ghost use Rattle.qfs_model_meta.specs.Slots.{is_on, count_on, slot_at, slot_cmp};
+ghost use Rattle.qfs_base.specs.Sizes.{MOST_SERVERS};
 ghost use Rattle.qfs_meta.specs.Loads.{loads_of};
 
 use crate::rows::{Run, search};
@@ -15,7 +15,7 @@ use qfs_base::numbers::{Life, ServerId};
 use std::alloc::{AllocError, Global};
 
 /// 1 for a copy that stands on a server in a life, and 0 for another or none.
-fn copies_on(server: ServerId, life: Life, copy: Option<ChunkCopy>) -> usize
+pub fn copies_on(server: ServerId, life: Life, copy: Option<ChunkCopy>) -> usize
     ensures count { result ≡ count_by (is_on server life) (option_to_list copy) }
     ensures bound { result ≤ 1 }
 {
@@ -39,7 +39,7 @@ fn count_on(slots: &[SlotRow], server: ServerId, life: Life) -> usize
 
 /// Takes some rows of the table off the loads.
 pub fn uncount(loads: &mut [usize], servers: &[ServerView], slots: &[SlotRow], run: Run)
-    requires servers { length servers.now ≤ most_servers }
+    requires servers { length servers.now ≤ MOST_SERVERS }
     requires start { run.start ≤ run.end }
     requires end { run.end ≤ length slots.now }
     requires loads { loads.old ≡ loads_of servers.now slots.now }
@@ -53,7 +53,7 @@ pub fn uncount(loads: &mut [usize], servers: &[ServerView], slots: &[SlotRow], r
 
 /// Adds some rows of the table to the loads, which count all the others.
 pub fn count(loads: &mut [usize], servers: &[ServerView], slots: &[SlotRow], run: Run)
-    requires servers { length servers.now ≤ most_servers }
+    requires servers { length servers.now ≤ MOST_SERVERS }
     requires start { run.start ≤ run.end }
     requires end { run.end ≤ length slots.now }
     requires loads { loads.old ≡ loads_of servers.now (take run.start slots.now ++ drop run.end slots.now) }
@@ -71,7 +71,7 @@ pub fn loads_of(
     servers: &[ServerView],
     slots: &[SlotRow],
 ) -> Result<Vec<usize>, AllocError>
-    requires { length servers.now ≤ most_servers }
+    requires { length servers.now ≤ MOST_SERVERS }
     ensures { IfOk result (λ loads. loads.items ≡ loads_of servers.now slots.now) }
 {
     let mut loads = vec![in alloc; 0; servers.len()]?;
@@ -83,6 +83,30 @@ pub fn loads_of(
     Ok(loads)
 }
 
+/// Puts a row in place of the one with its key, which has a pending grant.
+pub fn replace_slot(
+    servers: &[ServerView],
+    slots: &mut RecordList,
+    loads: &mut [usize],
+    row: SlotRow,
+)
+    requires servers { length servers.now ≤ MOST_SERVERS }
+    requires order { IsRising slot_cmp slots.old }
+    requires loads { loads.old ≡ loads_of servers.now slots.old }
+    requires pending { IsTrue (is_some (slot_at slots.old row.block row.slot).grant) }
+    ensures slots { slots.new ≡ place slot_cmp row slots.old }
+    ensures loads { loads.new ≡ loads_of servers.now slots.new }
+{
+    match search(slots.as_slice(), &row) {
+        Ok(at) => {
+            uncount(loads, servers, slots.as_slice(), Run::one(at));
+            slots.set(at, row);
+            count(loads, servers, slots.as_slice(), Run::one(at));
+        }
+        Err(_) => unreachable!("a slot with a pending grant has its row"),
+    }
+}
+
 /// Puts a row at its place in the table of slots, where it replaces the one with its key, and in
 /// the loads. On want of memory both stay.
 pub fn place_slot(
@@ -91,7 +115,7 @@ pub fn place_slot(
     loads: &mut [usize],
     row: SlotRow,
 ) -> Result<(), AllocError>
-    requires servers { length servers.now ≤ most_servers }
+    requires servers { length servers.now ≤ MOST_SERVERS }
     requires order { IsRising slot_cmp slots.old }
     requires loads { loads.old ≡ loads_of servers.now slots.old }
     ensures ok { OnOk result (slots.new ≡ place slot_cmp row slots.old) }

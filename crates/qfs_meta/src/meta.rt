@@ -1,10 +1,9 @@
-//! The metaserver: its layout, its state, and how it serves.
-ghost use Rattle.std.specs.Prelude.{◌≡◌, ◌≤◌, replicate, IfOk, OnErr};
-ghost use Rattle.std.specs.Result.{is_ok};
-ghost use Rattle.qfs_base.specs.Outcome.{meta_outcome};
+//! The metaserver: its layout and term, its state, and how it serves.
+ghost use Rattle.std.specs.Prelude.{◌≡◌, ◌≤◌, replicate, IfOk};
+ghost use Rattle.qfs_base.specs.Sizes.{MOST_SERVERS};
 ghost use Rattle.qfs_model_meta.specs.Dropped.{dropped_at};
-ghost use Rattle.qfs_model_meta.specs.Step.{meta_step, opening, first_server};
-ghost use Rattle.qfs_meta.specs.Metaserver.{is_built};
+ghost use Rattle.qfs_model_meta.specs.Step.{first_server};
+ghost use Rattle.qfs_meta.specs.Metaserver.{first_meta, Steps, IsPutOff};
 ghost use Rattle.qfs_meta.specs.Serving.{IsNoFailure};
 
 use crate::loads::loads_of;
@@ -18,10 +17,6 @@ use qfs_stripe::Layout;
 use std::alloc::{AllocError, Global};
 use std::marker::Model;
 
-/// A request that isn't served yet.
-#[derive(Clone, Copy, Debug, PartialEq, Eq)]
-pub struct NotBuilt;
-
 /// A server as every run begins.
 const FIRST_SERVER: ServerView = ServerView {
     up: true,
@@ -30,11 +25,13 @@ const FIRST_SERVER: ServerView = ServerView {
     until: 0,
 };
 
-/// The metaserver in memory. Contracts see its layout and its state.
+/// The metaserver in memory. Contracts see its layout, its term and its state.
 #[derive(Drop)]
 pub struct Meta {
     alloc: Global,
     layout: Layout,
+    /// The ticks that a lease lives, 0 where leases last until they are given back.
+    term: u32,
     image: MetaImage,
     /// How many live copies and grants stand on each server, so that none is counted anew at each
     /// grant.
@@ -49,7 +46,7 @@ impl Model for Meta {
 
     ghost Value = { Metaserver };
 
-    ghost view = { λ meta. record { layout = meta.layout; image = meta.image } };
+    ghost view = { λ meta. record { layout = meta.layout; term = meta.term; image = meta.image } };
 
     ghost invariant = { λ meta. IsKept meta.image × (meta.loads.items ≡ loads_of meta.image.servers meta.image.slots) };
 }
@@ -75,10 +72,11 @@ fn first_servers(alloc: Global, servers: u16) -> Result<Servers, AllocError>
 }
 
 impl Meta {
-    /// The metaserver of 1 to 64 chunk servers, all up, with an empty name tree.
-    pub fn new(alloc: Global, layout: Layout, servers: u16) -> Result<Meta, AllocError>
-        requires { servers ≤ 64 }
-        ensures { IfOk result (λ meta. (meta.layout ≡ layout) × (meta.image ≡ opening servers)) }
+    /// The metaserver of 1 to 64 chunk servers, all up, with an empty name tree. Its leases live
+    /// for `term` ticks, or until they are given back where that is 0.
+    pub fn new(alloc: Global, layout: Layout, servers: u16, term: u32) -> Result<Meta, AllocError>
+        requires { servers ≤ MOST_SERVERS }
+        ensures { IfOk result (λ meta. meta ≡ first_meta layout term servers) }
     {
         let servers = first_servers(alloc, servers)?;
         let loads = loads_of(alloc, servers.as_slice(), &[])?;
@@ -99,6 +97,7 @@ impl Meta {
         Ok(Meta {
             alloc,
             layout,
+            term,
             image,
             loads,
         })
@@ -108,32 +107,32 @@ impl Meta {
     /// that the reply shows. On want of memory, and where a number would be its type's last, the
     /// reply is `NoMemory`, and the state stays. No reply is that of a log's disks that failed.
     ///
-    /// `NotBuilt` comes exactly where the request isn't one of those that are served yet; the
-    /// state stays.
-    pub fn serve(&mut self, actor: ActorId, request: &MetaRequest) -> Result<MetaReply, NotBuilt>
+    /// A request that isn't built yet is answered as if there were no memory for it.
+    pub fn serve(&mut self, actor: ActorId, request: &MetaRequest) -> MetaReply
         ensures layout { self.new.layout ≡ self.old.layout }
-        ensures step { IfOk result (λ reply. meta_step self.old.layout actor request.now (meta_outcome reply) self.old.image ≡ record { meta = self.new.image; reply = reply }) }
-        ensures never_fails { IfOk result IsNoFailure }
-        ensures built { is_ok result ≡ is_built request.now }
-        ensures unbuilt { OnErr result (self.new.image ≡ self.old.image) }
+        ensures term { self.new.term ≡ self.old.term }
+        ensures step { Steps actor self.old request.now result self.new }
+        ensures never_fails { IsNoFailure result }
+        ensures unbuilt { IsPutOff actor self.old request.now result }
     {
-        if !is_built(request) {
-            return Err(NotBuilt);
-        }
         if let Some(turn) = dropped_at(self.image.dropped.as_slice(), actor) {
-            return Ok(MetaReply::Dropped { turn });
+            return MetaReply::Dropped { turn };
+        }
+        if !is_built(request) {
+            return MetaReply::NoMemory;
         }
         let Ok(reply) = serve_request(
             self.alloc,
             &self.layout,
+            self.term,
             &mut self.image,
             self.loads.as_mut_slice(),
             actor,
             request,
         ) else {
-            return Ok(MetaReply::NoMemory);
+            return MetaReply::NoMemory;
         };
-        Ok(reply)
+        reply
     }
 
     /// The state.

@@ -1,8 +1,8 @@
 //! Tables: lists of rows in the order of their keys.
 ghost use Rattle.std.specs.Prelude.{◌≡◌, ◌≤◌, ◌<◌, ◌+◌, ◌^◌, [], ◌++◌, length, map, filter, take, drop, slice_range, insert, slice_set, OnOk, OnErr, IfOk, IfErr};
 ghost use Rattle.std.specs.declared.cmp.Ordering.{Ordering};
-ghost use Rattle.qfs_base.specs.Table.{place};
-ghost use Rattle.qfs_meta.specs.Runs.{IsInOrder, IsRun, has_key};
+ghost use Rattle.qfs_base.specs.Table.{has_key, place};
+ghost use Rattle.qfs_meta.specs.Runs.{IsInOrder, IsRun};
 
 use qfs_base::listing::Listing;
 use std::alloc::{AllocError, Global};
@@ -116,6 +116,7 @@ pub fn search<T: Key<T>>(rows: &[T], row: &T) -> Result<usize, usize>
     requires { IsInOrder (T.order row.now) rows.now }
     ensures found { IfOk result (λ at. (at < length rows.now) × (place T.order row.now rows.now ≡ slice_set rows.now at row.now)) }
     ensures absent { IfErr result (λ at. (at ≤ length rows.now) × (place T.order row.now rows.now ≡ insert rows.now at row.now)) }
+    ensures none { IfErr result (λ at. filter (has_key (T.order row.now)) rows.now ≡ []) }
 {
     let run = run_of(rows, row);
     if run.start < run.end {

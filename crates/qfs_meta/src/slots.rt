@@ -23,10 +23,9 @@ impl Key<SlotRow> for SlotRow {
 }
 
 impl Key<SlotRow> for SlotId {
-    ghost use Rattle.std.specs.Ordering.{nat_cmp, ordering_then};
-    ghost use Rattle.qfs_base.specs.Key.{block_cmp};
+    ghost use Rattle.qfs_model_meta.specs.Slots.{slot_order};
 
-    ghost order = { λ id row. ordering_then (block_cmp id.block row.block) (nat_cmp id.slot row.slot) };
+    ghost order = { slot_order };
 
     fn order(&self, row: &SlotRow) -> Ordering {
         self.block.cmp(&row.block).then(self.slot.cmp(&row.slot))
@@ -34,9 +33,9 @@ impl Key<SlotRow> for SlotId {
 }
 
 impl Key<SlotRow> for BlockId {
-    ghost use Rattle.qfs_base.specs.Key.{block_cmp};
+    ghost use Rattle.qfs_model_meta.specs.Slots.{block_order};
 
-    ghost order = { λ block row. block_cmp block row.block };
+    ghost order = { block_order };
 
     fn order(&self, row: &SlotRow) -> Ordering {
         self.cmp(&row.block)
@@ -44,9 +43,9 @@ impl Key<SlotRow> for BlockId {
 }
 
 impl Key<SlotRow> for FileId {
-    ghost use Rattle.std.specs.Ordering.{nat_cmp};
+    ghost use Rattle.qfs_model_meta.specs.Slots.{file_order};
 
-    ghost order = { λ file row. nat_cmp file row.block.file };
+    ghost order = { file_order };
 
     fn order(&self, row: &SlotRow) -> Ordering {
         self.cmp(&row.block.file)

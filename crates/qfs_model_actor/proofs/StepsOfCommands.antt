@@ -1,5 +1,5 @@
 -- Each command asks a bounded number of requests.
-use Rattle.std.proofs.Common.{◌≡◌, ℕ, zero, suc, ◌+◌, ◌*◌, ◌≤◌, min, Bool, true, false, ◌&&◌, List, [], ◌∷◌, ◌++◌, length, Option, Some, None, arith, refl, suc-mul, mul-le-mul_right, nat_lt, nat_le}
+use Rattle.std.proofs.Common.{◌≡◌, ℕ, zero, suc, ◌+◌, ◌-◌, ◌*◌, ◌≤◌, min, Bool, true, false, ◌&&◌, List, [], ◌∷◌, ◌++◌, length, Option, Some, None, arith, refl, suc-mul, mul-le-mul_right, nat_lt, nat_le}
 use Rattle.std.proofs.lemmas.Bool.{leb-true}
 use Rattle.qfs_base.specs.Shape.{Shape}
 use Rattle.qfs_base.specs.declared.chunk.Copy.{Copy}
@@ -16,57 +16,24 @@ use Rattle.qfs_base.specs.declared.reply.MetaReply.{MetaReply}
 use Rattle.qfs_base.specs.declared.reply.MetaReply.TheVariants as Said
 use Rattle.qfs_base.specs.declared.reply.Opened.{Opened}
 use Rattle.qfs_base.specs.Recipe.{bytes_of}
-use Rattle.qfs_model_slot.specs.CodeWord.{SLOTS}
+use Rattle.qfs_base.specs.Sizes.{SLOTS, MOST_ROWS, MOST_FILE_BYTES}
+use Rattle.qfs_base.specs.declared.rules.Rules.{Rules}
 use Rattle.qfs_model_actor.specs.Work.{Report, Work, ends}
 use Rattle.qfs_model_actor.specs.Hold.{opened, granted}
-use Rattle.qfs_model_actor.specs.Grants.{MOST_ROWS, if_meant, is_in_range, with_proper, with_source, source_of}
-use Rattle.qfs_base.specs.Layout.{blocks_touched, windows_touched, windows_of_rows, window_rows}
-use Rattle.qfs_model_actor.specs.Get.{MOST_BYTES, reading_of, listed_in, read_blocks, read_if_any, read_range, is_whole, read_if_whole, was_opened, range_of, get_work}
+use Rattle.qfs_model_actor.specs.Grants.{if_meant, is_in_range, with_proper, with_source, source_of}
+use Rattle.qfs_base.specs.Layout.{blocks_of, blocks_touched, windows_touched, windows_of_rows, window_rows}
+use Rattle.qfs_model_actor.specs.Get.{reading_of, listed_in, read_blocks, read_if_any, read_range, is_whole, read_if_whole, was_opened, attempt, attempts, range_of, get_work}
 use Rattle.qfs_model_actor.specs.Repair.{after_confirm, confirm, give_up, store_granted}
 use Rattle.qfs_model_actor.specs.Recover.{reading_for, restore_chunk, recover_slot, recovered, after_recover_at, recover_work, Healing, after_heal_next, heal_on, heal_work}
 use Rattle.qfs_model_actor.specs.Move.{copy_windows, copy_chunk, move_slot, moved, after_move_at, move_work, after_balance_next, rebalance_on, rebalance_work, Leaving, evacuated, count_left, after_evac_next, evacuate_on, after_leave, evacuate_work}
 use Rattle.qfs_model_actor.specs.Sweep.{say_swept, after_erase, erase, after_order, sweep_on, sweep_work}
-use Rattle.qfs_model_actor.specs.Servers.{after_bye, after_stop, stop_work, after_hello, after_inventory, tell_copies, after_start, start_work, after_wipe, wipe_work, after_rest, after_hibernate, hibernate_work}
+use Rattle.qfs_model_actor.specs.Servers.{after_bye, after_stop, stop_work, after_hello, after_inventory, tell_copies, after_start, start_work, after_wipe, wipe_work, after_rest, after_hibernate, hibernate_work, after_upgrade, upgrade_work}
 use Rattle.qfs_model_actor.specs.System.{ticked, dropped, saved, restarted, tick_work, drop_work, checkpoint_work, restart_work}
 use Rattle.qfs_model_actor.specs.Command.{file_work, work_of}
-use Rattle.qfs_model_actor.specs.Steps.{AsksAtMost, MOST_WINDOWS, steps_of_get, steps_of_recovery, steps_of_move, most_file_steps, most_steps}
+use Rattle.qfs_model_actor.specs.Steps.{AsksAtMost, MOST_WINDOWS, steps_of_attempt, steps_of_get, steps_of_recovery, steps_of_move, most_file_steps, most_steps}
 use Rattle.qfs_model_actor.proofs.Steps.{more_steps, give_back-steps, was_given_back-steps, end_with-steps, ask-steps, ask-nothing-steps, ask_server-steps, ask_server-nothing-steps, after_store-steps, fetch-steps}
 use Rattle.qfs_model_actor.proofs.StepsOfPut.{refused-steps, change_work-steps, list_work-steps, if_meant-steps, with_grant_of-steps, put_work-steps}
 use Rattle.qfs_model_actor.proofs.StepsOfReads.{div_ceil-least, read_block-steps, length-windows_of_rows, length-windows_touched, length-blocks_touched}
-
--- ---- gets
-
-too_few-steps : (layout : Shape) (o : Opened) (from to k n : ℕ) (causes : _)
-    → AsksAtMost (suc n) ((reading_of layout o from to k).too_few causes)
-unfolding reading_of
-too_few-steps layout o from to k n causes = end_with-steps n (opened o.lease) _
-
-read_blocks-steps : (layout : Shape) (o : Opened) (from to : ℕ) (ks : List ℕ) (got : List ℕ)
-    → AsksAtMost (length ks * (layout.r * SLOTS) + 1) (read_blocks layout o from to ks got)
-unfolding read_blocks
-read_blocks-steps layout o from to [] got =
-    more_steps (read_blocks layout o from to [] got) 1 (0 * (layout.r * SLOTS) + 1) (grind arith) (end_with-steps 0 (opened o.lease) _)
-read_blocks-steps layout o from to (k ∷ ks) got =
-    let m = length ks * (layout.r * SLOTS) in
-    let windows = windows_touched layout.s layout.r from to k in
-    more_steps (read_blocks layout o from to (k ∷ ks) got) (length windows * SLOTS + suc m)
-    (length (k ∷ ks) * (layout.r * SLOTS) + 1)
-    (omega (arith, suc-mul (length ks) (layout.r * SLOTS), length-windows_touched layout from to k))
-    (read_block-steps (reading_of layout o from to k) m windows (listed_in o k) got _
-    (too_few-steps layout o from to k m)
-    (λ more. more_steps (read_blocks layout o from to ks more) (m + 1) (suc m) (omega arith) (read_blocks-steps layout o from to ks more)))
-
-read_if_any-steps : (layout : Shape) (o : Opened) (from to : ℕ) → to ≤ MOST_BYTES → (b : Bool)
-    → AsksAtMost (MOST_BYTES * (layout.r * SLOTS) + 1) (read_if_any layout o from to b)
-unfolding read_if_any
-read_if_any-steps layout o from to h true =
-    let ks = blocks_touched layout.s layout.r from to in
-    let few : length ks ≤ MOST_BYTES = omega (arith, h, length-blocks_touched layout from to) in
-    more_steps (read_blocks layout o from to ks []) (length ks * (layout.r * SLOTS) + 1) (MOST_BYTES * (layout.r * SLOTS) + 1)
-    (omega (arith, mul-le-mul_right (layout.r * SLOTS) few)) (read_blocks-steps layout o from to ks [])
-read_if_any-steps layout o from to h false =
-    more_steps (read_if_any layout o from to false) 1 (MOST_BYTES * (layout.r * SLOTS) + 1) (omega arith)
-    (end_with-steps 0 (opened o.lease) _)
 
 first_of_two : (a b : Bool) → a && b ≡ true → a ≡ true
 first_of_two true b h = refl
@@ -76,26 +43,85 @@ second_of_two : (a b : Bool) → a && b ≡ true → b ≡ true
 second_of_two true b h = h
 second_of_two false b h = absurd (cc)
 
-read_if_whole-steps : (layout : Shape) (range : Range) (o : Opened) (b : Bool) → is_whole layout o ≡ b
-    → AsksAtMost (MOST_BYTES * (layout.r * SLOTS) + 1) (read_if_whole layout range o b)
-unfolding read_if_whole read_range is_whole
-read_if_whole-steps layout range o true e =
-    let short : o.len ≤ MOST_BYTES = leb-true o.len MOST_BYTES (first_of_two (nat_le o.len MOST_BYTES) _ e) in
-    read_if_any-steps layout o range.from (min (range.from + range.count) o.len) (omega (arith, short)) _
-read_if_whole-steps layout range o false e = tt
+-- ---- gets
 
-was_opened-steps : (layout : Shape) (range : Range) (a : MetaReply)
-    → AsksAtMost (MOST_BYTES * (layout.r * SLOTS) + 1) (was_opened layout range a)
-unfolding was_opened
-was_opened-steps layout range (Said.Opened o) = read_if_whole-steps layout range o (is_whole layout o) refl
-was_opened-steps layout range answer = refused-steps _ answer
+-- a Release, and n requests of what comes next
+too_few-steps : (layout : Shape) (again : Report → Work) (o : Opened) (from to k n : ℕ)
+    → ((report : Report) → AsksAtMost n (again report))
+    → (causes : _) → AsksAtMost (suc n) ((reading_of layout again o from to k).too_few causes)
+unfolding reading_of
+too_few-steps layout again o from to k n h causes = give_back-steps n _ (opened o.lease) (h _)
 
-get_work-steps : (layout : Shape) (path : List (List ℕ)) (range : Option Range) → AsksAtMost (steps_of_get layout) (get_work layout path range)
+-- what an attempt asks, where n requests may follow it
+module _ (layout : Shape) (again : Report → Work) (n : ℕ) (h : (report : Report) → AsksAtMost n (again report)) where
+  read_blocks-steps : (o : Opened) (from to : ℕ) (ks : List ℕ) (got : List ℕ)
+      → AsksAtMost (length ks * (layout.r * SLOTS) + suc n) (read_blocks layout again o from to ks got)
+  unfolding read_blocks
+  read_blocks-steps o from to [] got =
+      more_steps (read_blocks layout again o from to [] got) (suc n) (0 * (layout.r * SLOTS) + suc n) (grind arith)
+      (end_with-steps n (opened o.lease) _)
+  read_blocks-steps o from to (k ∷ ks) got =
+      let m = length ks * (layout.r * SLOTS) + n in
+      let windows = windows_touched layout.s layout.r from to k in
+      more_steps (read_blocks layout again o from to (k ∷ ks) got) (length windows * SLOTS + suc m)
+      (length (k ∷ ks) * (layout.r * SLOTS) + suc n)
+      (omega (arith, suc-mul (length ks) (layout.r * SLOTS), length-windows_touched layout from to k))
+      (read_block-steps (reading_of layout again o from to k) m windows (listed_in o k) got _
+      (too_few-steps layout again o from to k m (λ report. more_steps (again report) n m (omega arith) (h report)))
+      (λ more. more_steps (read_blocks layout again o from to ks more) (length ks * (layout.r * SLOTS) + suc n) (suc m) (omega arith) (read_blocks-steps o from to ks more)))
+
+  abbrev most_fetches : ℕ
+  most_fetches = blocks_of layout.s layout.r MOST_FILE_BYTES * (layout.r * SLOTS)
+
+  read_if_any-steps : (o : Opened) (from to : ℕ) → to ≤ MOST_FILE_BYTES → (b : Bool)
+      → AsksAtMost (most_fetches + suc n) (read_if_any layout again o from to b)
+  unfolding read_if_any
+  read_if_any-steps o from to short true =
+      let ks = blocks_touched layout.s layout.r from to in
+      more_steps (read_blocks layout again o from to ks []) (length ks * (layout.r * SLOTS) + suc n) (most_fetches + suc n)
+      (omega (arith, mul-le-mul_right (layout.r * SLOTS) (length-blocks_touched layout from to MOST_FILE_BYTES short)))
+      (read_blocks-steps o from to ks [])
+  read_if_any-steps o from to short false =
+      more_steps (read_if_any layout again o from to false) (suc n) (most_fetches + suc n) (omega arith)
+      (end_with-steps n (opened o.lease) _)
+
+  read_if_whole-steps : (range : Range) (o : Opened) (b : Bool) → is_whole layout o ≡ b
+      → AsksAtMost (most_fetches + suc n) (read_if_whole layout again range o b)
+  unfolding read_if_whole read_range is_whole
+  read_if_whole-steps range o true e =
+      let short : o.len ≤ MOST_FILE_BYTES =
+      leb-true o.len MOST_FILE_BYTES (first_of_two (nat_le o.len MOST_FILE_BYTES) _ e) in
+      read_if_any-steps o range.from (min (range.from + range.count) o.len) (omega (arith, short)) _
+  read_if_whole-steps range o false e = tt
+
+  was_opened-steps : (range : Range) (a : MetaReply) → AsksAtMost (most_fetches + suc n) (was_opened layout again range a)
+  unfolding was_opened
+  was_opened-steps range (Said.Opened o) = read_if_whole-steps range o (is_whole layout o) refl
+  was_opened-steps range answer = refused-steps _ answer
+
+  attempt-steps : (path : List (List ℕ)) (range : Range) → AsksAtMost (n + steps_of_attempt layout) (attempt layout again path range)
+  unfolding attempt
+  attempt-steps path range =
+      more_steps (attempt layout again path range) (suc (most_fetches + suc n)) (n + steps_of_attempt layout) (omega arith)
+      (ask-nothing-steps (most_fetches + suc n) _ (was_opened layout again range) (was_opened-steps range))
+
+attempts-steps : (more : ℕ) (layout : Shape) (path : List (List ℕ)) (range : Range) (report : Report)
+    → AsksAtMost (more * steps_of_attempt layout) (attempts more layout path range report)
+unfolding attempts
+attempts-steps zero layout path range report = tt
+attempts-steps (suc more) layout path range report =
+    let n = more * steps_of_attempt layout in
+    more_steps (attempts (suc more) layout path range report) (n + steps_of_attempt layout) (suc more * steps_of_attempt layout)
+    (omega (arith, suc-mul more (steps_of_attempt layout)))
+    (attempt-steps layout (attempts more layout path range) n (attempts-steps more layout path range) path range)
+
+get_work-steps : (layout : Shape) (tries : ℕ) (path : List (List ℕ)) (range : Option Range)
+    → AsksAtMost (steps_of_get layout tries) (get_work layout tries path range)
 unfolding get_work
-get_work-steps layout path range =
-    let n = MOST_BYTES * (layout.r * SLOTS) + 1 in
-    more_steps (get_work layout path range) (suc n) (steps_of_get layout) (omega arith)
-    (ask-nothing-steps n _ (was_opened layout (range_of range)) (was_opened-steps layout (range_of range)))
+get_work-steps layout tries path range =
+    let behind = attempts (tries - 1) layout path (range_of range) in
+    attempt-steps layout behind ((tries - 1) * steps_of_attempt layout)
+    (attempts-steps (tries - 1) layout path (range_of range)) path (range_of range)
 
 -- ---- what recoveries and moves share
 
@@ -445,6 +471,16 @@ unfolding hibernate_work
 hibernate_work-steps server ticks =
     ask-nothing-steps 1 _ (after_hibernate server) (after_hibernate-steps server)
 
+after_upgrade-steps : (n : ℕ) (a : ChunkAnswer) → AsksAtMost n (after_upgrade a)
+unfolding after_upgrade
+after_upgrade-steps n Did.Upgraded = tt
+after_upgrade-steps n Did.Down = tt
+after_upgrade-steps n answer = tt
+
+upgrade_work-steps : (server : ℕ) → AsksAtMost 1 (upgrade_work server)
+unfolding upgrade_work
+upgrade_work-steps server = ask_server-nothing-steps 0 server _ after_upgrade (after_upgrade-steps 0)
+
 ticked-steps : (n : ℕ) (a : MetaReply) → AsksAtMost n (ticked a)
 unfolding ticked
 ticked-steps n (Said.Clock now) = tt
@@ -467,33 +503,34 @@ restarted-steps n answer = tt
 
 -- ---- all commands
 
-file_work-steps : (layout : Shape) (number : ℕ) (command : FileCommand)
-    → AsksAtMost (most_file_steps layout command) (file_work layout number command)
+file_work-steps : (rules : Rules) (number : ℕ) (command : FileCommand)
+    → AsksAtMost (most_file_steps rules command) (file_work rules number command)
 unfolding file_work most_file_steps
-file_work-steps layout number (File.Mkdir path) = change_work-steps _
-file_work-steps layout number (File.Rmdir path) = change_work-steps _
-file_work-steps layout number (File.Remove path) = change_work-steps _
-file_work-steps layout number (File.Rename from to) = change_work-steps _
-file_work-steps layout number (File.List path) = list_work-steps path
-file_work-steps layout number (File.Put path recipe) = put_work-steps layout number path (bytes_of recipe)
-file_work-steps layout number (File.Get path range) = get_work-steps layout path range
+file_work-steps rules number (File.Mkdir path) = change_work-steps _
+file_work-steps rules number (File.Rmdir path) = change_work-steps _
+file_work-steps rules number (File.Remove path) = change_work-steps _
+file_work-steps rules number (File.Rename from to) = change_work-steps _
+file_work-steps rules number (File.List path) = list_work-steps path
+file_work-steps rules number (File.Put path recipe) = put_work-steps rules.layout number path (bytes_of recipe)
+file_work-steps rules number (File.Get path range) = get_work-steps rules.layout rules.tries path range
 
 -- no command asks more than its bound
-pub work_of-steps : (layout : Shape) (number : ℕ) (command : Command)
-    → AsksAtMost (most_steps layout command) (work_of layout number command)
+pub work_of-steps : (rules : Rules) (number : ℕ) (command : Command)
+    → AsksAtMost (most_steps rules command) (work_of rules number command)
 unfolding work_of most_steps tick_work drop_work checkpoint_work restart_work
-work_of-steps layout number (Does.File command) = file_work-steps layout number command
-work_of-steps layout number (Does.Recover path index slot) = recover_work-steps layout path index slot
-work_of-steps layout number (Does.Move path index slot server) = move_work-steps layout path index slot server
-work_of-steps layout number (Does.Heal budget) = heal_work-steps layout budget
-work_of-steps layout number (Does.Rebalance budget) = rebalance_work-steps layout budget
-work_of-steps layout number (Does.Evacuate server budget) = evacuate_work-steps layout server budget
-work_of-steps layout number (Does.Sweep budget) = sweep_work-steps budget
-work_of-steps layout number (Does.Stop server) = stop_work-steps server
-work_of-steps layout number (Does.Start server) = start_work-steps server
-work_of-steps layout number (Does.Wipe server) = wipe_work-steps server
-work_of-steps layout number (Does.Hibernate server ticks) = hibernate_work-steps server ticks
-work_of-steps layout number Does.Tick = ask-nothing-steps 0 _ ticked (ticked-steps 0)
-work_of-steps layout number (Does.Drop actor) = ask-nothing-steps 0 _ dropped (dropped-steps 0)
-work_of-steps layout number Does.Checkpoint = ask-nothing-steps 0 _ saved (saved-steps 0)
-work_of-steps layout number Does.Restart = ask-nothing-steps 0 _ restarted (restarted-steps 0)
+work_of-steps rules number (Does.File command) = file_work-steps rules number command
+work_of-steps rules number (Does.Recover path index slot) = recover_work-steps rules.layout path index slot
+work_of-steps rules number (Does.Move path index slot server) = move_work-steps rules.layout path index slot server
+work_of-steps rules number (Does.Heal budget) = heal_work-steps rules.layout budget
+work_of-steps rules number (Does.Rebalance budget) = rebalance_work-steps rules.layout budget
+work_of-steps rules number (Does.Evacuate server budget) = evacuate_work-steps rules.layout server budget
+work_of-steps rules number (Does.Sweep budget) = sweep_work-steps budget
+work_of-steps rules number (Does.Stop server) = stop_work-steps server
+work_of-steps rules number (Does.Start server) = start_work-steps server
+work_of-steps rules number (Does.Wipe server) = wipe_work-steps server
+work_of-steps rules number (Does.Hibernate server ticks) = hibernate_work-steps server ticks
+work_of-steps rules number (Does.Upgrade server) = upgrade_work-steps server
+work_of-steps rules number Does.Tick = ask-nothing-steps 0 _ ticked (ticked-steps 0)
+work_of-steps rules number (Does.Drop actor) = ask-nothing-steps 0 _ dropped (dropped-steps 0)
+work_of-steps rules number Does.Checkpoint = ask-nothing-steps 0 _ saved (saved-steps 0)
+work_of-steps rules number Does.Restart = ask-nothing-steps 0 _ restarted (restarted-steps 0)

@@ -4,14 +4,14 @@ use Rattle.std.proofs.Math.Nat.{div-zero, mod-zero}
 use Rattle.std.specs.Int.{div_ceil}
 use Rattle.std.proofs.lemmas.Grind.{div_ceil_times}
 use Rattle.std.proofs.lemmas.List.FromFn.{length-range_with_len, length-map-range_with_len}
-use Rattle.qfs_base.specs.Layout.{row_bytes, block_bytes, window_rows, window_at, windows_of_rows, blocks_touched, windows_touched}
+use Rattle.qfs_base.specs.Layout.{row_bytes, block_bytes, blocks_of, window_rows, window_at, windows_of_rows, blocks_touched, windows_touched}
 use Rattle.qfs_base.specs.Shape.{Shape}
+use Rattle.qfs_base.specs.Sizes.{SLOTS}
 use Rattle.qfs_base.specs.declared.chunk.Copy.{Copy}
 use Rattle.qfs_base.specs.declared.layout.Window.{Window}
 use Rattle.qfs_base.specs.declared.lists.Cause.{Cause}
 use Rattle.qfs_base.specs.declared.lists.SlotCause.{SlotCause}
 use Rattle.qfs_base.specs.Mask.{all_slots}
-use Rattle.qfs_model_slot.specs.CodeWord.{SLOTS}
 use Rattle.qfs_model_actor.specs.Work.{Work}
 use Rattle.qfs_model_actor.specs.Pieces.{Piece}
 use Rattle.qfs_model_actor.specs.Read.{Source, Reading, go_on_or_stop, with_enough, are_too_few, at_source, read_slots, read_windows, read_block, sources_of}
@@ -134,8 +134,16 @@ length-windows_touched layout from to k =
       rows_in_block (to - start) layout.s layout.r,
     )
 
-pub length-blocks_touched : (layout : Shape) (from to : ℕ) → length (blocks_touched layout.s layout.r from to) ≤ to
-length-blocks_touched layout from to =
+-- more of them are as many parts or more
+div_ceil-mono : (a b n : ℕ) → a ≤ b → div_ceil a n ≤ div_ceil b n
+div_ceil-mono a b zero h = omega (arith, h, div-zero a, mod-zero a, div-zero b, mod-zero b)
+div_ceil-mono a b (suc n) h =
+    div_ceil-least a (suc n) (div_ceil b (suc n)) (omega arith) (omega (arith, h, (div_ceil_times b (suc n) (omega arith)).0))
+
+-- the bytes up to `to` touch no more blocks than a file of the greatest length has
+pub length-blocks_touched : (layout : Shape) (from to most : ℕ) → to ≤ most
+    → length (blocks_touched layout.s layout.r from to) ≤ blocks_of layout.s layout.r most
+length-blocks_touched layout from to most h =
     let whole = block_bytes layout.s layout.r in
     let low = from / whole in
-    omega (arith, length-range_with_len low (div_ceil to whole - low), div_ceil-le_self to whole)
+    omega (arith, length-range_with_len low (div_ceil to whole - low), div_ceil-mono to most whole h)

@@ -1,24 +1,24 @@
--- An actor as plain data: its commands, the replies of those that have ended, and what the nodes answered in the present
+-- An actor as plain data: its rules, its commands, the replies of those that have ended, and what the nodes answered in the present
 -- one. Its next request is a function of these.
 use Rattle.std.specs.Prelude.{ℕ, ◌+◌, Bool, List, [], ◌∷◌, ◌++◌, Option, Some, None, length, slice_get, option_map, option_and_then, is_none, fold}
-use Rattle.qfs_base.specs.Shape.{Shape}
 use Rattle.qfs_base.specs.declared.command.Command.{Command}
 use Rattle.qfs_base.specs.declared.reply.NodeReply.{NodeReply}
 use Rattle.qfs_base.specs.declared.request.NodeRequest.{NodeRequest}
+use Rattle.qfs_base.specs.declared.rules.Rules.{Rules}
 use Rattle.qfs_model_actor.specs.Work.{Report, Work, ends, asks, goes_on, follow, request_in, node_of_request}
 use Rattle.qfs_model_actor.specs.Command.{work_of}
 
 pub record Actor : Type 0 where
   pub number : ℕ
-  pub layout : Shape
+  pub rules : Rules
   pub commands : List Command
   pub ended : List Report
   pub heard : List NodeReply
 
 -- an actor at its first command
-unfoldable pub starting : Shape → ℕ → List Command → Actor
-starting layout number commands =
-    record { number = number; layout = layout; commands = commands; ended = []; heard = [] }
+unfoldable pub starting : Rules → ℕ → List Command → Actor
+starting rules number commands =
+    record { number = number; rules = rules; commands = commands; ended = []; heard = [] }
 
 -- the number of the present command, from 1
 abbrev pub command_number : Actor → ℕ
@@ -31,7 +31,7 @@ present_command actor = slice_get actor.commands (length actor.ended)
 -- what is left of the present command
 unfoldable pub work_left : Actor → Option Work
 work_left actor =
-    option_map (λ command. follow (work_of actor.layout (command_number actor) command) actor.heard) (present_command actor)
+    option_map (λ command. follow (work_of actor.rules (command_number actor) command) actor.heard) (present_command actor)
 
 -- the next request; none where the actor has finished
 unfoldable pub request_of : Actor → Option NodeRequest

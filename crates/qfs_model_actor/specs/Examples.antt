@@ -1,7 +1,6 @@
 -- A file of five bytes that is put and read again, exchange by exchange, as one works it out by eye.
 use Rattle.std.specs.Prelude.{◌≡◌, ℕ, ◌+◌, false, List, [], ◌∷◌, ◌++◌, map, Option, Some, None, replicate}
 use Rattle.std.specs.List.{range_with_len}
-use Rattle.qfs_base.specs.Shape.{Shape}
 use Rattle.qfs_base.specs.declared.chunk.BlockId.{BlockId}
 use Rattle.qfs_base.specs.declared.chunk.ChunkKey.{ChunkKey}
 use Rattle.qfs_base.specs.declared.chunk.Copy.{Copy}
@@ -17,12 +16,14 @@ use Rattle.qfs_base.specs.declared.reply.MetaReply.{MetaReply}
 use Rattle.qfs_base.specs.declared.reply.MetaReply.TheVariants as Said
 use Rattle.qfs_base.specs.declared.reply.NodeReply.{NodeReply}
 use Rattle.qfs_base.specs.declared.reply.NodeReply.TheVariants as From
+use Rattle.qfs_base.specs.declared.reply.TreeRefusal.TheVariants as Why
 use Rattle.qfs_base.specs.declared.request.ChunkRequest.{ChunkRequest}
 use Rattle.qfs_base.specs.declared.request.ChunkRequest.TheVariants as Serve
 use Rattle.qfs_base.specs.declared.request.MetaRequest.{MetaRequest}
 use Rattle.qfs_base.specs.declared.request.MetaRequest.TheVariants as Ask
 use Rattle.qfs_base.specs.declared.request.NodeRequest.{NodeRequest}
 use Rattle.qfs_base.specs.declared.request.NodeRequest.TheVariants as To
+use Rattle.qfs_base.specs.declared.rules.Rules.{Rules}
 use Rattle.qfs_model_actor.specs.Work.{Report, Work, ends, asked, follow}
 use Rattle.qfs_model_actor.specs.Command.{work_of}
 use Rattle.qfs_model_actor.specs.Actor.{starting, after_replies}
@@ -40,9 +41,12 @@ pub record Goes (work : Work) (exchanges : List Exchange) (report : Report) : Ty
   pub requests : asked work (replies_of exchanges) ≡ map (λ (e : Exchange). e.request) exchanges
   pub end : follow work (replies_of exchanges) ≡ ends report
 
--- stripes of 16 bytes and chunks of at most 2 rows
-abbrev pub small : Shape
-small = record { s = 16; r = 2 }
+-- stripes of 16 bytes and chunks of at most 2 rows; leases last, and a get opens its file so often at most
+abbrev pub small_with : ℕ → Rules
+small_with tries = record { layout = record { s = 16; r = 2 }; term = 0; tries = tries }
+
+abbrev pub small : Rules
+small = small_with 1
 
 -- /a, its five bytes, and the bytes of a chunk that holds nothing
 abbrev pub path_a : List (List ℕ)
@@ -147,6 +151,27 @@ too_few_exchanges =
     ∷ fetches 8 Did.Down zeros
     ∷ releases ∷ []
 
+-- the file is opened once more, under the next lease, and is read
+abbrev pub opens_again : Exchange
+opens_again =
+    meta (Ask.OpenFile path_a)
+    (Said.Opened (record { lease = 2; place = 2; file = 1; len = 5; blocks = listed ∷ [] }))
+
+abbrev pub second_exchanges : List Exchange
+second_exchanges =
+    opens_again
+    ∷ fetches 0 Did.Fetched with_five
+    ∷ fetches 1 Did.Fetched zeros
+    ∷ fetches 2 Did.Fetched zeros
+    ∷ fetches 3 Did.Fetched zeros
+    ∷ fetches 4 Did.Fetched zeros
+    ∷ fetches 5 Did.Fetched zeros
+    ∷ meta (Ask.Release 2) (Said.Done 2) ∷ []
+
+-- or it is gone by then
+abbrev pub finds_it_gone : Exchange
+finds_it_gone = meta (Ask.OpenFile path_a) (Said.Refused Why.Missing 3)
+
 abbrev pub put_command : Command
 put_command = Does.File (File.Put path_a (Of.Hex five))
 
@@ -173,6 +198,11 @@ TooFewAnswer =
     ∷ record { slot = 8; cause = Because.Down }
     ∷ []))
 
+-- a get that may open its file twice: it reads behind its second opening, or ends with what that one answers
+pub record SecondOpening : Type 0 where
+  pub reads : Goes (work_of (small_with 2) 2 get_command) (too_few_exchanges ++ second_exchanges) (Report.Read 2 five)
+  pub is_refused : Goes (work_of (small_with 2) 2 get_command) (too_few_exchanges ++ finds_it_gone ∷ []) (Report.Refused 3 Why.Missing)
+
 -- an actor with both commands, after all its replies
 abbrev pub both : List Command
 both = put_command ∷ get_command ∷ []
@@ -180,4 +210,4 @@ both = put_command ∷ get_command ∷ []
 abbrev pub ActorEnds : Type 0
 ActorEnds =
     after_replies (starting small 1 both) (replies_of (put_exchanges ++ get_exchanges))
-    ≡ record { number = 1; layout = small; commands = both; ended = Report.Stored 1 5 ∷ Report.Read 2 five ∷ []; heard = [] }
+    ≡ record { number = 1; rules = small; commands = both; ended = Report.Stored 1 5 ∷ Report.Read 2 five ∷ []; heard = [] }

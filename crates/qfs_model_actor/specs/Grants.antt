@@ -1,10 +1,10 @@
 -- Which grants count as answers to a request.
 use Rattle.std.specs.Prelude.{ℕ, ◌==◌, ◌&&◌, Bool, true, false, List, [], ◌∷◌, Option, Some, None, filter_map, option_map, nat_lt, nat_le}
 use Rattle.std.specs.List.{enumerate_from}
+use Rattle.qfs_base.specs.Sizes.{SLOTS, MOST_ROWS}
 use Rattle.qfs_base.specs.declared.chunk.Copy.{Copy}
 use Rattle.qfs_base.specs.declared.reply.Granted.{Granted}
 use Rattle.qfs_base.specs.declared.request.SlotId.{SlotId}
-use Rattle.qfs_model_slot.specs.CodeWord.{SLOTS}
 use Rattle.qfs_model_actor.specs.Work.{Work}
 use Rattle.qfs_model_actor.specs.Hold.{unnamed}
 
@@ -24,10 +24,6 @@ if_meant next g false = unnamed
 -- goes on with a grant of the block and slot that were asked for
 unfoldable pub with_grant_of : ℕ → ℕ → (Granted → Work) → Granted → Work
 with_grant_of index slot next g = if_meant next g (is_grant_of index slot g)
-
--- the most rows of a chunk
-abbrev pub MOST_ROWS : ℕ
-MOST_ROWS = 1024
 
 -- a grant of one of nine slots, of no more rows than a chunk can have
 unfoldable pub is_in_range : Granted → Bool

@@ -133,6 +133,12 @@ ServerStarts =
     ∷ [])
     (Report.Started 1)
 
+-- a server is told to write the second version of chunk records, which it does where it is up
+abbrev pub ServerUpgrades : Type 0
+ServerUpgrades =
+    Goes (work_of small 1 (Does.Upgrade 3)) (serve 3 Serve.Upgrade Did.Upgraded [] ∷ []) Report.Upgraded
+    × Goes (work_of small 1 (Does.Upgrade 3)) (serve 3 Serve.Upgrade Did.Down [] ∷ []) Report.Down
+
 pub record ServersFailAndChunksMove : Type 0 where
   pub no_server : PutFindsNoServer
   pub gives_up : PutGivesUp
@@ -142,3 +148,4 @@ pub record ServersFailAndChunksMove : Type 0 where
   pub swept : TwoAreSwept
   pub leaves : ServerLeaves
   pub starts : ServerStarts
+  pub upgrades : ServerUpgrades

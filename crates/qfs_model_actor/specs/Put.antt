@@ -11,7 +11,7 @@ use Rattle.qfs_base.specs.declared.reply.MetaReply.TheVariants as Said
 use Rattle.qfs_base.specs.declared.request.ChunkRequest.TheVariants as Serve
 use Rattle.qfs_base.specs.declared.request.MetaRequest.TheVariants as Ask
 use Rattle.qfs_base.specs.Mask.{all_slots}
-use Rattle.qfs_model_slot.specs.CodeWord.{SLOTS}
+use Rattle.qfs_base.specs.Sizes.{SLOTS}
 use Rattle.qfs_model_slot.specs.Slot.{slot_of}
 use Rattle.qfs_model_actor.specs.Work.{Work, ends, for_each}
 use Rattle.qfs_model_actor.specs.Hold.{nothing, unclosed, unnamed}

@@ -7,7 +7,7 @@ use Rattle.qfs_base.specs.declared.lists.Cause.{Cause}
 use Rattle.qfs_base.specs.declared.lists.Cause.TheVariants as Because
 use Rattle.qfs_base.specs.declared.lists.SlotCause.{SlotCause}
 use Rattle.qfs_base.specs.Mask.{all_slots}
-use Rattle.qfs_model_slot.specs.CodeWord.{DATA_SLOTS}
+use Rattle.qfs_base.specs.Sizes.{DATA_SLOTS}
 use Rattle.qfs_model_actor.specs.Work.{Work}
 use Rattle.qfs_model_actor.specs.Hold.{Hold}
 use Rattle.qfs_model_actor.specs.Ask.{fetch}

@@ -1,4 +1,5 @@
--- Servers that go and come: stop, start, wipe and hibernate.
+-- Servers that go and come, and the version of the chunk records that they write: stop, start, wipe, hibernate and
+-- upgrade.
 use Rattle.std.specs.Prelude.{ℕ}
 use Rattle.qfs_base.specs.declared.command.Reply.TheVariants as Report
 use Rattle.qfs_base.specs.declared.reply.ChunkAnswer.{ChunkAnswer}
@@ -71,3 +72,12 @@ after_hibernate server answer = unnamed
 
 unfoldable pub hibernate_work : ℕ → ℕ → Work
 hibernate_work server ticks = ask nothing (Ask.Hibernate server ticks) (after_hibernate server)
+
+-- the server writes its chunk records in the second version from now on, or it isn't up
+unfoldable pub after_upgrade : ChunkAnswer → Work
+after_upgrade Did.Upgraded = ends Report.Upgraded
+after_upgrade Did.Down = ends Report.Down
+after_upgrade answer = unnamed
+
+unfoldable pub upgrade_work : ℕ → Work
+upgrade_work server = ask_server nothing server Serve.Upgrade after_upgrade

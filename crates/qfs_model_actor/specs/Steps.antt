@@ -3,16 +3,16 @@ use Rattle.std.specs.Prelude.{ℕ, zero, suc, ◌+◌, ◌-◌, ◌*◌, ◌≤�
 use Rattle.qfs_base.specs.Layout.{blocks_of}
 use Rattle.qfs_base.specs.Recipe.{IsRecipe, bytes_of}
 use Rattle.qfs_base.specs.Shape.{Shape}
+use Rattle.qfs_base.specs.Sizes.{SLOTS, MOST_FILE_BYTES}
 use Rattle.qfs_base.specs.declared.command.Command.{Command}
 use Rattle.qfs_base.specs.declared.command.Command.TheVariants as Does
 use Rattle.qfs_base.specs.declared.command.FileCommand.{FileCommand}
 use Rattle.qfs_base.specs.declared.command.FileCommand.TheVariants as File
 use Rattle.qfs_base.specs.declared.reply.NodeReply.{NodeReply}
 use Rattle.qfs_base.specs.declared.request.NodeRequest.{NodeRequest}
-use Rattle.qfs_model_slot.specs.CodeWord.{SLOTS}
+use Rattle.qfs_base.specs.declared.rules.Rules.{Rules}
 use Rattle.qfs_model_actor.specs.Work.{Work, ends, asks}
 use Rattle.qfs_model_actor.specs.Put.{MOST_GRANTS}
-use Rattle.qfs_model_actor.specs.Get.{MOST_BYTES}
 use Rattle.qfs_model_actor.specs.Actor.{Actor, request_of}
 
 -- the work asks at most n more requests
@@ -29,9 +29,13 @@ steps_of_slot = 2 * MOST_GRANTS + 2
 abbrev pub steps_of_put : Shape → ℕ → ℕ
 steps_of_put layout len = blocks_of layout.s layout.r len * (SLOTS * steps_of_slot) + 3
 
--- a get: OpenFile, each slot of each window, and no window has less than a row, and Release
-abbrev pub steps_of_get : Shape → ℕ
-steps_of_get layout = MOST_BYTES * (layout.r * SLOTS) + 2
+-- an attempt of a get: OpenFile, each slot of each window of each block, and no window has less than a row, and Release
+abbrev pub steps_of_attempt : Shape → ℕ
+steps_of_attempt layout = blocks_of layout.s layout.r MOST_FILE_BYTES * (layout.r * SLOTS) + 2
+
+-- a get: its first attempt, and as many more as it may make
+abbrev pub steps_of_get : Shape → ℕ → ℕ
+steps_of_get layout tries = (tries - 1) * steps_of_attempt layout + steps_of_attempt layout
 
 -- the most windows of a chunk
 abbrev pub MOST_WINDOWS : ℕ
@@ -45,33 +49,34 @@ steps_of_recovery = MOST_WINDOWS * SLOTS + 4
 abbrev pub steps_of_move : ℕ
 steps_of_move = MOST_WINDOWS + 4
 
-unfoldable pub most_file_steps : Shape → FileCommand → ℕ
-most_file_steps layout (File.Put path recipe) = steps_of_put layout (length (bytes_of recipe))
-most_file_steps layout (File.Get path range) = steps_of_get layout
-most_file_steps layout other = 1
+unfoldable pub most_file_steps : Rules → FileCommand → ℕ
+most_file_steps rules (File.Put path recipe) = steps_of_put rules.layout (length (bytes_of recipe))
+most_file_steps rules (File.Get path range) = steps_of_get rules.layout rules.tries
+most_file_steps rules other = 1
 
 -- how many requests a command asks at most
-unfoldable pub most_steps : Shape → Command → ℕ
-most_steps layout (Does.File command) = most_file_steps layout command
-most_steps layout (Does.Recover path index slot) = steps_of_recovery
-most_steps layout (Does.Move path index slot server) = steps_of_move
-most_steps layout (Does.Heal budget) = budget * steps_of_recovery
-most_steps layout (Does.Rebalance budget) = budget * steps_of_move
-most_steps layout (Does.Evacuate server budget) = budget * steps_of_move + 2
-most_steps layout (Does.Sweep budget) = budget * 3
-most_steps layout (Does.Stop server) = 2
-most_steps layout (Does.Start server) = 3
-most_steps layout (Does.Wipe server) = 3
-most_steps layout (Does.Hibernate server ticks) = 2
-most_steps layout Does.Tick = 1
-most_steps layout (Does.Drop actor) = 1
-most_steps layout Does.Checkpoint = 1
-most_steps layout Does.Restart = 1
+unfoldable pub most_steps : Rules → Command → ℕ
+most_steps rules (Does.File command) = most_file_steps rules command
+most_steps rules (Does.Recover path index slot) = steps_of_recovery
+most_steps rules (Does.Move path index slot server) = steps_of_move
+most_steps rules (Does.Heal budget) = budget * steps_of_recovery
+most_steps rules (Does.Rebalance budget) = budget * steps_of_move
+most_steps rules (Does.Evacuate server budget) = budget * steps_of_move + 2
+most_steps rules (Does.Sweep budget) = budget * 3
+most_steps rules (Does.Stop server) = 2
+most_steps rules (Does.Start server) = 3
+most_steps rules (Does.Wipe server) = 3
+most_steps rules (Does.Hibernate server ticks) = 2
+most_steps rules (Does.Upgrade server) = 1
+most_steps rules Does.Tick = 1
+most_steps rules (Does.Drop actor) = 1
+most_steps rules Does.Checkpoint = 1
+most_steps rules Does.Restart = 1
 
 -- how many requests the commands that haven't ended ask at most, but for those that the present one has asked
 abbrev pub steps_ahead : Actor → ℕ
 steps_ahead actor =
-    sum_by (most_steps actor.layout) (drop (length actor.ended) actor.commands) - length actor.heard
+    sum_by (most_steps actor.rules) (drop (length actor.ended) actor.commands) - length actor.heard
 
 unfoldable pub if_asking : ℕ → Option NodeRequest → ℕ
 if_asking steps None = 0

@@ -1,16 +1,15 @@
 -- What stands in the log of the metaserver's disks at the end of a run, and how much a restart reads of them.
-use Rattle.std.specs.Prelude.{◌≡◌, ℕ, ◌+◌, ◌<◌, ◌≤◌, ◌==◌, ◌&&◌, not, Bool, true, false, List, [], ◌∷◌, sum_by, fold, IsTrue}
+use Rattle.std.specs.Prelude.{◌≡◌, ℕ, ◌+◌, ◌<◌, ◌≤◌, Bool, true, false, List, [], ◌∷◌, sum_by, fold, IsTrue}
 use Rattle.std.specs.List.{list_all}
-use Rattle.qfs_base.specs.declared.history.Outcome.TheVariants as Ended
 use Rattle.qfs_base.specs.declared.history.Step.{Step}
 use Rattle.qfs_base.specs.declared.image.MetaImage.{MetaImage}
 use Rattle.qfs_base.specs.declared.script.Script.{Script}
-use Rattle.qfs_device.specs.Fault.{last_count}
-use Rattle.qfs_model_actor.specs.Work.{node_of_request}
+use Rattle.qfs_base.specs.Sizes.{LAST_U64}
 use Rattle.qfs_model_meta.specs.Step.{opening}
-use Rattle.qfs_model_text.specs.Order.{same_outcome}
 use Rattle.qfs_model_world.specs.Events.{Event, events, world_behind}
-use Rattle.qfs_model_world.specs.Replayed.{Logged, requests_in, was_logged, has_saved, has_restarted, logged_since_checkpoint}
+use Rattle.qfs_model_world.specs.Headline.{is_sure}
+use Rattle.qfs_model_world.specs.Replayed.{requests_in, was_logged, has_saved, has_restarted, logged_since_checkpoint}
+use Rattle.qfs_model_meta.specs.Step.{Logged}
 
 -- how long the image of a metaserver is on a disk, and the record of a request with its actor
 module _ (image_length : MetaImage → ℕ) (record_length : Logged → ℕ) where
@@ -44,10 +43,6 @@ module _ (image_length : MetaImage → ℕ) (record_length : Logged → ℕ) whe
   restarts_read script steps =
       (fold reading_after (record { load = image_length (opening script.servers); total = 0 }) steps).total
 
--- whether every step at the metaserver came out done
-unfoldable pub is_sure : Event → Bool
-is_sure event = not ((node_of_request event.request == 0) && not (same_outcome event.outcome Ended.Done))
-
 -- how many bytes each of the two disks handed out
 pub record BytesRead : Type 0 where
   pub left : ℕ
@@ -59,6 +54,6 @@ pub record BytesRead : Type 0 where
 pub record DisksStand (image_length : MetaImage → ℕ) (record_length : Logged → ℕ) (script : Script) (order : List Step) (logged : List Logged) (before behind : BytesRead) : Type 0 where
   pub records : IsTrue (list_all is_sure (events script order)) → logged ≡ logged_since_checkpoint (events script order)
   pub handed_out : IsTrue (list_all is_sure (events script order))
-      → behind.left < last_count → behind.right < last_count
+      → behind.left < LAST_U64 → behind.right < LAST_U64
       → before.left + before.right + restarts_read image_length record_length script (events script order)
       ≤ behind.left + behind.right

@@ -2,7 +2,7 @@
 use Rattle.std.specs.Prelude.{ℕ, ◌≡◌, ◌+◌, ◌<◌, ◌≤◌, List, Some}
 use Rattle.qfs_base.specs.declared.history.Step.{Step}
 use Rattle.qfs_base.specs.declared.script.Script.{Script}
-use Rattle.qfs_device.specs.Fault.{last_count}
+use Rattle.qfs_base.specs.Sizes.{LAST_U64}
 use Rattle.qfs_model_world.specs.Events.{events}
 use Rattle.qfs_model_world.specs.Headline.{failed_at}
 use Rattle.qfs_model_world.specs.World.{numbered}
@@ -17,7 +17,7 @@ pub record Counts : Type 0 where
 -- as the counts of the two disks rose together. A count at its last value says nothing
 pub record FaultsShow (script : Script) (order : List Step) (before behind : Counts) : Type 0 where
   pub devices : (number old new : ℕ)
-      → numbered before.devices number ≡ Some old → numbered behind.devices number ≡ Some new → new < last_count
+      → numbered before.devices number ≡ Some old → numbered behind.devices number ≡ Some new → new < LAST_U64
       → old + failed_at number (events script order) ≤ new
-  pub disks : behind.left < last_count → behind.right < last_count
+  pub disks : behind.left < LAST_U64 → behind.right < LAST_U64
       → before.left + before.right + failed_at 0 (events script order) ≤ behind.left + behind.right

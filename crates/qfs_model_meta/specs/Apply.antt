@@ -1,6 +1,8 @@
 -- What each change does to the metaserver's state.
 use Rattle.std.specs.Prelude.{ℕ, ◌+◌, nat_lt, Bool, true, false, ◌||◌, List, [], ◌∷◌, ◌++◌, fold, Option, Some, None}
 use Rattle.std.specs.List.{list_any}
+use Rattle.qfs_base.specs.declared.change.Change.{Change}
+use Rattle.qfs_base.specs.declared.change.Change.TheVariants.{AddDirectory, TakeDirectory, AddFile, CloseFile, AbortFile, RemoveFile, MovePath, GrantSlot, FailGrant, GiveUp, ConfirmSlot, EmptySlot, GiveLease, EndLease, MarkOrdered, TakeCondemned, CondemnStray, ServerUp, ServerDown, ServerLeaves, ServerSleeps, ClockTicks, DropActor}
 use Rattle.qfs_base.specs.declared.chunk.BlockId.{BlockId}
 use Rattle.qfs_base.specs.declared.chunk.ChunkKey.{ChunkKey}
 use Rattle.qfs_base.specs.declared.chunk.Copy.{Copy}
@@ -13,9 +15,9 @@ use Rattle.qfs_base.specs.declared.image.SlotRecord.{SlotRecord}
 use Rattle.qfs_base.specs.declared.image.SlotRow.{SlotRow}
 use Rattle.qfs_base.specs.declared.image.TreeRow.{TreeRow}
 use Rattle.qfs_base.specs.NameTree.{PathNames}
-use Rattle.qfs_model_meta.specs.Change.{Change, AddDirectory, TakeDirectory, AddFile, CloseFile, AbortFile, RemoveFile, MovePath, GrantSlot, FailGrant, GiveUp, ConfirmSlot, EmptySlot, GiveLease, EndLease, MarkOrdered, TakeCondemned, CondemnStray, ServerUp, ServerDown, ServerLeaves, ServerSleeps, ClockTicks, DropActor}
+use Rattle.qfs_base.specs.Sizes.{LAST_U64}
 use Rattle.qfs_model_meta.specs.Condemned.{condemn, condemn_any, unblock_all, mark_ordered, sweep, forget_if_risen, is_copy_of}
-use Rattle.qfs_model_meta.specs.Counters.{risen, last_u64}
+use Rattle.qfs_model_meta.specs.Counters.{risen}
 use Rattle.qfs_model_meta.specs.Dropped.{add_dropped}
 use Rattle.qfs_model_meta.specs.Leases.{give_lease, end_lease}
 use Rattle.qfs_model_meta.specs.Servers.{server_at, change_server, server_up, server_down, server_leaving, server_asleep}
@@ -124,8 +126,8 @@ apply m (FailGrant block slot) = fail_grant block slot m (slot_at m.slots block 
 apply m (GiveUp block slot) = give_up block slot m (slot_at m.slots block slot).grant
 apply m (ConfirmSlot block slot) = confirm_slot block slot m (slot_at m.slots block slot)
 apply m (EmptySlot block slot) = empty_slot block slot m (slot_at m.slots block slot)
-apply m (GiveLease actor file) =
-    record m { leases = give_lease m.next_lease actor file m.leases; next_lease = m.next_lease + 1 }
+apply m (GiveLease actor file until) =
+    record m { leases = give_lease m.next_lease actor file until m.leases; next_lease = m.next_lease + 1 }
 apply m (EndLease lease) = finish_lease lease m
 apply m (MarkOrdered number) = record m { condemned = mark_ordered number m.condemned }
 apply m (TakeCondemned number) = record m { condemned = sweep number m.condemned }
@@ -134,7 +136,7 @@ apply m (ServerUp server life) = bring_up server life m
 apply m (ServerDown server) = record m { servers = change_server server_down m.servers server }
 apply m (ServerLeaves server) = record m { servers = change_server server_leaving m.servers server }
 apply m (ServerSleeps server until) = record m { servers = change_server (server_asleep until) m.servers server }
-apply m ClockTicks = record m { clock = risen last_u64 m.clock }
+apply m ClockTicks = record m { clock = risen LAST_U64 m.clock }
 apply m (DropActor actor) = record m { dropped = add_dropped actor m.turn m.dropped }
 
 -- the state after changes, in their order

@@ -1,13 +1,15 @@
 -- Condemned copies: they wait for their deletion, in the order of their numbers, each with the live
 -- leases that block it.
 use Rattle.std.specs.Prelude.{ℕ, ◌+◌, ◌==◌, nat_lt, Bool, true, false, ◌&&◌, List, [], ◌∷◌, ◌++◌, map, find, Option, Some, None}
+use Rattle.std.specs.declared.cmp.Ordering.{Ordering}
+use Rattle.std.specs.Ordering.{nat_cmp}
 use Rattle.qfs_base.specs.declared.chunk.BlockId.{BlockId}
 use Rattle.qfs_base.specs.declared.chunk.Copy.{Copy}
 use Rattle.qfs_base.specs.declared.image.CondemnedRow.{CondemnedRow}
 use Rattle.qfs_base.specs.declared.image.Lease.{Lease}
 use Rattle.qfs_base.specs.declared.image.MetaImage.{MetaImage}
 use Rattle.qfs_base.specs.declared.image.ServerView.{ServerView}
-use Rattle.qfs_base.specs.Table.{without, change_where}
+use Rattle.qfs_base.specs.Table.{has_key, without, change_where}
 use Rattle.qfs_model_meta.specs.Leases.{leases_on}
 use Rattle.qfs_model_meta.specs.Servers.{is_listed, is_live}
 use Rattle.qfs_model_meta.specs.Slots.{same_block, same_copy}
@@ -37,9 +39,16 @@ unfoldable pub condemn_any : BlockId → ℕ → MetaImage → Option Copy → M
 condemn_any block slot m None = m
 condemn_any block slot m (Some copy) = condemn block slot copy m
 
+-- the order of condemned copies: by number
+abbrev pub condemned_order : ℕ → CondemnedRow → Ordering
+condemned_order number row = nat_cmp number row.condemned.number
+
+abbrev pub condemned_cmp : CondemnedRow → CondemnedRow → Ordering
+condemned_cmp a b = condemned_order a.condemned.number b
+
 -- whether a row has this number, or is a copy on this server
 unfoldable pub is_numbered : ℕ → CondemnedRow → Bool
-is_numbered number row = row.condemned.number == number
+is_numbered number row = has_key (condemned_order number) row
 
 unfoldable pub is_on_server : ℕ → CondemnedRow → Bool
 is_on_server server row = row.condemned.copy.server == server

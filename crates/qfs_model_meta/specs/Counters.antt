@@ -1,16 +1,7 @@
 -- The numbers that the metaserver counts up.
 use Rattle.std.specs.Prelude.{ℕ, ◌+◌, nat_lt, min, Bool, ◌&&◌, length}
 use Rattle.qfs_base.specs.declared.image.MetaImage.{MetaImage}
-
--- the last value of a number of 16 bits, of one of 32 and of one of 64
-abbrev pub last_u16 : ℕ
-last_u16 = 65535
-
-abbrev pub last_u32 : ℕ
-last_u32 = 4294967295
-
-abbrev pub last_u64 : ℕ
-last_u64 = 18446744073709551615
+use Rattle.qfs_base.specs.Sizes.{LAST_U32, LAST_U64}
 
 -- a counter one higher, which stays at its last value
 abbrev pub risen : ℕ → ℕ → ℕ
@@ -20,7 +11,7 @@ risen last n = min (n + 1) last
 -- history has no more entries than a place can name
 unfoldable pub counters_fit : MetaImage → Bool
 counters_fit m =
-    nat_lt m.next_file (last_u32 + 1)
-    && nat_lt m.next_lease (last_u64 + 1)
-    && nat_lt m.next_condemned (last_u64 + 1)
-    && nat_lt (length m.history) (last_u32 + 1)
+    nat_lt m.next_file (LAST_U32 + 1)
+    && nat_lt m.next_lease (LAST_U64 + 1)
+    && nat_lt m.next_condemned (LAST_U64 + 1)
+    && nat_lt (length m.history) (LAST_U32 + 1)

@@ -4,7 +4,7 @@ use Rattle.qfs_base.specs.declared.image.MetaImage.{MetaImage}
 use Rattle.qfs_base.specs.declared.reply.MetaReply.TheVariants as Told
 use Rattle.qfs_base.specs.declared.request.MetaRequest.{MetaRequest}
 use Rattle.qfs_base.specs.declared.request.MetaRequest.TheVariants as Ask
-use Rattle.qfs_base.specs.Shape.{Shape}
+use Rattle.qfs_base.specs.declared.rules.Rules.{Rules}
 use Rattle.qfs_model_meta.specs.Decision.{Decision, UsesDisks, unless}
 use Rattle.qfs_model_meta.specs.DropRequest.{decide_drop}
 use Rattle.qfs_model_meta.specs.GetRequests.{decide_open, decide_release}
@@ -18,43 +18,43 @@ use Rattle.qfs_model_meta.specs.SweepRequests.{decide_order, decide_swept}
 use Rattle.qfs_model_meta.specs.TreeRequests.{decide_mkdir, decide_rmdir, decide_remove, decide_rename, decide_list}
 
 -- what is decided on an actor's request
-unfoldable pub decide_request : Shape → ℕ → MetaImage → MetaRequest → Decision
-decide_request layout actor m (Ask.Mkdir path) = decide_mkdir path m
-decide_request layout actor m (Ask.Rmdir path) = decide_rmdir path m
-decide_request layout actor m (Ask.Remove path) = decide_remove path m
-decide_request layout actor m (Ask.Rename from to) = decide_rename from to m
-decide_request layout actor m (Ask.Create path command len) = decide_create actor path command len m
-decide_request layout actor m (Ask.Grant file index slot again) =
-    decide_grant layout actor (record { file = file; index = index }) slot again m
-decide_request layout actor m (Ask.Close file) = decide_close layout actor file m
-decide_request layout actor m (Ask.Abort file) = decide_abort actor file m
-decide_request layout actor m (Ask.OpenFile path) = decide_open layout actor path m
-decide_request layout actor m (Ask.Release lease) = decide_release actor lease m
-decide_request layout actor m (Ask.RecoverAt path index slot) =
-    decide_recover layout actor path index slot m
-decide_request layout actor m (Ask.HealNext after) = decide_heal layout actor after m
-decide_request layout actor m (Ask.MoveAt path index slot to) =
-    decide_move layout actor path index slot to m
-decide_request layout actor m (Ask.EvacNext server after) = decide_evacuate layout actor server after m
-decide_request layout actor m Ask.BalanceNext = decide_balance layout actor m
-decide_request layout actor m (Ask.Confirm block slot version lease) =
+unfoldable pub decide_request : Rules → ℕ → MetaImage → MetaRequest → Decision
+decide_request rules actor m (Ask.Mkdir path) = decide_mkdir path m
+decide_request rules actor m (Ask.Rmdir path) = decide_rmdir path m
+decide_request rules actor m (Ask.Remove path) = decide_remove path m
+decide_request rules actor m (Ask.Rename from to) = decide_rename from to m
+decide_request rules actor m (Ask.Create path command len) = decide_create actor path command len m
+decide_request rules actor m (Ask.Grant file index slot again) =
+    decide_grant rules.layout actor (record { file = file; index = index }) slot again m
+decide_request rules actor m (Ask.Close file) = decide_close rules.layout actor file m
+decide_request rules actor m (Ask.Abort file) = decide_abort actor file m
+decide_request rules actor m (Ask.OpenFile path) = decide_open rules.layout rules.term actor path m
+decide_request rules actor m (Ask.Release lease) = decide_release actor lease m
+decide_request rules actor m (Ask.RecoverAt path index slot) =
+    decide_recover rules.layout rules.term actor path index slot m
+decide_request rules actor m (Ask.HealNext after) = decide_heal rules.layout rules.term actor after m
+decide_request rules actor m (Ask.MoveAt path index slot to) =
+    decide_move rules.layout rules.term actor path index slot to m
+decide_request rules actor m (Ask.EvacNext server after) = decide_evacuate rules.layout rules.term actor server after m
+decide_request rules actor m Ask.BalanceNext = decide_balance rules.layout rules.term actor m
+decide_request rules actor m (Ask.Confirm block slot version lease) =
     decide_confirm actor block slot version lease m
-decide_request layout actor m (Ask.Abandon block slot version lease) =
+decide_request rules actor m (Ask.Abandon block slot version lease) =
     decide_abandon actor block slot version lease m
-decide_request layout actor m (Ask.OrderNext after) = decide_order after m
-decide_request layout actor m (Ask.Swept number) = decide_swept number m
-decide_request layout actor m (Ask.Hello server life keys) = decide_hello server life keys m
-decide_request layout actor m (Ask.Bye server) = decide_bye server m
-decide_request layout actor m (Ask.Leave server) = decide_leave server m
-decide_request layout actor m (Ask.Hibernate server ticks) = decide_hibernate server ticks m
-decide_request layout actor m Ask.Tick = decide_tick m
-decide_request layout actor m (Ask.Drop dropped) = decide_drop dropped m
-decide_request layout actor m (Ask.List path) = decide_list path m
-decide_request layout actor m (Ask.LeftOn server) = decide_left_on server m
-decide_request layout actor m Ask.Checkpoint = UsesDisks (Told.Saved m.turn)
-decide_request layout actor m Ask.Restart = UsesDisks (Told.Restarted m.turn)
+decide_request rules actor m (Ask.OrderNext after) = decide_order after m
+decide_request rules actor m (Ask.Swept number) = decide_swept number m
+decide_request rules actor m (Ask.Hello server life keys) = decide_hello server life keys m
+decide_request rules actor m (Ask.Bye server) = decide_bye server m
+decide_request rules actor m (Ask.Leave server) = decide_leave server m
+decide_request rules actor m (Ask.Hibernate server ticks) = decide_hibernate server ticks m
+decide_request rules actor m Ask.Tick = decide_tick m
+decide_request rules actor m (Ask.Drop dropped) = decide_drop dropped m
+decide_request rules actor m (Ask.List path) = decide_list path m
+decide_request rules actor m (Ask.LeftOn server) = decide_left_on server m
+decide_request rules actor m Ask.Checkpoint = UsesDisks (Told.Saved m.turn)
+decide_request rules actor m Ask.Restart = UsesDisks (Told.Restarted m.turn)
 
 -- the same, where a request whose numbers are out of range finds nothing: no actor asks one
-unfoldable pub decide : Shape → ℕ → MetaImage → MetaRequest → Decision
-decide layout actor m request =
-    unless (in_range (length m.servers) request) Told.Nothing (decide_request layout actor m request)
+unfoldable pub decide : Rules → ℕ → MetaImage → MetaRequest → Decision
+decide rules actor m request =
+    unless (in_range (length m.servers) request) Told.Nothing (decide_request rules actor m request)

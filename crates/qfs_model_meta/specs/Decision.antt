@@ -1,10 +1,10 @@
 -- What the metaserver decides on a request, and how refusals come in their order.
 use Rattle.std.specs.Prelude.{ℕ, Bool, true, false, List, Option, Some, None}
 use Rattle.std.specs.Option.{option_map}
+use Rattle.qfs_base.specs.declared.change.Change.{Change}
 use Rattle.qfs_base.specs.declared.reply.MetaReply.{MetaReply}
 use Rattle.qfs_base.specs.declared.reply.MetaReply.TheVariants as Told
 use Rattle.qfs_base.specs.declared.reply.TreeRefusal.{TreeRefusal}
-use Rattle.qfs_model_meta.specs.Change.{Change}
 
 pub data Decision : Type 0 where
   -- a refusal, or what is told without a log: the state stays

@@ -1,11 +1,12 @@
 -- The request that drops an actor: its leases, grants and unclosed files are given up.
 use Rattle.std.specs.Prelude.{ℕ, ◌==◌, Bool, false, ◌&&◌, List, [], ◌∷◌, ◌++◌, length, map, filter, flat_map, Option, Some, None, is_some}
+use Rattle.qfs_base.specs.declared.change.Change.{Change}
+use Rattle.qfs_base.specs.declared.change.Change.TheVariants.{DropActor, EndLease, GiveUp}
 use Rattle.qfs_base.specs.declared.image.Grant.{Grant}
 use Rattle.qfs_base.specs.declared.image.MetaImage.{MetaImage}
 use Rattle.qfs_base.specs.declared.image.SlotRow.{SlotRow}
 use Rattle.qfs_base.specs.declared.image.TreeRow.{TreeRow}
 use Rattle.qfs_base.specs.declared.reply.MetaReply.TheVariants as Told
-use Rattle.qfs_model_meta.specs.Change.{Change, DropActor, EndLease, GiveUp}
 use Rattle.qfs_model_meta.specs.Decision.{Decision, Makes}
 use Rattle.qfs_model_meta.specs.Dropped.{dropped_at}
 use Rattle.qfs_model_meta.specs.Leases.{leases_of}

@@ -10,6 +10,7 @@ use Rattle.qfs_base.specs.declared.reply.Granted.{Granted}
 use Rattle.qfs_base.specs.Layout.{blocks_of, rows_of}
 use Rattle.qfs_base.specs.Mask.{all_slots}
 use Rattle.qfs_base.specs.Shape.{Shape}
+use Rattle.qfs_base.specs.Sizes.{SLOTS}
 use Rattle.qfs_model_meta.specs.Servers.{server_at, listed_copy}
 use Rattle.qfs_model_meta.specs.Slots.{slot_at}
 
@@ -19,7 +20,7 @@ NineCopies = List (Option Copy)
 
 -- no copy of any slot, and that of one slot alone
 unfoldable pub no_sources : NineCopies
-no_sources = replicate 9 None
+no_sources = replicate SLOTS None
 
 unfoldable pub one_source : ℕ → Copy → NineCopies
 one_source slot copy = slice_set no_sources slot (Some copy)

@@ -1,11 +1,10 @@
 -- What a metaserver has told actors so far, as far as a later state has to keep to it: the grants, the
 -- leases with the copies that they list, and the deletions that it ordered.
-use Rattle.std.specs.Prelude.{ℕ, zero, suc, ◌==◌, Bool, ◌&&◌, List, [], ◌∷◌, ◌++◌, filter_map, flat_map, Option}
+use Rattle.std.specs.Prelude.{ℕ, ◌==◌, Bool, true, false, ◌&&◌, List, [], ◌∷◌, ◌++◌, filter_map, flat_map, Option}
 use Rattle.std.specs.Option.{option_map}
 use Rattle.std.specs.List.{list_any, enumerate_from}
 use Rattle.qfs_base.specs.declared.chunk.BlockId.{BlockId}
 use Rattle.qfs_base.specs.declared.chunk.Copy.{Copy}
-use Rattle.qfs_base.specs.declared.image.Lease.{Lease}
 use Rattle.qfs_base.specs.declared.reply.Condemned.{Condemned}
 use Rattle.qfs_base.specs.declared.reply.Granted.{Granted}
 use Rattle.qfs_base.specs.declared.reply.MetaReply.{MetaReply}
@@ -24,9 +23,15 @@ pub record ListedCopy : Type 0 where
   pub lease : ℕ
   pub of_slot : SlotCopy
 
+-- a lease as it was given
+pub record GivenLease : Type 0 where
+  pub lease : ℕ
+  pub actor : ℕ
+  pub file : ℕ
+
 pub record Past : Type 0 where
   pub granted : List SlotCopy
-  pub leases : List Lease
+  pub leases : List GivenLease
   pub listed : List ListedCopy
   pub ordered : List Condemned
 
@@ -66,16 +71,20 @@ with_lease lease actor file copies past = record past {
 unfoldable pub with_copy : SlotCopy → Past → Past
 with_copy copy past = record past { granted = past.granted ++ copy ∷ [] }
 
--- a grant was given under this lease; that of a put has lease 0, which is none
-unfoldable pub with_grant : ℕ → Granted → Past → ℕ → Past
-with_grant actor g past zero = with_copy (granted_slot_copy g) past
-with_grant actor g past (suc n) =
+-- whether a grant is that of a put, which has no lease
+unfoldable pub is_of_put : Granted → Bool
+is_of_put g = g.lease == 0
+
+-- a grant was given, with its lease if it is none of a put
+unfoldable pub with_grant : ℕ → Granted → Past → Bool → Past
+with_grant actor g past true = with_copy (granted_slot_copy g) past
+with_grant actor g past false =
     with_lease g.lease actor g.block.file (listed_in g.lease g.block g.sources)
     (with_copy (granted_slot_copy g) past)
 
 -- what was told after one more reply to an actor
 unfoldable pub remember : ℕ → Past → MetaReply → Past
-remember actor past (Told.Granted g) = with_grant actor g past g.lease
+remember actor past (Told.Granted g) = with_grant actor g past (is_of_put g)
 remember actor past (Told.Opened o) =
     with_lease o.lease actor o.file (listed_in_file o.lease o.file o.blocks) past
 remember actor past (Told.Ordered condemned turn) =
@@ -90,6 +99,6 @@ same_version a b =
 unfoldable pub is_copy : BlockId → ℕ → Copy → SlotCopy → Bool
 is_copy block slot copy other = same_block other.block block && (other.slot == slot) && same_copy other.copy copy
 
--- whether a copy of a slot was granted
-unfoldable pub was_granted : Past → BlockId → ℕ → Copy → Bool
-was_granted past block slot copy = list_any (is_copy block slot copy) past.granted
+-- whether a copy of a slot is one of those that were granted
+unfoldable pub was_granted : List SlotCopy → BlockId → ℕ → Copy → Bool
+was_granted granted block slot copy = list_any (is_copy block slot copy) granted

@@ -2,23 +2,26 @@
 -- or given up.
 use Rattle.std.specs.Prelude.{ℕ, nat_lt, Bool, true, false, List, [], ◌∷◌, ◌++◌, length, map, find, flat_map, Option, Some, None, is_none}
 use Rattle.std.specs.List.{range_with_len}
+use Rattle.qfs_base.specs.declared.change.Change.{Change}
+use Rattle.qfs_base.specs.declared.change.Change.TheVariants.{AddFile, GrantSlot, FailGrant, GiveUp, CloseFile, AbortFile}
 use Rattle.qfs_base.specs.declared.chunk.BlockId.{BlockId}
 use Rattle.qfs_base.specs.declared.image.Grant.{Grant}
 use Rattle.qfs_base.specs.declared.image.MetaImage.{MetaImage}
+use Rattle.qfs_base.specs.declared.image.ServerView.{ServerView}
+use Rattle.qfs_base.specs.declared.image.SlotRecord.{SlotRecord}
 use Rattle.qfs_base.specs.declared.image.SlotRow.{SlotRow}
 use Rattle.qfs_base.specs.declared.image.TreeRow.{TreeRow}
 use Rattle.qfs_base.specs.declared.reply.MetaReply.{MetaReply}
 use Rattle.qfs_base.specs.declared.reply.MetaReply.TheVariants as Told
 use Rattle.qfs_base.specs.declared.request.SlotId.{SlotId}
 use Rattle.qfs_base.specs.NameTree.{PathNames, add_refusal}
+use Rattle.qfs_base.specs.NumberSet.{with_member}
 use Rattle.qfs_base.specs.Shape.{Shape}
-use Rattle.qfs_model_meta.specs.Apply.{apply_all}
-use Rattle.qfs_model_meta.specs.Change.{Change, AddFile, GrantSlot, FailGrant, GiveUp, CloseFile, AbortFile}
 use Rattle.qfs_model_meta.specs.Decision.{Decision, Makes, refuse, unless, need, refuse_file}
 use Rattle.qfs_base.specs.Mask.{all_slots}
 use Rattle.qfs_model_meta.specs.Lists.{block_count, no_sources, new_grant}
 use Rattle.qfs_model_meta.specs.Placing.{census, choose, barred_for_put}
-use Rattle.qfs_model_meta.specs.Slots.{slot_at, slots_of}
+use Rattle.qfs_model_meta.specs.Slots.{slot_id, slot_at, slots_of, without_grant}
 use Rattle.qfs_model_meta.specs.TreeRows.{standing, unclosed_file}
 
 -- a file is made that its actor has yet to write
@@ -38,41 +41,42 @@ unfoldable pub failed_grant : BlockId → ℕ → Option Grant → List Change
 failed_grant block slot None = []
 failed_grant block slot (Some grant) = FailGrant block slot ∷ []
 
--- the server that a put of a slot is granted, once its failed grant is out of the way
-unfoldable pub chosen_for_put : BlockId → ℕ → MetaImage → Option ℕ
-chosen_for_put block slot m =
-    choose (census m.servers m.slots)
-    (barred_for_put m.servers m.slots block (slot_at m.slots block slot).failed)
+-- the servers that failed a put of a slot, and that of its pending grant
+unfoldable pub failed_with : List ℕ → Option Grant → List ℕ
+failed_with failed None = failed
+failed_with failed (Some grant) = with_member failed grant.copy.server
 
--- what a put is told of its grant, once its failed grant is out of the way
+-- the server that a put of a slot is granted: a grant of it that is pending counts as failed, and no
+-- more as one of the block's
+unfoldable pub chosen_for_put : BlockId → ℕ → List ServerView → List SlotRow → SlotRecord → Option ℕ
+chosen_for_put block slot servers slots state =
+    let others : List SlotRow = without_grant block slot slots state.grant in
+    choose (census servers others)
+    (barred_for_put servers others block (failed_with state.failed state.grant))
+
+-- what a put is told of its grant
 unfoldable pub put_granted : Shape → ℕ → BlockId → ℕ → MetaImage → ℕ → MetaReply
 put_granted layout len block slot m server =
     Told.Granted (new_grant layout len block slot server 0 no_sources m)
 
 -- a slot is granted on a server, after the changes of a failed grant
-unfoldable pub grant_for_put : Shape → ℕ → ℕ → BlockId → ℕ → List Change → MetaImage → ℕ → Decision
-grant_for_put layout actor len block slot failing freed server =
-    Makes (failing ++ GrantSlot block slot server actor 0 ∷ [])
-    (put_granted layout len block slot freed server)
-
--- the same on the server that is chosen, if there is one
-unfoldable pub grant_after : Shape → ℕ → ℕ → BlockId → ℕ → List Change → MetaImage → Decision
-grant_after layout actor len block slot failing freed =
-    need (Told.NoServer block slot) (grant_for_put layout actor len block slot failing freed)
-    (chosen_for_put block slot freed)
+unfoldable pub grant_for_put : Shape → ℕ → ℕ → BlockId → ℕ → MetaImage → Option Grant → ℕ → Decision
+grant_for_put layout actor len block slot m pending server =
+    Makes (failed_grant block slot pending ++ GrantSlot block slot server actor 0 ∷ [])
+    (put_granted layout len block slot m server)
 
 -- a slot of a file that the actor hasn't closed yet is granted, or refused
-unfoldable pub grant_in : Shape → ℕ → BlockId → ℕ → Bool → MetaImage → Option Grant → TreeRow → Decision
-grant_in layout actor block slot again m pending row =
-    let failing : List Change = failed_grant block slot pending in
+unfoldable pub grant_in : Shape → ℕ → BlockId → ℕ → Bool → MetaImage → SlotRecord → TreeRow → Decision
+grant_in layout actor block slot again m state row =
     unless (nat_lt block.index (block_count layout row.len)) Told.NoBlock
-    (refuse (taken_refusal again pending)
-    (grant_after layout actor row.len block slot failing (apply_all failing m)))
+    (refuse (taken_refusal again state.grant)
+    (need (Told.NoServer block slot) (grant_for_put layout actor row.len block slot m state.grant)
+    (chosen_for_put block slot m.servers m.slots state)))
 
 -- a server for a slot of a file that the actor hasn't closed yet
 unfoldable pub decide_grant : Shape → ℕ → BlockId → ℕ → Bool → MetaImage → Decision
 decide_grant layout actor block slot again m =
-    need Told.Gone (grant_in layout actor block slot again m (slot_at m.slots block slot).grant)
+    need Told.Gone (grant_in layout actor block slot again m (slot_at m.slots block slot))
     (unclosed_file actor block.file m.tree)
 
 -- the slots of a block, and all slots of so many blocks of a file, by index and slot
@@ -86,10 +90,6 @@ file_slots file count =
 -- whether a slot has no pending grant
 unfoldable pub lacks_grant : List SlotRow → SlotId → Bool
 lacks_grant slots id = is_none (slot_at slots id.block id.slot).grant
-
--- a row's slot
-unfoldable pub slot_id : SlotRow → SlotId
-slot_id row = record { block = row.block; slot = row.slot }
 
 -- the first slot of a file without a pending grant: one of its blocks, or else one that the table
 -- holds beyond them

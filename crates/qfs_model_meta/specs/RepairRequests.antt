@@ -11,7 +11,7 @@ use Rattle.qfs_base.specs.declared.request.SlotId.{SlotId}
 use Rattle.qfs_base.specs.NameTree.{PathNames, look_refusal}
 use Rattle.qfs_base.specs.Shape.{Shape}
 use Rattle.qfs_model_meta.specs.Decision.{Decision, refuse, unless, need, refuse_path}
-use Rattle.qfs_model_meta.specs.LeasedGrants.{pending_refusal, is_behind, closed_len, grant_recovery}
+use Rattle.qfs_model_meta.specs.LeasedGrants.{pending_refusal, comes_after, closed_len, grant_recovery}
 use Rattle.qfs_model_meta.specs.Lists.{block_count}
 use Rattle.qfs_model_meta.specs.PutRequests.{file_slots, lacks_grant}
 use Rattle.qfs_model_meta.specs.Servers.{server_at, is_live, hibernates}
@@ -30,15 +30,15 @@ is_missing clock servers (Some copy) =
     not (is_live servers copy && is_expected clock (server_at servers copy.server))
 
 -- a missing slot of a file is to be recovered
-unfoldable pub decide_recover : Shape → ℕ → PathNames → ℕ → ℕ → MetaImage → Decision
-decide_recover layout actor path index slot m =
+unfoldable pub decide_recover : Shape → ℕ → ℕ → PathNames → ℕ → ℕ → MetaImage → Decision
+decide_recover layout term actor path index slot m =
     let block : BlockId = record { file = (row_at m.tree path).file; index = index } in
     let state : SlotRecord = slot_at m.slots block slot in
     refuse_path (look_refusal (standing m.tree) path)
     (unless (nat_lt index (block_count layout (row_at m.tree path).len)) Told.NoBlock
     (refuse (pending_refusal state.grant)
     (unless (is_missing m.clock m.servers state.current) Told.Whole
-    (grant_recovery layout actor block slot m))))
+    (grant_recovery layout term actor block slot m))))
 
 -- the slots of a closed file, and those of all closed files, by file, index and slot
 unfoldable pub slots_of_closed : Shape → List TreeRow → ℕ → List SlotId
@@ -55,13 +55,13 @@ is_to_heal m id =
 -- the first such slot behind another
 unfoldable pub next_to_heal : Shape → Option SlotId → MetaImage → Option SlotId
 next_to_heal layout after m =
-    find (λ (id : SlotId). is_behind after id && is_to_heal m id) (closed_slots layout m.tree)
+    find (λ (id : SlotId). comes_after after id && is_to_heal m id) (closed_slots layout m.tree)
 
 -- a slot is to be recovered
-unfoldable pub heal_slot : Shape → ℕ → MetaImage → SlotId → Decision
-heal_slot layout actor m id = grant_recovery layout actor id.block id.slot m
+unfoldable pub heal_slot : Shape → ℕ → ℕ → MetaImage → SlotId → Decision
+heal_slot layout term actor m id = grant_recovery layout term actor id.block id.slot m
 
 -- the next missing slot is to be recovered
-unfoldable pub decide_heal : Shape → ℕ → Option SlotId → MetaImage → Decision
-decide_heal layout actor after m =
-    need Told.Nothing (heal_slot layout actor m) (next_to_heal layout after m)
+unfoldable pub decide_heal : Shape → ℕ → ℕ → Option SlotId → MetaImage → Decision
+decide_heal layout term actor after m =
+    need Told.Nothing (heal_slot layout term actor m) (next_to_heal layout after m)

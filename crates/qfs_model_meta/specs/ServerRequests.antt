@@ -1,11 +1,13 @@
 -- The requests that say how servers stand, and the clock.
 use Rattle.std.specs.Prelude.{ℕ, nat_le, List, [], ◌∷◌, length, map}
+use Rattle.qfs_base.specs.declared.change.Change.TheVariants.{ServerUp, ServerDown, ServerLeaves, ServerSleeps, ClockTicks, CondemnStray, EndLease}
 use Rattle.qfs_base.specs.declared.chunk.ChunkKey.{ChunkKey}
 use Rattle.qfs_base.specs.declared.image.MetaImage.{MetaImage}
 use Rattle.qfs_base.specs.declared.reply.MetaReply.TheVariants as Told
-use Rattle.qfs_model_meta.specs.Change.{ServerUp, ServerDown, ServerLeaves, ServerSleeps, ClockTicks, CondemnStray}
-use Rattle.qfs_model_meta.specs.Counters.{risen, last_u64}
+use Rattle.qfs_base.specs.Sizes.{LAST_U64}
+use Rattle.qfs_model_meta.specs.Counters.{risen}
 use Rattle.qfs_model_meta.specs.Decision.{Decision, Tells, Makes, unless}
+use Rattle.qfs_model_meta.specs.Leases.{leases_over}
 use Rattle.qfs_model_meta.specs.Servers.{server_at, reading_after}
 use Rattle.qfs_model_meta.specs.Slots.{count_on}
 
@@ -30,9 +32,11 @@ decide_hibernate server ticks m =
     unless (server_at m.servers server).up Told.NotUp
     (Makes (ServerSleeps server until ∷ []) (Told.Until until))
 
--- the clock goes on by one
+-- the clock goes on by one, and the leases end whose time has come
 unfoldable pub decide_tick : MetaImage → Decision
-decide_tick m = Makes (ClockTicks ∷ []) (Told.Clock (risen last_u64 m.clock))
+decide_tick m =
+    let now : ℕ = risen LAST_U64 m.clock in
+    Makes (ClockTicks ∷ map EndLease (leases_over now m.leases)) (Told.Clock now)
 
 -- how many live current copies and grants a server still has: nothing changes
 unfoldable pub decide_left_on : ℕ → MetaImage → Decision

@@ -3,7 +3,7 @@ use Rattle.std.specs.Prelude.{ℕ, zero, suc, ◌+◌, ◌==◌, nat_lt, Bool, t
 use Rattle.std.specs.Bool.{then_some}
 use Rattle.qfs_base.specs.declared.chunk.Copy.{Copy}
 use Rattle.qfs_base.specs.declared.image.ServerView.{ServerView}
-use Rattle.qfs_model_meta.specs.Counters.{last_u64}
+use Rattle.qfs_base.specs.Sizes.{LAST_U64}
 
 -- what is seen of a server that isn't there
 unfoldable pub no_server : ServerView
@@ -59,4 +59,4 @@ server_asleep until server = record server { up = false; until = until }
 
 -- the reading of the clock after so many ticks, at most the last one
 unfoldable pub reading_after : ℕ → ℕ → ℕ
-reading_after clock ticks = min (clock + ticks) last_u64
+reading_after clock ticks = min (clock + ticks) LAST_U64

@@ -9,10 +9,12 @@ use Rattle.qfs_base.specs.declared.chunk.Copy.{Copy}
 use Rattle.qfs_base.specs.declared.image.Grant.{Grant}
 use Rattle.qfs_base.specs.declared.image.SlotRecord.{SlotRecord}
 use Rattle.qfs_base.specs.declared.image.SlotRow.{SlotRow}
+use Rattle.qfs_base.specs.declared.request.SlotId.{SlotId}
 use Rattle.qfs_base.specs.Key.{block_cmp}
 use Rattle.qfs_base.specs.NumberSet.{with_member}
-use Rattle.qfs_base.specs.Table.{without, change_where, place}
-use Rattle.qfs_model_meta.specs.Counters.{risen, last_u32}
+use Rattle.qfs_base.specs.Sizes.{LAST_U32}
+use Rattle.qfs_base.specs.Table.{has_key, without, change_where, place}
+use Rattle.qfs_model_meta.specs.Counters.{risen}
 
 -- a slot that was never granted: versions start at 1
 unfoldable pub never_granted : SlotRecord
@@ -25,19 +27,36 @@ same_block a b = (a.file == b.file) && (a.index == b.index)
 unfoldable pub same_copy : Copy → Copy → Bool
 same_copy a b = (a.server == b.server) && (a.life == b.life) && (a.version == b.version)
 
+-- a row's slot
+unfoldable pub slot_id : SlotRow → SlotId
+slot_id row = record { block = row.block; slot = row.slot }
+
 -- the order of slots: by file, index and slot
+abbrev pub slot_id_cmp : SlotId → SlotId → Ordering
+slot_id_cmp a b = ordering_then (block_cmp a.block b.block) (nat_cmp a.slot b.slot)
+
 unfoldable pub slot_cmp : SlotRow → SlotRow → Ordering
 slot_cmp a b = ordering_then (block_cmp a.block b.block) (nat_cmp a.slot b.slot)
 
+-- where a row stands to a slot, to a block's slots, and to those of a file
+abbrev pub slot_order : SlotId → SlotRow → Ordering
+slot_order id row = ordering_then (block_cmp id.block row.block) (nat_cmp id.slot row.slot)
+
+abbrev pub block_order : BlockId → SlotRow → Ordering
+block_order block row = block_cmp block row.block
+
+abbrev pub file_order : ℕ → SlotRow → Ordering
+file_order file row = nat_cmp file row.block.file
+
 -- whether a row is that of a slot, of a block, or of a file
 unfoldable pub is_slot : BlockId → ℕ → SlotRow → Bool
-is_slot block slot row = same_block row.block block && (row.slot == slot)
+is_slot block slot row = has_key (slot_order (record { block = block; slot = slot })) row
 
 unfoldable pub is_of_block : BlockId → SlotRow → Bool
-is_of_block block row = same_block row.block block
+is_of_block block row = has_key (block_order block) row
 
 unfoldable pub is_of_file : ℕ → SlotRow → Bool
-is_of_file file row = row.block.file == file
+is_of_file file row = has_key (file_order file) row
 
 -- what is known of a slot
 unfoldable pub slot_at : List SlotRow → BlockId → ℕ → SlotRecord
@@ -68,7 +87,7 @@ unfoldable pub granted_slot : ℕ → ℕ → ℕ → ℕ → SlotRecord → Slo
 granted_slot server life actor lease slot =
     let copy : Copy = record { server = server; life = life; version = slot.next } in
     record slot {
-      next = risen last_u32 slot.next;
+      next = risen LAST_U32 slot.next;
       grant = Some (record { copy = copy; actor = actor; lease = lease });
     }
 
@@ -104,6 +123,11 @@ with_slot block slot state slots =
 -- the table after a slot's record changed, if it has one
 unfoldable pub change_slot : BlockId → ℕ → (SlotRecord → SlotRecord) → List SlotRow → List SlotRow
 change_slot block slot change slots = change_where (is_slot block slot) (change_state change) slots
+
+-- the table with the pending grant of a slot left out, if it has one
+unfoldable pub without_grant : BlockId → ℕ → List SlotRow → Option Grant → List SlotRow
+without_grant block slot slots None = slots
+without_grant block slot slots (Some grant) = change_slot block slot ungranted_slot slots
 
 -- the table after all grants of a file became current
 unfoldable pub seal_file : ℕ → List SlotRow → List SlotRow

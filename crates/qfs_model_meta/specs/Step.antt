@@ -7,9 +7,10 @@ use Rattle.qfs_base.specs.declared.image.ServerView.{ServerView}
 use Rattle.qfs_base.specs.declared.reply.MetaReply.{MetaReply}
 use Rattle.qfs_base.specs.declared.reply.MetaReply.TheVariants as Told
 use Rattle.qfs_base.specs.declared.request.MetaRequest.{MetaRequest}
-use Rattle.qfs_base.specs.Shape.{Shape}
+use Rattle.qfs_base.specs.declared.rules.Rules.{Rules}
+use Rattle.qfs_base.specs.Sizes.{LAST_U64}
 use Rattle.qfs_model_meta.specs.Apply.{apply_all}
-use Rattle.qfs_model_meta.specs.Counters.{risen, last_u64, counters_fit}
+use Rattle.qfs_model_meta.specs.Counters.{risen, counters_fit}
 use Rattle.qfs_model_meta.specs.Decide.{decide}
 use Rattle.qfs_model_meta.specs.Decision.{Decision, Tells, UsesDisks, Makes}
 use Rattle.qfs_model_meta.specs.Dropped.{dropped_at}
@@ -25,7 +26,7 @@ stays m reply = record { meta = m; reply = reply }
 
 -- the turn rises with each request that is logged
 unfoldable pub next_turn : MetaImage → MetaImage
-next_turn m = record m { turn = risen last_u64 m.turn }
+next_turn m = record m { turn = risen LAST_U64 m.turn }
 
 -- the step is taken, unless a number would be its type's last one
 unfoldable pub take_step : MetaImage → MetaImage → MetaReply → Bool → Served
@@ -59,9 +60,9 @@ serve_unless_dropped m served None = served
 serve_unless_dropped m served (Some turn) = stays m (Told.Dropped turn)
 
 -- the step of a request
-unfoldable pub meta_step : Shape → ℕ → MetaRequest → Outcome → MetaImage → Served
-meta_step layout actor request outcome m =
-    serve_unless_dropped m (end_step m (decide layout actor m request) outcome) (dropped_at actor m.dropped)
+unfoldable pub meta_step : Rules → ℕ → MetaRequest → Outcome → MetaImage → Served
+meta_step rules actor request outcome m =
+    serve_unless_dropped m (end_step m (decide rules actor m request) outcome) (dropped_at actor m.dropped)
 
 -- a server as every run begins
 unfoldable pub first_server : ServerView
@@ -84,3 +85,7 @@ opening servers =
       dropped = [];
       history = [];
     }
+
+-- a request to the metaserver, with the actor who asked it
+abbrev pub Logged : Type 0
+Logged = ℕ × MetaRequest

@@ -1,9 +1,9 @@
 -- The requests of a sweep: the deletion of a condemned copy is ordered, and reported.
 use Rattle.std.specs.Prelude.{ℕ, [], ◌∷◌, length}
+use Rattle.qfs_base.specs.declared.change.Change.TheVariants.{MarkOrdered, TakeCondemned}
 use Rattle.qfs_base.specs.declared.image.CondemnedRow.{CondemnedRow}
 use Rattle.qfs_base.specs.declared.image.MetaImage.{MetaImage}
 use Rattle.qfs_base.specs.declared.reply.MetaReply.TheVariants as Told
-use Rattle.qfs_model_meta.specs.Change.{MarkOrdered, TakeCondemned}
 use Rattle.qfs_model_meta.specs.Condemned.{next_to_go}
 use Rattle.qfs_model_meta.specs.Decision.{Decision, Makes, need}
 

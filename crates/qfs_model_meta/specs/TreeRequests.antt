@@ -1,11 +1,12 @@
 -- The requests of the name tree, and the listing of a directory. A refusal comes with the place of
 -- the request in the file history, and so does every other answer.
 use Rattle.std.specs.Prelude.{ℕ, List, [], ◌∷◌, ◌++◌, length, map}
+use Rattle.qfs_base.specs.declared.change.Change.{Change}
+use Rattle.qfs_base.specs.declared.change.Change.TheVariants.{AddDirectory, TakeDirectory, RemoveFile, MovePath, EmptySlot}
 use Rattle.qfs_base.specs.declared.image.MetaImage.{MetaImage}
 use Rattle.qfs_base.specs.declared.image.SlotRow.{SlotRow}
 use Rattle.qfs_base.specs.declared.reply.MetaReply.TheVariants as Told
 use Rattle.qfs_base.specs.NameTree.{PathNames, add_refusal, rmdir_refusal, look_refusal, rename_refusal, directory_refusal, names_below}
-use Rattle.qfs_model_meta.specs.Change.{Change, AddDirectory, TakeDirectory, RemoveFile, MovePath, EmptySlot}
 use Rattle.qfs_model_meta.specs.Decision.{Decision, Tells, Makes, refuse_file}
 use Rattle.qfs_model_meta.specs.Slots.{slots_of}
 use Rattle.qfs_model_meta.specs.TreeRows.{standing, row_at}

@@ -6,8 +6,9 @@ use Rattle.qfs_base.specs.declared.image.TreeRow.{TreeRow}
 use Rattle.qfs_base.specs.declared.lists.NameKind.{NameKind}
 use Rattle.qfs_base.specs.declared.lists.NameKind.TheVariants.{Directory, Unclosed, Closed}
 use Rattle.qfs_base.specs.NameTree.{PathNames, Standing, added, renamed, taken, stands_at}
+use Rattle.std.specs.declared.cmp.Ordering.{Ordering}
 use Rattle.std.specs.Ordering.{nat_cmp}
-use Rattle.qfs_base.specs.Table.{without, change_where, look, place_all}
+use Rattle.qfs_base.specs.Table.{has_key, without, change_where, look, place_all}
 
 -- what stands at a row: file 0 is a directory
 unfoldable pub kind_of : ℕ → Bool → NameKind
@@ -51,8 +52,12 @@ is_closed Closed = true
 is_closed Unclosed = false
 is_closed Directory = false
 
+-- whether a row is that of the file of a number
+abbrev pub row_file_order : ℕ → TreeRow → Ordering
+row_file_order file row = nat_cmp file row.file
+
 unfoldable pub has_file : ℕ → TreeRow → Bool
-has_file file row = row.file == file
+has_file file row = has_key (row_file_order file) row
 
 unfoldable pub is_unclosed_row : TreeRow → Bool
 is_unclosed_row row = is_unclosed (kind_of row.file row.closed)

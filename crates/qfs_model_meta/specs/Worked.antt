@@ -12,12 +12,12 @@ use Rattle.qfs_base.specs.declared.reply.TreeRefusal.{TreeRefusal}
 use Rattle.qfs_base.specs.declared.request.MetaRequest.{MetaRequest}
 use Rattle.qfs_base.specs.declared.request.MetaRequest.TheVariants as Ask
 use Rattle.qfs_base.specs.NameTree.{PathNames}
-use Rattle.qfs_base.specs.Shape.{Shape}
+use Rattle.qfs_base.specs.declared.rules.Rules.{Rules}
 use Rattle.qfs_model_meta.specs.Step.{Served, meta_step, opening}
 
--- the layout of the worked runs: stripes of 16 bytes, two rows
-abbrev pub small_layout : Shape
-small_layout = record { s = 16; r = 2 }
+-- the rules of the worked runs: stripes of 16 bytes, two rows, and leases for a term
+abbrev pub small_rules : ℕ → Rules
+small_rules term = record { layout = record { s = 16; r = 2 }; term = term; tries = 1 }
 
 -- a request and the number of the actor that asks it
 abbrev pub Asked : Type 0
@@ -28,24 +28,31 @@ pub record Ran : Type 0 where
   pub meta : MetaImage
   pub replies : List MetaReply
 
-abbrev pub run_one : Ran → Asked → Ran
-run_one ran asked =
-    let served : Served = meta_step small_layout asked.0 asked.1 Ended.Done ran.meta in
+abbrev pub run_one : ℕ → Ran → Asked → Ran
+run_one term ran asked =
+    let served : Served = meta_step (small_rules term) asked.0 asked.1 Ended.Done ran.meta in
     record { meta = served.meta; replies = ran.replies ++ served.reply ∷ [] }
 
+abbrev pub run_with_term : ℕ → Ran → List Asked → Ran
+run_with_term term ran [] = ran
+run_with_term term ran (asked ∷ more) = run_with_term term (run_one term ran asked) more
+
+-- the same where leases last until they are given back
 abbrev pub run : Ran → List Asked → Ran
-run ran [] = ran
-run ran (asked ∷ more) = run (run_one ran asked) more
+run ran asked = run_with_term 0 ran asked
 
 -- a run begins with so many servers
 abbrev pub begins : ℕ → Ran
 begins servers = record { meta = opening servers; replies = [] }
 
 -- the replies to these requests, once those before were answered
+abbrev pub replies_with_term : ℕ → ℕ → List Asked → List Asked → List MetaReply
+replies_with_term term servers before asked =
+    let ran : Ran = run_with_term term (begins servers) before in
+    (run_with_term term (record { meta = ran.meta; replies = [] }) asked).replies
+
 abbrev pub replies_after : ℕ → List Asked → List Asked → List MetaReply
-replies_after servers before asked =
-    let ran : Ran = run (begins servers) before in
-    (run (record { meta = ran.meta; replies = [] }) asked).replies
+replies_after servers before asked = replies_with_term 0 servers before asked
 
 -- paths of one name and of two
 abbrev pub path_a : PathNames

@@ -2,13 +2,17 @@
 //! here do nothing: their contracts say what the step computes in small runs.
 #![tactic(auto)]
 
-ghost use Rattle.std.specs.Prelude.{◌≤◌};
+ghost use Rattle.std.specs.Prelude.{ℕ, ◌≤◌};
+ghost use Rattle.qfs_base.specs.declared.chunk.BlockId.{BlockId};
+ghost use Rattle.qfs_base.specs.declared.image.MetaImage.{MetaImage};
+ghost use Rattle.qfs_model_meta.specs.GrantedAgain.{DecidesAsFreed};
 ghost use Rattle.qfs_model_meta.specs.Past.{no_past};
 ghost use Rattle.qfs_model_meta.specs.Sound.{IsSound};
 ghost use Rattle.qfs_model_meta.specs.Step.{opening};
 ghost use Rattle.qfs_model_meta.specs.WorkedFiles.{PutAndGet, TreeRefusals, Renamed, Replaced};
 ghost use Rattle.qfs_model_meta.specs.WorkedForeign.{ForeignHealed};
 ghost use Rattle.qfs_model_meta.specs.WorkedRepairs.{Moved, Recovered, Evacuated, Hibernated, Regranted, Dropped, Balanced};
+ghost use Rattle.qfs_model_meta.specs.WorkedTerms.{Termed};
 
 /// On nine servers a put of five bytes and a get: the nine slots are granted on the servers 1 to
 /// 9 in turn, and the get is told of all of them.
@@ -70,6 +74,18 @@ pub fn drops_an_actor()
 /// A server with two copies more than another gives it one.
 pub fn evens_the_loads()
     ensures { Balanced }
+{}
+
+/// A put's grant in place of one whose server failed is chosen and told as if that one had been
+/// condemned before.
+pub fn grants_as_freed()
+    ensures { (block : BlockId) (slot : ℕ) (m : MetaImage) → DecidesAsFreed block slot m }
+{}
+
+/// With a term a lease ends with the tick that brings the clock to its reading. It blocks no
+/// deletion then, and the grant that was given under it stays.
+pub fn ends_leases_by_term()
+    ensures { Termed }
 {}
 
 /// A metaserver that starts with nothing keeps to what it told its actors: nothing yet.

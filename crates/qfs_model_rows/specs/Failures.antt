@@ -25,14 +25,14 @@ DegradedGet = Prints
     ++ codes "order 1x34"
     ∷ [])
 
--- four servers are down before the file is opened
+-- four servers are down before the file is opened: the get opens it five times, once and once more for each of the stops
 abbrev pub stops : List Command
 stops = Does.Stop 1 ∷ Does.Stop 4 ∷ Does.Stop 8 ∷ Does.Stop 9 ∷ []
 
 abbrev pub TooFewListed : Type 0
 TooFewListed = Prints
     (small_script 9 ((put_one ∷ stops ++ get_all path_a ∷ []) ∷ []))
-    (steps 1 30)
+    (steps 1 38)
     (codes "1 1 at 1 stored 1"
     ∷ codes "1 2 stopped"
     ∷ codes "1 3 stopped"
@@ -40,28 +40,28 @@ TooFewListed = Prints
     ∷ codes "1 5 stopped"
     ∷ codes "1 6 at 2 toofew 0 0:unlisted 3:unlisted 7:unlisted 8:unlisted"
     ∷ history_of_put
-    ++ codes "order 1x30"
+    ++ codes "order 1x38"
     ∷ [])
 
--- four servers go down after the file was opened
+-- four servers go down after the file was opened: where the get opens it again, they aren't listed
 abbrev pub stopped_in_get : Script
 stopped_in_get = small_script 9 ((put_one ∷ get_all path_a ∷ []) ∷ stops ∷ [])
 
 abbrev pub stopping_order : List Step
-stopping_order = steps 1 21 ++ steps 2 8 ++ steps 1 10
+stopping_order = steps 1 21 ++ steps 2 8 ++ steps 1 18
 
 abbrev pub TooFewAnswer : Type 0
 TooFewAnswer = Prints
     stopped_in_get
     stopping_order
     (codes "1 1 at 1 stored 1"
-    ∷ codes "1 2 at 2 toofew 0 0:down 3:down 7:down 8:down"
+    ∷ codes "1 2 at 2 toofew 0 0:unlisted 3:unlisted 7:unlisted 8:unlisted"
     ∷ codes "2 1 stopped"
     ∷ codes "2 2 stopped"
     ∷ codes "2 3 stopped"
     ∷ codes "2 4 stopped"
     ∷ history_of_put
-    ++ codes "order 1x21 2x8 1x10"
+    ++ codes "order 1x21 2x8 1x18"
     ∷ [])
 
 -- three devices fail in a get, and a fourth

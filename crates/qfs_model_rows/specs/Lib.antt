@@ -8,3 +8,10 @@ pub mod Restarts
 pub mod Audits
 pub mod GivenOrders
 pub mod Meanings
+pub mod Leases
+pub mod Attempts
+pub mod Upgrades
+pub mod Promised
+pub mod DrawnFiles
+pub mod DrawnServers
+pub mod DrawnRules

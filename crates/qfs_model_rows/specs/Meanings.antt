@@ -19,18 +19,19 @@ use Rattle.qfs_base.specs.declared.reply.Opened.{Opened}
 use Rattle.qfs_base.specs.declared.script.Script.{Script}
 use Rattle.qfs_model_actor.specs.Work.{Report}
 use Rattle.qfs_model_meta.specs.Past.{SlotCopy}
+use Rattle.qfs_model_server.specs.Chunk.{Chunk}
 use Rattle.qfs_model_server.specs.Server.{Server}
 use Rattle.qfs_model_world.specs.Agrees.{Agrees}
 use Rattle.qfs_model_world.specs.Deletion.{deleted_in}
 use Rattle.qfs_model_world.specs.Drawn.{is_drawn}
 use Rattle.qfs_model_world.specs.Events.{Event, events}
 use Rattle.qfs_model_world.specs.FileHistory.{IsHistoryOf}
-use Rattle.qfs_model_world.specs.Heard.{Holding, holding_of}
 use Rattle.qfs_model_world.specs.HeldBlock.{is_held}
 use Rattle.qfs_model_world.specs.Made.{made, right_bytes}
 use Rattle.qfs_model_world.specs.Puts.{command_of}
 use Rattle.qfs_model_world.specs.Reports.{IsPlaced}
 use Rattle.qfs_model_world.specs.World.{after}
+use Rattle.qfs_model_promises.specs.Heard.{Holding, holding_of}
 use Rattle.qfs_model_rows.specs.Failures.{degraded, stopped_in_get, stopping_order, put_and_get, three_fail, four_fail}
 use Rattle.qfs_model_rows.specs.Refusals.{put_anew, anew_order}
 use Rattle.qfs_model_rows.specs.Repairs.{moved_in_get, moving_order}
@@ -51,13 +52,14 @@ unfoldable pub holds_first_block : List Event → ℕ → ℕ → ℕ → Bool
 holds_first_block all number i j =
     held_if_open all number i j (option_and_then (λ (event : Event). opened_in event.reply) (slice_get all i))
 
--- three servers were down before: six copies are listed, and stay. Three fetches fail, and a fourth. Four servers go down while
--- the file is open
+-- three servers were down before: six copies are readable at the opening. Three fetches fail, and a fourth. Four servers go down
+-- while the file is open: the block was held at the first opening, and isn't at the second one
 pub record HeldBlocks : Type 0 where
   pub degraded_get : holds_first_block (events degraded (steps 1 34)) 5 26 33 ≡ true
   pub three_fetches_fail : holds_first_block (events put_and_get three_fail) 2 20 30 ≡ true
   pub four_fetches_fail : holds_first_block (events put_and_get four_fail) 2 20 30 ≡ false
-  pub four_servers_stop : holds_first_block (events stopped_in_get stopping_order) 2 20 38 ≡ false
+  pub first_opening : holds_first_block (events stopped_in_get stopping_order) 2 20 38 ≡ true
+  pub second_opening : holds_first_block (events stopped_in_get stopping_order) 2 39 40 ≡ false
 
 -- ---- drawn orders
 
@@ -144,7 +146,7 @@ both_holdings =
 unfoldable pub are_right : (ℕ → List ℕ) → Server → Bool
 are_right bytes server =
     list_all
-    (λ (copy : ChunkKey × List ℕ). pointwise nat_eq copy.1 (right_bytes moved_in_get.layout bytes copy.0))
+    (λ (copy : ChunkKey × Chunk). pointwise nat_eq copy.1.bytes (right_bytes moved_in_get.layout bytes copy.0))
     server.copies
 
 pub record InTheMidst : Type 0 where

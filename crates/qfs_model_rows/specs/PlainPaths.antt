@@ -1,10 +1,9 @@
 -- Files that are put and read while every server is up.
-use Rattle.std.specs.Prelude.{◌≡◌, ℕ, List, [], ◌∷◌, ◌++◌, codes, replicate}
+use Rattle.std.specs.Prelude.{ℕ, List, [], ◌∷◌, ◌++◌, codes, replicate}
 use Rattle.qfs_base.specs.NameTree.{PathNames}
 use Rattle.qfs_base.specs.declared.script.Script.{Script}
 use Rattle.qfs_model_server.specs.Server.{Copies}
-use Rattle.qfs_record.specs.ChunkRecord.{chunk_record}
-use Rattle.qfs_model_rows.specs.Prints.{Prints, Stores, one_copy, first_key}
+use Rattle.qfs_model_rows.specs.Prints.{Prints, Stores, one_copy}
 use Rattle.qfs_model_rows.specs.Scripts.{path_of, path_a, put_hex, put_fill, get_all, get_range, put_one, put_five, script_of, small_script, steps, history_of_put}
 
 -- five bytes are put and read again
@@ -54,17 +53,6 @@ one_row_copies =
     ∷ one_copy 8 1 (replicate 16 0x3c)
     ∷ []
 
--- what the eighth device holds: the chunk record of slot 7
-abbrev pub eighth_device : List ℕ
-eighth_device =
-    0x51 ∷ 0x46 ∷ 0x43 ∷ 0x31
-    ∷ 0 ∷ 0 ∷ 0 ∷ 1
-    ∷ 0 ∷ 0 ∷ 0 ∷ 0
-    ∷ 7
-    ∷ 0 ∷ 0 ∷ 0 ∷ 1
-    ∷ 0 ∷ 0 ∷ 0 ∷ 0x10
-    ∷ replicate 16 0x3f
-
 pub record OneRow : Type 0 where
   pub prints : Prints one_row (steps 1 20)
       (codes "1 1 at 1 stored 96"
@@ -73,7 +61,6 @@ pub record OneRow : Type 0 where
       ∷ codes "order 1x20"
       ∷ [])
   pub stores : Stores one_row (steps 1 20) one_row_copies
-  pub eighth_record : chunk_record (first_key 1 7 1) (replicate 16 0x3f) ≡ eighth_device
 
 -- one byte more: it begins a second row, which is filled with zeros
 abbrev pub two_rows : Script

@@ -26,6 +26,10 @@ put_hex path bytes = Does.File (File.Put path (Form.Hex bytes))
 abbrev pub put_fill : PathNames → ℕ → ℕ → Command
 put_fill path byte len = Does.File (File.Put path (Form.Fill byte len))
 
+-- put P pattern START LEN
+abbrev pub put_pattern : PathNames → ℕ → ℕ → Command
+put_pattern path start len = Does.File (File.Put path (Form.Pattern start len))
+
 -- get P, and get P FROM COUNT
 abbrev pub get_all : PathNames → Command
 get_all path = Does.File (File.Get path None)
@@ -57,6 +61,7 @@ abbrev pub script_of : Shape → ℕ → List (List Command) → Script
 script_of layout servers actors = record {
   layout = layout;
   servers = servers;
+  term = 0;
   audit = false;
   phases = actors ∷ [];
   order = None;
@@ -76,6 +81,10 @@ steps actor count = steps_ending Ended.Done actor count
 
 abbrev pub failing_steps : ℕ → ℕ → List Step
 failing_steps actor count = steps_ending Ended.Failed actor count
+
+-- steps that came out done: so many of an actor, and then so many of another
+abbrev pub taken : List (ℕ × ℕ) → List Step
+taken runs = flat_map (λ (run : ℕ × ℕ). steps run.0 run.1) runs
 
 -- lines of a text
 abbrev pub Lines : Type 0

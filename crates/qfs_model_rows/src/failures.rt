@@ -7,12 +7,12 @@ pub fn degraded_get()
     ensures { DegradedGet }
 {}
 
-/// Four servers are down before a get opens its file.
+/// Four servers are down before a get opens its file, as often as it may.
 pub fn too_few_listed()
     ensures { TooFewListed }
 {}
 
-/// Four servers go down while a get reads.
+/// Four servers go down while a get reads, and are down when it opens its file again.
 pub fn too_few_answer()
     ensures { TooFewAnswer }
 {}

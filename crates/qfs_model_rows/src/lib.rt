@@ -3,11 +3,18 @@
 //! script and is whole, and what the run prints.
 #![tactic(auto)]
 
+mod attempts;
 mod audits;
+mod drawn_files;
+mod drawn_rules;
+mod drawn_servers;
 mod failures;
 mod given_orders;
+mod leases;
 mod meanings;
 mod plain_paths;
+mod promised;
 mod refusals;
 mod repairs;
 mod restarts;
+mod upgrades;

@@ -3,7 +3,8 @@
 
 ghost use Rattle.qfs_model_rows.specs.Meanings.{HeldBlocks, DrawnOrders, Deletions, AgreeingReplies, InTheMidst};
 
-/// A block is held where six listed copies stay readable while a get runs, and not where only five do.
+/// A block is held where six copies are readable when a get opens its file and no fetch of them fails,
+/// and not where only five do.
 pub fn held_blocks()
     ensures { HeldBlocks }
 {}

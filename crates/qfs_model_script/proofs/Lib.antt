@@ -1,3 +1,4 @@
 pub mod OnLiterals
 pub mod MadeNames
+pub mod SmallPuts
 pub mod MadeLimits

@@ -1,9 +1,9 @@
 -- A made script keeps the ranges and limits of scripts: it has twenty actors with at most 121 commands each, and each of its puts
 -- has at most 40,000 bytes.
-use Rattle.std.proofs.Common.{◌≡◌, ℕ, zero, suc, ◌+◌, ◌-◌, ◌*◌, ◌%◌, ◌^◌, ◌<◌, ◌≤◌, List, [], ◌∷◌, ◌++◌, length, take, drop, map, min, get_or, Option, Some, None, refl, arith, All, length-take}
-use Rattle.std.specs.Prelude.{flat_map, filter_map, IfSome}
+use Rattle.std.proofs.Common.{◌≡◌, ℕ, zero, suc, ◌+◌, ◌-◌, ◌*◌, ◌%◌, ◌^◌, ◌<◌, ◌≤◌, List, [], ◌∷◌, length, take, drop, map, min, get_or, None, refl, arith, All, length-take}
+use Rattle.std.specs.Prelude.{flat_map}
 use Rattle.std.specs.Int.{div_ceil}
-use Rattle.std.specs.List.{cons_option, range_with_len}
+use Rattle.std.specs.List.{range_with_len}
 use Rattle.std.proofs.lemmas.Grind.{div_ceil_times}
 use Rattle.std.proofs.lemmas.List.Concat.{length-flat_map}
 use Rattle.std.proofs.lemmas.List.FromFn.{length-map-range_with_len, length-range_with_len}
@@ -18,26 +18,10 @@ use Rattle.qfs_base.specs.declared.script.Script.{Script}
 use Rattle.qfs_model_script.specs.InScript.{IsCommand, IsScript, actors_of, len_put, lens_put, blocks_in, chunk_bytes_of_block, chunk_bytes_in}
 use Rattle.qfs_model_script.specs.MadeScript.{file_in, files_each, words_each, writers, words_of_writer, puts_from, writer, reader, emptied_server, writing_phase, repairing_phase, reading_phase, script_of_words, words_of, script_generator, made_script}
 use Rattle.qfs_model_script.proofs.MadeNames.{directory_path, file_path, IsWord, words_fit}
+use Rattle.qfs_model_script.proofs.SmallPuts.{each_all, each_then, each_flat, IsSmall, lens_small, length-lens}
 use lib.Count.{ones}
 
 -- ---- what holds of each
-
-each_all : {X : Type 0} (P : X → Type 0) (xs : List X) → Each P xs → All P xs
-each_all P [] each k d inside = absurd (omega arith)
-each_all P (x ∷ xs) each zero d inside = each.0
-each_all P (x ∷ xs) each (suc k) d inside = each_all P xs each.1 k d (omega arith)
-
-each_then : {X : Type 0} (P Q : X → Type 0) → ((x : X) → P x → Q x) → (xs : List X) → Each P xs → Each Q xs
-each_then P Q then [] each = tt
-each_then P Q then (x ∷ xs) each = (then x each.0, each_then P Q then xs each.1)
-
-each_append : {X : Type 0} (P : X → Type 0) (xs ys : List X) → Each P xs → Each P ys → Each P (xs ++ ys)
-each_append P [] ys each more = more
-each_append P (x ∷ xs) ys each more = (each.0, each_append P xs ys each.1 more)
-
-each_flat : {X : Type 0} (P : X → Type 0) (lists : List (List X)) → Each (Each P) lists → Each P (flat_map (λ xs. xs) lists)
-each_flat P [] each = tt
-each_flat P (xs ∷ lists) each = each_append P xs (flat_map (λ xs. xs) lists) each.0 (each_flat P lists each.1)
 
 each_range : {X : Type 0} (P : X → Type 0) (f : ℕ → X) (a n : ℕ) → ((k : ℕ) → a ≤ k → k < a + n → P (f k)) → Each P (map f (range_with_len a n))
 each_range P f a zero holds = tt
@@ -56,15 +40,11 @@ each_drop P (suc n) (x ∷ xs) each = each_drop P n xs each.1
 
 -- ---- commands
 
--- a put of few bytes, or no put
-abbrev pub IsSmall : Command → Type 0
-IsSmall command = IfSome (len_put command) (λ len. len ≤ 40000)
-
 -- the commands of an actor are few, in range and small
 record AreFew (commands : List Command) : Type 0 where
   few : length commands ≤ 121
   ranges : Each (IsCommand 12) commands
-  small : Each IsSmall commands
+  small : Each (IsSmall 40000) commands
 
 length-puts_from : (a k : ℕ) (words : List ℕ) → length (puts_from a k words) ≤ length words
 unfolding puts_from
@@ -79,7 +59,7 @@ puts_ranges a k (word ∷ []) small few each = tt
 puts_ranges a k (start ∷ len ∷ words) small few each =
     ((file_path a k small (omega (arith, few)), omega arith, each.0), puts_ranges a (k + 1) words small (omega (arith, few)) each.1.1)
 
-puts_small : (a k : ℕ) (words : List ℕ) → Each IsSmall (puts_from a k words)
+puts_small : (a k : ℕ) (words : List ℕ) → Each (IsSmall 40000) (puts_from a k words)
 unfolding puts_from len_put
 puts_small a k [] = tt
 puts_small a k (word ∷ []) = tt
@@ -110,7 +90,7 @@ reader_few a small =
     record {
       few = omega arith;
       ranges = each_range (IsCommand 12) (get_of a) 1 files_each (λ k from to. get_range a k small (omega (arith, to)));
-      small = each_range IsSmall (get_of a) 1 files_each (λ k from to. tt);
+      small = each_range (IsSmall 40000) (get_of a) 1 files_each (λ k from to. tt);
     }
 
 actors_few : (words : List ℕ) → Each IsWord words → Each AreFew (actors_of (script_of_words words))
@@ -137,25 +117,6 @@ actors_few words each =
     )
 
 -- ---- puts
-
-small_lens : (len : Option ℕ) (lens : List ℕ) → IfSome len (λ len. len ≤ 40000) → Each (λ len. len ≤ 40000) lens
-    → Each (λ len. len ≤ 40000) (cons_option len lens)
-small_lens None lens is each = each
-small_lens (Some len) lens is each = (is, each)
-
-lens_small : (commands : List Command) → Each IsSmall commands → Each (λ len. len ≤ 40000) (filter_map len_put commands)
-lens_small [] each = tt
-lens_small (command ∷ commands) each =
-    small_lens (len_put command) (filter_map len_put commands) each.0 (lens_small commands each.1)
-
-length-cons : (len : Option ℕ) (lens : List ℕ) (n : ℕ) → length lens ≤ n → length (cons_option len lens) ≤ suc n
-length-cons None lens n short = omega (arith, short)
-length-cons (Some len) lens n short = omega (arith, short)
-
-length-lens : (commands : List Command) → length (filter_map len_put commands) ≤ length commands
-length-lens [] = omega arith
-length-lens (command ∷ commands) =
-    length-cons (len_put command) (filter_map len_put commands) (length commands) (length-lens commands)
 
 -- the layout of made scripts
 abbrev pub made_layout : Shape
@@ -203,8 +164,8 @@ module _ (words : List ℕ) (each : Each IsWord words) where
   small_puts : Each (λ len. len ≤ 40000) (lens_put script)
   unfolding actors
   small_puts =
-      lens_small (flat_map (λ commands. commands) actors)
-      (each_flat IsSmall actors (each_then AreFew (Each IsSmall) (λ commands is. is.small) actors few))
+      lens_small 40000 (flat_map (λ commands. commands) actors)
+      (each_flat (IsSmall 40000) actors (each_then AreFew (Each (IsSmall 40000)) (λ commands is. is.small) actors few))
 
   few_puts : length (lens_put script) ≤ 2420
   unfolding actors
@@ -218,6 +179,7 @@ module _ (words : List ℕ) (each : Each IsWord words) where
         stripe = (omega arith, omega arith, refl);
         rows = (omega arith, omega arith);
         servers = (omega arith, omega arith);
+        term = omega arith;
         phases = (omega arith, omega arith);
         few_actors = omega (arith, length-actors);
         few_commands = each_then AreFew (λ commands. length commands ≤ 4096) (λ commands is. omega (arith, is.few)) actors few;

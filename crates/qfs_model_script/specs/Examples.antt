@@ -13,6 +13,7 @@ abbrev pub put_and_get : Script
 put_and_get = record {
   layout = record { s = 16; r = 2 };
   servers = 9;
+  term = 0;
   audit = false;
   phases = ((Does.File (File.Put (codes "a" ∷ []) (Form.Hex (1 ∷ 2 ∷ 3 ∷ 4 ∷ 5 ∷ [])))
       ∷ Does.File (File.Get (codes "a" ∷ []) None)

@@ -6,6 +6,7 @@ use Rattle.qfs_base.specs.Layout.{blocks_of, rows_of}
 use Rattle.qfs_base.specs.Path.{IsPath}
 use Rattle.qfs_base.specs.Recipe.{IsRecipe, bytes_of}
 use Rattle.qfs_base.specs.Shape.{Shape, IsStripe, IsRowCount}
+use Rattle.qfs_base.specs.Sizes.{SLOTS, MOST_FILE_BYTES, MOST_SERVERS}
 use Rattle.qfs_base.specs.Table.{Each}
 use Rattle.qfs_base.specs.declared.command.Command.{Command}
 use Rattle.qfs_base.specs.declared.command.Command.TheVariants as Does
@@ -15,6 +16,7 @@ use Rattle.qfs_base.specs.declared.command.Range.{Range}
 use Rattle.qfs_base.specs.declared.history.Step.{Step}
 use Rattle.qfs_base.specs.declared.recipe.Form.{Form}
 use Rattle.qfs_base.specs.declared.script.Script.{Script}
+use Rattle.qfs_model_script.specs.Limits.{MOST_PHASES, MOST_ACTORS, MOST_COMMANDS, MOST_BLOCKS_OF_PUT, MOST_BLOCKS, MOST_BYTES_OF_CHUNKS, LAST_INDEX, MOST_BUDGET, MOST_TICKS}
 
 -- ---- the numbers of a command
 
@@ -24,24 +26,24 @@ IsFromOne last number = (1 ≤ number) × (number ≤ last)
 
 -- the index of a block, and a slot of it
 abbrev pub IsIndex : ℕ → Type 0
-IsIndex index = index ≤ 65535
+IsIndex index = index ≤ LAST_INDEX
 
 abbrev pub IsSlot : ℕ → Type 0
-IsSlot slot = slot < 9
+IsSlot slot = slot < SLOTS
 
 -- how often a heal, rebalance, evacuation or sweep goes on at most, how long a server hibernates, and an actor's number
 abbrev pub IsBudget : ℕ → Type 0
-IsBudget budget = IsFromOne 100000 budget
+IsBudget budget = IsFromOne MOST_BUDGET budget
 
 abbrev pub IsTicks : ℕ → Type 0
-IsTicks ticks = IsFromOne 1000 ticks
+IsTicks ticks = IsFromOne MOST_TICKS ticks
 
 abbrev pub IsActorNumber : ℕ → Type 0
-IsActorNumber actor = IsFromOne 64 actor
+IsActorNumber actor = IsFromOne MOST_ACTORS actor
 
 -- a range of a file's bytes
 abbrev pub IsRange : Range → Type 0
-IsRange range = (range.from ≤ 268435456) × (range.count ≤ 268435456)
+IsRange range = (range.from ≤ MOST_FILE_BYTES) × (range.count ≤ MOST_FILE_BYTES)
 
 -- the bytes and numbers of a recipe
 abbrev pub IsByte : ℕ → Type 0
@@ -77,6 +79,7 @@ IsCommand servers (Does.Stop server) = IsFromOne servers server
 IsCommand servers (Does.Start server) = IsFromOne servers server
 IsCommand servers (Does.Wipe server) = IsFromOne servers server
 IsCommand servers (Does.Hibernate server ticks) = IsFromOne servers server × IsTicks ticks
+IsCommand servers (Does.Upgrade server) = IsFromOne servers server
 IsCommand servers Does.Tick = ⊤
 IsCommand servers (Does.Drop actor) = IsActorNumber actor
 IsCommand servers Does.Checkpoint = ⊤
@@ -102,22 +105,24 @@ abbrev pub blocks_in : Shape → ℕ → ℕ
 blocks_in layout len = blocks_of layout.s layout.r len
 
 abbrev pub chunk_bytes_of_block : Shape → ℕ → ℕ → ℕ
-chunk_bytes_of_block layout len index = 9 * (rows_of layout.s layout.r len index * layout.s)
+chunk_bytes_of_block layout len index = SLOTS * (rows_of layout.s layout.r len index * layout.s)
 
 abbrev pub chunk_bytes_in : Shape → ℕ → ℕ
 chunk_bytes_in layout len = sum_by (chunk_bytes_of_block layout len) (range_with_len 0 (blocks_in layout len))
 
 -- ---- scripts
 
+-- a term of 0 ticks says that leases last
 pub record IsScript (script : Script) : Type 0 where
   pub stripe : IsStripe script.layout.s
   pub rows : IsRowCount script.layout.r
-  pub servers : IsFromOne 64 script.servers
-  pub phases : IsFromOne 16 (length script.phases)
-  pub few_actors : length (actors_of script) ≤ 64
-  pub few_commands : Each (λ commands. length commands ≤ 4096) (actors_of script)
+  pub servers : IsFromOne MOST_SERVERS script.servers
+  pub term : script.term ≤ MOST_TICKS
+  pub phases : IsFromOne MOST_PHASES (length script.phases)
+  pub few_actors : length (actors_of script) ≤ MOST_ACTORS
+  pub few_commands : Each (λ commands. length commands ≤ MOST_COMMANDS) (actors_of script)
   pub commands : Each (Each (IsCommand script.servers)) (actors_of script)
-  pub blocks_of_put : Each (λ len. blocks_in script.layout len ≤ 65536) (lens_put script)
-  pub blocks : sum_by (blocks_in script.layout) (lens_put script) ≤ 262144
-  pub chunk_bytes : sum_by (chunk_bytes_in script.layout) (lens_put script) ≤ 3221225472
+  pub blocks_of_put : Each (λ len. blocks_in script.layout len ≤ MOST_BLOCKS_OF_PUT) (lens_put script)
+  pub blocks : sum_by (blocks_in script.layout) (lens_put script) ≤ MOST_BLOCKS
+  pub chunk_bytes : sum_by (chunk_bytes_in script.layout) (lens_put script) ≤ MOST_BYTES_OF_CHUNKS
   pub order : IfSome script.order (Each (λ (step : Step). IsActorNumber step.actor))

@@ -1,3 +1,4 @@
+pub mod Limits
 pub mod InScript
 pub mod ScriptText
 pub mod MadeScript

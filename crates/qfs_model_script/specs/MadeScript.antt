@@ -95,6 +95,7 @@ unfoldable pub script_of_words : List ℕ → Script
 script_of_words words = record {
   layout = record { s = 256; r = 8 };
   servers = made_servers;
+  term = 0;
   audit = true;
   phases = writing_phase words ∷ repairing_phase words ∷ reading_phase ∷ [];
   order = None;

@@ -1,5 +1,5 @@
 -- How a script is printed: one blank between two words, no empty lines and no remarks.
-use Rattle.std.specs.Prelude.{ℕ, ◌+◌, Bool, true, false, List, [], ◌∷◌, ◌++◌, codes, decimal, length, map, flat_map, Option, Some, None}
+use Rattle.std.specs.Prelude.{ℕ, zero, suc, ◌+◌, Bool, true, false, List, [], ◌∷◌, ◌++◌, codes, decimal, length, map, flat_map, Option, Some, None}
 use Rattle.hex.specs.Hex.{encode_lower}
 use Rattle.qfs_base.specs.Path.{path_text}
 use Rattle.qfs_base.specs.declared.command.Command.{Command}
@@ -52,6 +52,7 @@ command_line (Does.Stop server) = line (codes "stop") (decimal server ∷ [])
 command_line (Does.Start server) = line (codes "start") (decimal server ∷ [])
 command_line (Does.Wipe server) = line (codes "wipe") (decimal server ∷ [])
 command_line (Does.Hibernate server ticks) = line (codes "hibernate") (decimal server ∷ decimal ticks ∷ [])
+command_line (Does.Upgrade server) = line (codes "upgrade") (decimal server ∷ [])
 command_line Does.Tick = line (codes "tick") []
 command_line (Does.Drop actor) = line (codes "drop") (decimal actor ∷ [])
 command_line Does.Checkpoint = line (codes "checkpoint") []
@@ -59,17 +60,23 @@ command_line Does.Restart = line (codes "restart") []
 
 -- ---- the whole script
 
--- the lines before the first phase
+-- the line that gives leases a term, if they have one
+unfoldable pub term_word : ℕ → Lines
+term_word zero = []
+term_word (suc ticks) = line (codes "term") (decimal (suc ticks) ∷ []) ∷ []
+
+-- the line that asks for an audit, if there is one
 unfoldable pub audit_word : Bool → Lines
 audit_word false = []
 audit_word true = line (codes "audit") [] ∷ []
 
+-- the lines before the first phase
 unfoldable pub head_lines : Script → Lines
 head_lines script =
     line (codes "qfs") (codes "1" ∷ [])
     ∷ line (codes "layout") (decimal script.layout.s ∷ decimal script.layout.r ∷ [])
     ∷ line (codes "servers") (decimal script.servers ∷ [])
-    ∷ audit_word script.audit
+    ∷ term_word script.term ++ audit_word script.audit
 
 -- the lines of these actors, the first of which has this number
 unfoldable pub actor_lines : ℕ → List (List Command) → Lines

@@ -3,13 +3,7 @@
 use Rattle.std.specs.Prelude.{◌≡◌, ℕ, ◌+◌, ◌*◌, ◌<◌, List, [], ◌∷◌, length, take, map, bit_xor, slice_index, slice_index_or, All}
 use Rattle.std.specs.List.{range_with_len}
 use Rattle.qfs_galois.specs.Field.{product, power}
-
--- how many of a block's slots hold the file's own bytes, and how many there are with the parity slots
-abbrev pub DATA_SLOTS : ℕ
-DATA_SLOTS = 6
-
-abbrev pub SLOTS : ℕ
-SLOTS = 9
+pub use Rattle.qfs_base.specs.Sizes.{SLOTS, DATA_SLOTS}
 
 -- the slots of the file's own bytes, in order
 abbrev pub data_slots : List ℕ

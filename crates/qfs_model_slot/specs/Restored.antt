@@ -8,6 +8,7 @@
 use Rattle.std.specs.Prelude.{ℕ, ◌+◌, ◌-◌, ◌*◌, Bool, cond, not, ◌&&◌, ◌||◌, ltb, ◌==◌, List, [], ◌∷◌, map, find, Option, unwrap_or, bit_xor, slice_index}
 use Rattle.std.specs.List.{range_with_len}
 use Rattle.qfs_base.specs.Mask.{all_slots, has_slot}
+use Rattle.qfs_base.specs.Sizes.{SLOTS, DATA_SLOTS}
 use Rattle.qfs_galois.specs.Field.{product, power, inverse}
 use Rattle.qfs_model_slot.specs.CodeWord.{slot_at, column}
 
@@ -21,9 +22,9 @@ dot (x ∷ xs) (y ∷ ys) = bit_xor (product x y) (dot xs ys)
 unfoldable pub weighed : List ℕ → ℕ → List (List ℕ) → List ℕ
 weighed weights size slots = map (λ t. dot weights (column slots t)) (range_with_len 0 size)
 
--- what slot j counts in the equation of parity slot 6 + e
+-- what slot j counts in the equation of parity slot e, from 0
 unfoldable pub counts : ℕ → ℕ → ℕ
-counts e j = cond (ltb j 6) (power 2 (e * j)) (cond (j == 6 + e) 1 0)
+counts e j = cond (ltb j DATA_SLOTS) (power 2 (e * j)) (cond (j == DATA_SLOTS + e) 1 0)
 
 -- what it counts in the three equations
 unfoldable pub counts_of : ℕ → List ℕ
@@ -51,7 +52,7 @@ is_spare have want other j = not (j == want) && not (j == other) && not (has_slo
 
 -- the first such slot from one on
 unfoldable pub first_spare : List ℕ → ℕ → ℕ → ℕ → Option ℕ
-first_spare have want other from = find (is_spare have want other) (range_with_len from (9 - from))
+first_spare have want other from = find (is_spare have want other) (range_with_len from (SLOTS - from))
 
 -- one more slot to leave out beside the wanted one and another: the first that isn't at hand, or the last where each is
 unfoldable pub left_out : List ℕ → ℕ → ℕ → ℕ

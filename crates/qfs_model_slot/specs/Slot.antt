@@ -3,7 +3,8 @@ use Rattle.std.specs.Prelude.{ℕ, ◌-◌, ◌*◌, Bool, true, false, List, ma
 use Rattle.std.specs.List.{range_with_len}
 use Rattle.qfs_base.specs.Shape.{Shape}
 use Rattle.qfs_base.specs.Layout.{rows_of, offset_of}
-use Rattle.qfs_model_slot.specs.CodeWord.{DATA_SLOTS, data_slots, parity}
+use Rattle.qfs_base.specs.Sizes.{DATA_SLOTS}
+use Rattle.qfs_model_slot.specs.CodeWord.{data_slots, parity}
 
 -- byte a of data slot j of block k: the file's byte that stands there, or 0 past the file's end
 unfoldable pub data_byte : Shape → List ℕ → ℕ → ℕ → ℕ → ℕ

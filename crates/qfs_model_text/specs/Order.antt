@@ -1,13 +1,11 @@
 -- The order line: the steps as runs of equal ones.
-use Rattle.std.specs.Prelude.{ℕ, ◌+◌, ◌==◌, ◌&&◌, nat_lt, Bool, true, false, if◌then◌else◌, List, [], ◌∷◌, ◌++◌, codes, decimal}
+use Rattle.std.specs.Prelude.{◌≡◌, ℕ, ◌+◌, ◌^◌, ◌<◌, ◌==◌, ◌&&◌, nat_lt, Bool, true, false, if◌then◌else◌, List, [], ◌∷◌, ◌++◌, codes, decimal}
 use Rattle.qfs_base.specs.declared.history.Step.{Step}
 use Rattle.qfs_base.specs.declared.history.Outcome.{Outcome}
 use Rattle.qfs_base.specs.declared.history.Outcome.TheVariants as Ended
+use Rattle.qfs_base.specs.Sizes.{LONGEST_RUN}
+use Rattle.qfs_base.specs.Table.{Each}
 use Rattle.qfs_model_text.specs.Line.{Words, line}
-
--- the largest count of a run
-abbrev pub longest_run : ℕ
-longest_run = 4294967295
 
 -- whether two steps ended alike
 unfoldable pub same_outcome : Outcome → Outcome → Bool
@@ -24,7 +22,7 @@ same_outcome Ended.NoMemory Ended.NoMemory = true
 -- whether a step goes on a run of so many like this one
 abbrev pub goes_on_run : Step → ℕ → Step → Bool
 goes_on_run of_run count step =
-    step.actor == of_run.actor && same_outcome step.outcome of_run.outcome && nat_lt count longest_run
+    step.actor == of_run.actor && same_outcome step.outcome of_run.outcome && nat_lt count LONGEST_RUN
 
 -- how a step that didn't come out done is marked: f where a device failed, m where memory was wanting
 unfoldable pub outcome_mark : Outcome → List ℕ
@@ -56,3 +54,11 @@ runs (step ∷ steps) = runs_after step 1 steps
 -- the order line
 abbrev pub order_line : List Step → List ℕ
 order_line order = line (codes "order") (runs order)
+
+-- a step of an actor with a number of 16 bits
+abbrev pub HasActor : Step → Type 0
+HasActor step = step.actor < 2 ^ 16
+
+-- an order line tells its order: two orders with one line are the same
+abbrev pub LinesTellOrders : Type 0
+LinesTellOrders = (a b : List Step) → Each HasActor a → Each HasActor b → order_line a ≡ order_line b → a ≡ b

@@ -1,11 +1,16 @@
 -- The actors of a script start with a bounded number of steps.
 use Rattle.std.proofs.Common.{ℕ, zero, suc, ◌+◌, ◌<◌, ◌≤◌, ◌^◌, List, [], ◌∷◌, length, arith, All}
-use Rattle.qfs_base.specs.Shape.{Shape, IsRowCount}
+use Rattle.std.specs.Prelude.{flat_map}
+use Rattle.std.proofs.lemmas.List.Concat.{length-flat_map}
+use Rattle.std.proofs.lemmas.List.Sums.{count_by-le-length, sum_by-le}
+use Rattle.qfs_base.specs.Rules.{all_commands, may_take_away, tries_of, rules_of}
+use Rattle.qfs_base.specs.Shape.{IsStripe, IsRowCount}
 use Rattle.qfs_base.specs.Table.{Each}
 use Rattle.qfs_base.specs.declared.command.Command.{Command}
 use Rattle.qfs_base.specs.declared.command.Command.TheVariants as Does
 use Rattle.qfs_base.specs.declared.command.FileCommand.{FileCommand}
 use Rattle.qfs_base.specs.declared.command.FileCommand.TheVariants as File
+use Rattle.qfs_base.specs.declared.rules.Rules.{Rules}
 use Rattle.qfs_base.specs.declared.script.Script.{Script}
 use Rattle.qfs_model_actor.specs.Actor.{Actor}
 use Rattle.qfs_model_actor.specs.Steps.{IsFileInRange, IsInRange, left}
@@ -41,6 +46,7 @@ in_range servers (Does.Stop server) is = tt
 in_range servers (Does.Start server) is = tt
 in_range servers (Does.Wipe server) is = tt
 in_range servers (Does.Hibernate server ticks) is = tt
+in_range servers (Does.Upgrade server) is = tt
 in_range servers Does.Tick is = tt
 in_range servers (Does.Drop actor) is = tt
 in_range servers Does.Checkpoint is = tt
@@ -53,16 +59,32 @@ all_in_range servers commands each k d inside = in_range servers _ (each_all (Is
 abbrev pub IsBounded : Actor → Type 0
 IsBounded actor = left actor < 2 ^ 56
 
-actors_bounded : (layout : Shape) (servers number : ℕ) (actors : List (List Command)) → IsRowCount layout.r
+-- a get of a script has few attempts, since a script has few commands
+few_tries : (script : Script) → IsScript script → tries_of script < 2 ^ 19
+unfolding tries_of all_commands
+few_tries script is =
+    let actors : List (List Command) = actors_of script in
+    omega (
+      arith,
+      count_by-le-length may_take_away (flat_map (λ commands. commands) actors),
+      length-flat_map (λ (commands : List Command). commands) actors,
+      sum_by-le (λ (commands : List Command). length commands) 4096 actors (each_all _ actors is.few_commands),
+      is.few_actors,
+    )
+
+actors_bounded : (rules : Rules) (servers number : ℕ) (actors : List (List Command))
+    → IsStripe rules.layout.s → IsRowCount rules.layout.r → rules.tries < 2 ^ 19
     → Each (λ commands. length commands ≤ 4096) actors → Each (Each (IsCommand servers)) actors
-    → Each IsBounded (numbered_actors layout number actors)
+    → Each IsBounded (numbered_actors rules number actors)
 unfolding numbered_actors
-actors_bounded layout servers number [] rows short each = tt
-actors_bounded layout servers number (commands ∷ more) rows short each = (
-  left-starting layout number commands rows short.0 (all_in_range servers commands each.0),
-  actors_bounded layout servers (number + 1) more rows short.1 each.1,
+actors_bounded rules servers number [] stripe rows few short each = tt
+actors_bounded rules servers number (commands ∷ more) stripe rows few short each = (
+  left-starting rules number commands stripe rows few short.0 (all_in_range servers commands each.0),
+  actors_bounded rules servers (number + 1) more stripe rows few short.1 each.1,
 )
 
 pub start_bounded : (script : Script) → IsScript script → Each IsBounded (start script).actors
-unfolding start
-start_bounded script is = actors_bounded script.layout script.servers 1 (actors_of script) is.rows is.few_commands is.commands
+unfolding start rules_of
+start_bounded script is =
+    actors_bounded (rules_of script) script.servers 1 (actors_of script)
+    is.stripe is.rows (few_tries script is) is.few_commands is.commands

@@ -99,7 +99,7 @@ is_over-one script world commands actor phases actors finished =
 -- the metaserver served the actor's request, and the actor took its reply
 pub move-meta : (world : World) (actor : Actor) (request : MetaRequest) (meta : MetaImage) (reply : MetaReply)
     → world.actors ≡ actor ∷ [] → request_of actor ≡ Some (To.Meta request)
-    → meta_step world.layout 1 request Ended.Done world.meta ≡ record { meta = meta; reply = reply }
+    → meta_step world.rules 1 request Ended.Done world.meta ≡ record { meta = meta; reply = reply }
     → move world done_step
     ≡ record world { meta = meta; actors = after_reply actor (From.Meta reply) ∷ [] }
 unfolding node_turn meta_turned handed_over renumbered
@@ -110,7 +110,7 @@ move-meta world actor request meta reply actors asked served =
 
 -- what the metaserver answers is the reply of the node's turn
 pub reply-meta : (world : World) (request : MetaRequest) (meta : MetaImage) (reply : MetaReply)
-    → meta_step world.layout 1 request Ended.Done world.meta ≡ record { meta = meta; reply = reply }
+    → meta_step world.rules 1 request Ended.Done world.meta ≡ record { meta = meta; reply = reply }
     → (node_turn world 1 Ended.Done (To.Meta request)).reply ≡ From.Meta reply
 unfolding node_turn meta_turned
 reply-meta world request meta reply served = ap (λ (s : Served). From.Meta s.reply) served

@@ -1,7 +1,6 @@
 -- A step looks at one actor and one node, and changes no other.
 use Rattle.std.proofs.Common.{◌≡◌, ℕ, zero, suc, List, [], ◌∷◌, Option, Some, None, refl, sym, ◌∙◌, ap, ap₂, subst}
 use Rattle.std.specs.Option.{option_map, option_and_then}
-use Rattle.qfs_base.specs.Shape.{Shape}
 use Rattle.qfs_base.specs.declared.history.Outcome.{Outcome}
 use Rattle.qfs_base.specs.declared.history.Step.{Step}
 use Rattle.qfs_base.specs.declared.image.MetaImage.{MetaImage}
@@ -10,6 +9,7 @@ use Rattle.qfs_base.specs.declared.request.ChunkRequest.{ChunkRequest}
 use Rattle.qfs_base.specs.declared.request.MetaRequest.{MetaRequest}
 use Rattle.qfs_base.specs.declared.request.NodeRequest.{NodeRequest}
 use Rattle.qfs_base.specs.declared.request.NodeRequest.TheVariants as To
+use Rattle.qfs_base.specs.declared.rules.Rules.{Rules}
 use Rattle.qfs_model_actor.specs.Actor.{Actor, request_of, node_of, after_reply}
 use Rattle.qfs_model_actor.specs.Work.{node_of_request}
 use Rattle.qfs_model_meta.specs.Step.{Served, meta_step}
@@ -20,7 +20,7 @@ use Rattle.qfs_model_world.specs.World.{World, Turned, numbered, renumbered, nod
 
 -- ---- what stands at numbers
 
-set-there : {X : Type 0} (xs : List X) (number : ℕ) (old new : X) → numbered xs number ≡ Some old
+pub set-there : {X : Type 0} (xs : List X) (number : ℕ) (old new : X) → numbered xs number ≡ Some old
     → numbered (renumbered xs number new) number ≡ Some new
 unfolding numbered renumbered
 set-there xs zero old new found = absurd (cc)
@@ -28,7 +28,7 @@ set-there [] (suc n) old new found = absurd (cc)
 set-there (x ∷ xs) (suc zero) old new found = refl
 set-there (x ∷ xs) (suc (suc n)) old new found = set-there xs (suc n) old new found
 
-set-elsewhere : {X : Type 0} (xs : List X) (number other : ℕ) (new : X) → (other ≡ number → ⊥)
+pub set-elsewhere : {X : Type 0} (xs : List X) (number other : ℕ) (new : X) → (other ≡ number → ⊥)
     → numbered (renumbered xs number new) other ≡ numbered xs other
 unfolding numbered renumbered
 set-elsewhere xs zero other new apart = refl
@@ -43,14 +43,14 @@ set-elsewhere (x ∷ xs) (suc (suc n)) (suc (suc m)) new apart =
 -- ---- a node's turn
 
 -- what a node's turn leaves as it was
-record TurnKeeps (before : World) (node : ℕ) (behind : World) : Type 0 where
-  layout : behind.layout ≡ before.layout
-  actors : behind.actors ≡ before.actors
-  nodes : (other : ℕ) → (other ≡ node → ⊥) → node_at behind other ≡ node_at before other
+pub record TurnKeeps (before : World) (node : ℕ) (behind : World) : Type 0 where
+  pub rules : behind.rules ≡ before.rules
+  pub actors : behind.actors ≡ before.actors
+  pub nodes : (other : ℕ) → (other ≡ node → ⊥) → node_at behind other ≡ node_at before other
 
 meta-keeps : (before : World) (served : Served) → TurnKeeps before 0 (meta_turned before served).world
 unfolding meta_turned node_at
-meta-keeps before served = record { layout = refl; actors = refl; nodes = nodes }
+meta-keeps before served = record { rules = refl; actors = refl; nodes = nodes }
   where
     nodes : (other : ℕ) → (other ≡ 0 → ⊥) → node_at (meta_turned before served).world other ≡ node_at before other
     nodes zero apart = absurd (apart refl)
@@ -59,17 +59,17 @@ meta-keeps before served = record { layout = refl; actors = refl; nodes = nodes 
 chunk-keeps : (before : World) (number : ℕ) (request : ChunkRequest) (outcome : Outcome) (found : Option Server)
     → TurnKeeps before number (chunk_turn before number request outcome found).world
 unfolding chunk_turn chunk_turned node_at
-chunk-keeps before number request outcome None = record { layout = refl; actors = refl; nodes = λ other apart. refl }
-chunk-keeps before number request outcome (Some old) = record { layout = refl; actors = refl; nodes = nodes }
+chunk-keeps before number request outcome None = record { rules = refl; actors = refl; nodes = λ other apart. refl }
+chunk-keeps before number request outcome (Some old) = record { rules = refl; actors = refl; nodes = nodes }
   where
     nodes : (other : ℕ) → (other ≡ number → ⊥) → node_at (chunk_turn before number request outcome (Some old)).world other ≡ node_at before other
     nodes zero apart = refl
     nodes (suc n) apart = ap server (set-elsewhere before.servers number (suc n) (server_step request outcome old).server apart)
 
-turn-keeps : (before : World) (actor : ℕ) (outcome : Outcome) (request : NodeRequest)
+pub turn-keeps : (before : World) (actor : ℕ) (outcome : Outcome) (request : NodeRequest)
     → TurnKeeps before (node_of_request request) (node_turn before actor outcome request).world
 unfolding node_turn node_of_request
-turn-keeps before actor outcome (To.Meta request) = meta-keeps before (meta_step before.layout actor request outcome before.meta)
+turn-keeps before actor outcome (To.Meta request) = meta-keeps before (meta_step before.rules actor request outcome before.meta)
 turn-keeps before actor outcome (To.Chunk number request) =
     chunk-keeps before number request outcome (numbered before.servers number)
 
@@ -86,13 +86,13 @@ abbrev server-of : NodeAt → Option Server
 server-of (metaserver m) = None
 server-of (server s) = s
 
-metas-meet : (one other : World) (actor : ℕ) (outcome : Outcome) (request : MetaRequest) → one.layout ≡ other.layout → node_at one 0 ≡ node_at other 0
-    → TurnsMeet 0 (meta_turned one (meta_step one.layout actor request outcome one.meta)) (meta_turned other (meta_step other.layout actor request outcome other.meta))
+metas-meet : (one other : World) (actor : ℕ) (outcome : Outcome) (request : MetaRequest) → one.rules ≡ other.rules → node_at one 0 ≡ node_at other 0
+    → TurnsMeet 0 (meta_turned one (meta_step one.rules actor request outcome one.meta)) (meta_turned other (meta_step other.rules actor request outcome other.meta))
 unfolding meta_turned node_at
-metas-meet one other actor outcome request layout same =
+metas-meet one other actor outcome request rules same =
     let metas : one.meta ≡ other.meta = ap (meta-of one.meta) same in
-    let served : meta_step one.layout actor request outcome one.meta ≡ meta_step other.layout actor request outcome other.meta =
-    ap₂ (λ (l : Shape) (m : MetaImage). meta_step l actor request outcome m) layout metas in
+    let served : meta_step one.rules actor request outcome one.meta ≡ meta_step other.rules actor request outcome other.meta =
+    ap₂ (λ (r : Rules) (m : MetaImage). meta_step r actor request outcome m) rules metas in
     record { replies = ap (λ (s : Served). From.Meta s.reply) served; nodes = ap (λ (s : Served). metaserver s.meta) served }
 
 chunks-meet : (one other : World) (n : ℕ) (request : ChunkRequest) (outcome : Outcome) (found : Option Server)
@@ -121,13 +121,13 @@ servers-meet one other n request outcome same =
     subst (λ there. TurnsMeet (suc n) (chunk_turn one (suc n) request outcome (numbered one.servers (suc n))) (chunk_turn other (suc n) request outcome there))
     found (chunks-meet one other n request outcome (numbered one.servers (suc n)) refl (sym found))
 
-turns-meet : (one other : World) (actor : ℕ) (outcome : Outcome) (request : NodeRequest) → one.layout ≡ other.layout
+turns-meet : (one other : World) (actor : ℕ) (outcome : Outcome) (request : NodeRequest) → one.rules ≡ other.rules
     → node_at one (node_of_request request) ≡ node_at other (node_of_request request)
     → TurnsMeet (node_of_request request) (node_turn one actor outcome request) (node_turn other actor outcome request)
 unfolding node_turn node_of_request
-turns-meet one other actor outcome (To.Meta request) layout same = metas-meet one other actor outcome request layout same
-turns-meet one other actor outcome (To.Chunk zero request) layout same = no-server-meets one other request outcome same
-turns-meet one other actor outcome (To.Chunk (suc n) request) layout same = servers-meet one other n request outcome same
+turns-meet one other actor outcome (To.Meta request) rules same = metas-meet one other actor outcome request rules same
+turns-meet one other actor outcome (To.Chunk zero request) rules same = no-server-meets one other request outcome same
+turns-meet one other actor outcome (To.Chunk (suc n) request) rules same = servers-meet one other n request outcome same
 
 -- ---- a step
 
@@ -138,36 +138,36 @@ handed-node number actor turned (suc n) = refl
 
 module _ (world : World) (step : Step) (actor : Actor) (request : NodeRequest)
     (here : numbered world.actors step.actor ≡ Some actor) (asked : request_of actor ≡ Some request) where
-  abbrev turned : Turned
+  abbrev pub turned : Turned
   turned = node_turn world step.actor step.outcome request
 
-  moves-so : move world step ≡ handed_over step.actor actor turned
+  pub moves-so : move world step ≡ handed_over step.actor actor turned
   unfolding move move_actor move_asking
   moves-so =
       ap (move_actor world step.actor step.outcome) here ∙ ap (move_asking world step.actor step.outcome actor) asked
 
-  answered-so : answer_in world step ≡ Some turned.reply
+  pub answered-so : answer_in world step ≡ Some turned.reply
   unfolding answer_in event_in event_by event_asking
   answered-so =
       ap (λ found. option_map (λ (event : Event). event.reply) (option_and_then (λ (a : Actor). event_by world step a (request_of a)) found)) here
       ∙ ap (λ found. option_map (λ (event : Event). event.reply) (event_by world step actor found)) asked
 
-  actor-behind : numbered (move world step).actors step.actor ≡ Some (after_reply actor turned.reply)
+  pub actor-behind : numbered (move world step).actors step.actor ≡ Some (after_reply actor turned.reply)
   unfolding handed_over
   actor-behind =
       let kept = turn-keeps world step.actor step.outcome request in
       ap (λ (w : World). numbered w.actors step.actor) moves-so
       ∙ set-there turned.world.actors step.actor actor (after_reply actor turned.reply) (ap (λ actors. numbered actors step.actor) kept.actors ∙ here)
 
-  node-behind : (node : ℕ) → node_at (move world step) node ≡ node_at turned.world node
+  pub node-behind : (node : ℕ) → node_at (move world step) node ≡ node_at turned.world node
   node-behind node = ap (λ w. node_at w node) moves-so ∙ handed-node step.actor actor turned node
 
-  others-stay : OthersStay world (move world step) step.actor (node_of_request request)
+  pub others-stay : OthersStay world (move world step) step.actor (node_of_request request)
   unfolding handed_over
   others-stay =
       let kept = turn-keeps world step.actor step.outcome request in
       record {
-        layout = ap (λ (w : World). w.layout) moves-so ∙ kept.layout;
+        rules = ap (λ (w : World). w.rules) moves-so ∙ kept.rules;
         actors = λ other apart.
             ap (λ (w : World). numbered w.actors other) moves-so
             ∙ set-elsewhere turned.world.actors step.actor other (after_reply actor turned.reply) apart
@@ -191,10 +191,10 @@ unfolding node_of
 asks-at actor node at = asks-found actor node (request_of actor) refl at
 
 pub steps-alike : StepsAreAlike
-steps-alike one other step actor node layout in_one in_other same =
+steps-alike one other step actor node rules in_one in_other same =
     let asks = asks-at actor node in_one.node_is in
     let meet : TurnsMeet (node_of_request asks.request) (node_turn one step.actor step.outcome asks.request) (node_turn other step.actor step.outcome asks.request) =
-    turns-meet one other step.actor step.outcome asks.request layout
+    turns-meet one other step.actor step.outcome asks.request rules
     (subst (λ n. node_at one n ≡ node_at other n) (sym asks.there) same) in
     record {
       answers = answered-so one step actor asks.request in_one.actor_is asks.asked ∙ ap Some meet.replies

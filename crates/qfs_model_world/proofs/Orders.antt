@@ -6,7 +6,7 @@ use Rattle.qfs_base.specs.declared.script.Script.{Script}
 use Rattle.qfs_model_world.specs.World.{World, start, move, after}
 use Rattle.qfs_model_world.specs.Fits.{may_come, fits_from, fits}
 
-fold-snoc : {A B : Type 0} (f : A → B → A) (a : A) (xs : List B) (x : B) → fold f a (xs ++ x ∷ []) ≡ f (fold f a xs) x
+pub fold-snoc : {A B : Type 0} (f : A → B → A) (a : A) (xs : List B) (x : B) → fold f a (xs ++ x ∷ []) ≡ f (fold f a xs) x
 fold-snoc f a [] x = refl
 fold-snoc f a (y ∷ ys) x = fold-snoc f (f a y) ys x
 

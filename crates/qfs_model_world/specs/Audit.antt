@@ -18,6 +18,7 @@ use Rattle.qfs_base.specs.Mask.{all_slots}
 use Rattle.qfs_model_meta.specs.Lists.{block_count}
 use Rattle.qfs_model_meta.specs.Slots.{slot_at}
 use Rattle.qfs_model_meta.specs.TreeRows.{is_closed_row}
+use Rattle.qfs_model_server.specs.Chunk.{Chunk}
 use Rattle.qfs_model_server.specs.Server.{Server}
 use Rattle.qfs_model_text.specs.Audit.{AuditLine, Summary, Audit}
 use Rattle.qfs_model_world.specs.Events.{events}
@@ -34,7 +35,7 @@ closed_rows tree = place_all by_file (filter is_closed_row tree) []
 -- the blocks of a closed file
 unfoldable pub blocks_in : World → TreeRow → List BlockId
 blocks_in world row =
-    map (λ index. record { file = row.file; index = index }) (range_with_len 0 (block_count world.layout row.len))
+    map (λ index. record { file = row.file; index = index }) (range_with_len 0 (block_count world.rules.layout row.len))
 
 -- the chunks that stand: the slots of the blocks of closed files
 unfoldable pub standing_blocks : World → List BlockId
@@ -44,10 +45,10 @@ standing_blocks world = flat_map (blocks_in world) (closed_rows world.meta.tree)
 abbrev pub key_at : BlockId → ℕ → Copy → ChunkKey
 key_at block slot copy = record { block = block; slot = slot; version = copy.version }
 
--- whether what stands under a key are these bytes
-unfoldable pub are_bytes : List ℕ → Option (List ℕ) → Bool
+-- whether what stands under a key is a copy of these bytes
+unfoldable pub are_bytes : List ℕ → Option Chunk → Bool
 are_bytes bytes None = false
-are_bytes bytes (Some others) = pointwise nat_eq others bytes
+are_bytes bytes (Some chunk) = pointwise nat_eq chunk.bytes bytes
 
 -- whether a server, up or not, has in this life a copy of these bytes under this key
 unfoldable pub has_copy : ℕ → ChunkKey → List ℕ → Option Server → Bool
@@ -58,7 +59,7 @@ has_copy life key bytes (Some server) = (server.life == life) && are_bytes bytes
 unfoldable pub is_right_copy : World → (ℕ → List ℕ) → BlockId → ℕ → Option Copy → Bool
 is_right_copy world bytes block slot None = false
 is_right_copy world bytes block slot (Some copy) =
-    has_copy copy.life (key_at block slot copy) (right_bytes world.layout bytes (key_at block slot copy))
+    has_copy copy.life (key_at block slot copy) (right_bytes world.rules.layout bytes (key_at block slot copy))
     (numbered world.servers copy.server)
 
 -- whether the current copy of a chunk is right

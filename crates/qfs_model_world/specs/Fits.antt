@@ -40,6 +40,7 @@ turn script world = first_filled (map unfinished (by_phase script.phases world.a
 unfoldable pub chunk_may_fail : ChunkRequest → Bool
 chunk_may_fail Serve.Stop = false
 chunk_may_fail Serve.Inventory = false
+chunk_may_fail Serve.Upgrade = false
 chunk_may_fail request = true
 
 unfoldable pub meta_may_fail : MetaRequest → Bool
@@ -57,6 +58,7 @@ chunk_may_want (Serve.Fetch key life from room) = false
 chunk_may_want (Serve.Erase key life) = false
 chunk_may_want Serve.Stop = false
 chunk_may_want Serve.Wipe = false
+chunk_may_want Serve.Upgrade = false
 chunk_may_want request = true
 
 unfoldable pub may_want_memory : NodeRequest → Bool

@@ -1,6 +1,6 @@
 -- The headline, as far as it speaks of a script and an order alone: what is printed, one file history, every get, no deletion,
 -- and the replayed metaserver.
-use Rattle.std.specs.Prelude.{◌≡◌, ℕ, ◌<◌, ◌==◌, ◌&&◌, Bool, List, count_by, length, Option, Some, IsTrue}
+use Rattle.std.specs.Prelude.{◌≡◌, ℕ, ◌<◌, ◌==◌, ◌&&◌, not, Bool, List, count_by, length, Option, Some, IsTrue}
 use Rattle.qfs_base.specs.declared.history.Outcome.TheVariants as Ended
 use Rattle.qfs_base.specs.declared.history.Step.{Step}
 use Rattle.qfs_base.specs.declared.image.MetaImage.{MetaImage}
@@ -44,6 +44,10 @@ pub record HoldsOf (script : Script) (order : List Step) (spelled : Option MetaI
   pub every_get : EveryGet script order
   pub no_deletion : NoDeletion script order
   pub replayed : Replayed script order spelled
+
+-- whether a step is at a chunk server, or came out done at the metaserver
+unfoldable pub is_sure : Event → Bool
+is_sure event = not ((node_of_request event.request == 0) && not (same_outcome event.outcome Ended.Done))
 
 -- how many steps failed at a node: 0 is the metaserver, s is server s
 unfoldable pub is_failed_at : ℕ → Event → Bool

@@ -12,11 +12,9 @@ pub mod GivenOrder
 pub mod HeldBlock
 pub mod Agrees
 pub mod Deletion
-pub mod Heard
-pub mod SoundWorld
 pub mod Reports
+pub mod Openings
 pub mod EveryGet
 pub mod Replayed
 pub mod Headline
 pub mod MadeRun
-pub mod Run

@@ -33,16 +33,16 @@ pub record IsAlike (one other : World) (step : Step) (node : ℕ) : Type 0 where
   pub actors : numbered (move one step).actors step.actor ≡ numbered (move other step).actors step.actor
   pub nodes : node_at (move one step) node ≡ node_at (move other step) node
 
--- worlds of one layout that agree on an actor and on the node that it goes to: its step comes to the same
+-- worlds of the same rules that agree on an actor and on the node that it goes to: its step comes to the same
 abbrev pub StepsAreAlike : Type 0
 StepsAreAlike =
     (one other : World) (step : Step) (actor : Actor) (node : ℕ)
-    → one.layout ≡ other.layout → GoesTo one step.actor actor node → GoesTo other step.actor actor node
+    → one.rules ≡ other.rules → GoesTo one step.actor actor node → GoesTo other step.actor actor node
     → node_at one node ≡ node_at other node → IsAlike one other step node
 
 -- every actor but one, and every node but one, is as before
 pub record OthersStay (before behind : World) (number node : ℕ) : Type 0 where
-  pub layout : behind.layout ≡ before.layout
+  pub rules : behind.rules ≡ before.rules
   pub actors : (other : ℕ) → (other ≡ number → ⊥) → numbered behind.actors other ≡ numbered before.actors other
   pub nodes : (other : ℕ) → (other ≡ node → ⊥) → node_at behind other ≡ node_at before other
 

@@ -1,6 +1,6 @@
 -- The metaserver after a restart, and what its two disks spell at the end of a run.
 use Rattle.std.specs.Prelude.{◌≡◌, ℕ, ◌⊎◌, ◌||◌, nat_lt, not, Bool, true, false, List, [], ◌∷◌, ◌++◌, filter, filter_map, fold, Option, Some, None}
-use Rattle.qfs_base.specs.Shape.{Shape}
+use Rattle.qfs_base.specs.Rules.{rules_of}
 use Rattle.qfs_base.specs.Table.{Each}
 use Rattle.qfs_base.specs.declared.history.Outcome.TheVariants as Ended
 use Rattle.qfs_base.specs.declared.history.Step.{Step}
@@ -9,11 +9,11 @@ use Rattle.qfs_base.specs.declared.reply.MetaReply.{MetaReply}
 use Rattle.qfs_base.specs.declared.reply.MetaReply.TheVariants as Told
 use Rattle.qfs_base.specs.declared.reply.NodeReply.{NodeReply}
 use Rattle.qfs_base.specs.declared.reply.NodeReply.TheVariants as From
-use Rattle.qfs_base.specs.declared.request.MetaRequest.{MetaRequest}
 use Rattle.qfs_base.specs.declared.request.NodeRequest.{NodeRequest}
 use Rattle.qfs_base.specs.declared.request.NodeRequest.TheVariants as To
+use Rattle.qfs_base.specs.declared.rules.Rules.{Rules}
 use Rattle.qfs_base.specs.declared.script.Script.{Script}
-use Rattle.qfs_model_meta.specs.Step.{meta_step}
+use Rattle.qfs_model_meta.specs.Step.{Logged, meta_step}
 use Rattle.qfs_model_text.specs.Order.{same_outcome}
 use Rattle.qfs_model_world.specs.Events.{Event, events, world_behind}
 use Rattle.qfs_model_world.specs.World.{after}
@@ -39,10 +39,7 @@ unfoldable pub has_restarted : NodeReply → Bool
 has_restarted (From.Meta reply) = says_restarted reply
 has_restarted (From.Chunk reply) = false
 
--- a request to the metaserver, with its actor
-abbrev pub Logged : Type 0
-Logged = ℕ × MetaRequest
-
+-- the request of a step to the metaserver, with its actor
 unfoldable pub meta_request : ℕ → NodeRequest → Option Logged
 meta_request actor (To.Meta request) = Some (actor, request)
 meta_request actor (To.Chunk server request) = None
@@ -73,14 +70,14 @@ uncertain steps =
     requests_in (filter (λ (event : Event). not (same_outcome event.outcome Ended.Done)) (behind_last settles steps))
 
 -- the disks spell the metaserver, or the metaserver followed by one of these requests
-abbrev pub SpellsWithOne : Shape → Option MetaImage → MetaImage → List Logged → Type 0
-SpellsWithOne layout spelled m [] = ⊥
-SpellsWithOne layout spelled m (request ∷ requests) =
-    (spelled ≡ Some (meta_step layout request.0 request.1 Ended.Done m).meta)
-    ⊎ SpellsWithOne layout spelled m requests
+abbrev pub SpellsWithOne : Rules → Option MetaImage → MetaImage → List Logged → Type 0
+SpellsWithOne rules spelled m [] = ⊥
+SpellsWithOne rules spelled m (request ∷ requests) =
+    (spelled ≡ Some (meta_step rules request.0 request.1 Ended.Done m).meta)
+    ⊎ SpellsWithOne rules spelled m requests
 
-abbrev pub Spells : Shape → Option MetaImage → MetaImage → List Logged → Type 0
-Spells layout spelled m requests = (spelled ≡ Some m) ⊎ SpellsWithOne layout spelled m requests
+abbrev pub Spells : Rules → Option MetaImage → MetaImage → List Logged → Type 0
+Spells rules spelled m requests = (spelled ≡ Some m) ⊎ SpellsWithOne rules spelled m requests
 
 -- a restart leaves the metaserver as it was
 abbrev pub KeepsAtRestart : Event → Type 0
@@ -89,4 +86,4 @@ KeepsAtRestart event = has_restarted event.reply ≡ true → (world_behind even
 -- the replayed metaserver is the one that ran, where the disks spell this in the end
 pub record Replayed (script : Script) (order : List Step) (spelled : Option MetaImage) : Type 0 where
   pub restarts : Each KeepsAtRestart (events script order)
-  pub disks : Spells script.layout spelled (after script order).meta (uncertain (events script order))
+  pub disks : Spells (rules_of script) spelled (after script order).meta (uncertain (events script order))

@@ -1,6 +1,6 @@
 -- The world of a script: one metaserver, the chunk servers and the actors by number, and how a step moves it.
 use Rattle.std.specs.Prelude.{ℕ, zero, suc, ◌+◌, List, [], ◌∷◌, slice_get, slice_set, replicate, flat_map, fold, Option, Some, None}
-use Rattle.qfs_base.specs.Shape.{Shape}
+use Rattle.qfs_base.specs.Rules.{rules_of}
 use Rattle.qfs_base.specs.declared.command.Command.{Command}
 use Rattle.qfs_base.specs.declared.history.Outcome.{Outcome}
 use Rattle.qfs_base.specs.declared.history.Step.{Step}
@@ -11,30 +11,31 @@ use Rattle.qfs_base.specs.declared.reply.NodeReply.TheVariants as From
 use Rattle.qfs_base.specs.declared.request.ChunkRequest.{ChunkRequest}
 use Rattle.qfs_base.specs.declared.request.NodeRequest.{NodeRequest}
 use Rattle.qfs_base.specs.declared.request.NodeRequest.TheVariants as To
+use Rattle.qfs_base.specs.declared.rules.Rules.{Rules}
 use Rattle.qfs_base.specs.declared.script.Script.{Script}
 use Rattle.qfs_model_actor.specs.Actor.{Actor, starting, request_of, after_reply}
 use Rattle.qfs_model_meta.specs.Step.{Served, opening, meta_step}
 use Rattle.qfs_model_server.specs.Server.{Server, Answered, fresh_server, server_step, without_room}
 
 pub record World : Type 0 where
-  pub layout : Shape
+  pub rules : Rules
   pub meta : MetaImage
   pub servers : List Server
   pub actors : List Actor
 
 -- the actors of these commands, each at its first one, numbered from here on
-unfoldable pub numbered_actors : Shape → ℕ → List (List Command) → List Actor
-numbered_actors layout number [] = []
-numbered_actors layout number (commands ∷ more) =
-    starting layout number commands ∷ numbered_actors layout (number + 1) more
+unfoldable pub numbered_actors : Rules → ℕ → List (List Command) → List Actor
+numbered_actors rules number [] = []
+numbered_actors rules number (commands ∷ more) =
+    starting rules number commands ∷ numbered_actors rules (number + 1) more
 
 -- the world in which a script starts: all servers up and empty in life 1, no files, all actors at their first command
 unfoldable pub start : Script → World
 start script = record {
-  layout = script.layout;
+  rules = rules_of script;
   meta = opening script.servers;
   servers = replicate script.servers fresh_server;
-  actors = numbered_actors script.layout 1 (flat_map (λ phase. phase) script.phases);
+  actors = numbered_actors (rules_of script) 1 (flat_map (λ phase. phase) script.phases);
 }
 
 -- what stands at a number, counted from 1
@@ -74,7 +75,7 @@ chunk_turn world number request outcome (Some server) =
 -- the step of the node that a request goes to, where it comes out so
 unfoldable pub node_turn : World → ℕ → Outcome → NodeRequest → Turned
 node_turn world actor outcome (To.Meta request) =
-    meta_turned world (meta_step world.layout actor request outcome world.meta)
+    meta_turned world (meta_step world.rules actor request outcome world.meta)
 node_turn world actor outcome (To.Chunk number request) =
     chunk_turn world number request outcome (numbered world.servers number)
 

@@ -1,8 +1,8 @@
 //! Parity of known bytes, and every way to restore a slot from six others.
 
 use qfs_base::mask::Mask;
-use qfs_base::numbers::SLOTS;
-use qfs_code::{encode, restore};
+use qfs_base::sizes::SLOTS;
+use qfs_code::{encode, encode_slot, restore};
 
 /// The bytes of a slot in the test of all masks.
 const SIZE: usize = 4;
@@ -18,6 +18,9 @@ fn parity_of_one_byte(rt: HostRuntime) {
     expected[16] = 0xcd;
     expected[32] = 0x98;
     assert_eq!(rt; parity, expected);
+    let mut second = [1; 16];
+    encode_slot(&six, 16, 1, &mut second);
+    assert_eq!(rt; second.as_slice(), &expected[16..32]);
 }
 
 #[test]

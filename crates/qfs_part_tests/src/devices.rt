@@ -181,7 +181,12 @@ fn an_upgraded_server_keeps_what_is_stored(rt: HostRuntime) -> Result<(), Fail> 
     let alloc = rt.alloc();
     let mut store = Store::new(alloc, SureDevice::new(alloc), 16);
     assert!(rt; stores(alloc, &mut store, 1, b"abc")?);
-    assert!(rt; matches!(store.serve(ChunkRequest::Upgrade).answer, ChunkAnswer::Upgraded));
+    assert!(rt;
+        matches!(
+            store.serve(ChunkRequest::Upgrade).answer,
+            ChunkAnswer::Upgraded
+        )
+    );
     assert!(rt; stores(alloc, &mut store, 2, b"xyz")?);
     assert!(rt; !stores(alloc, &mut store, 2, b"xyz")?);
     let first = fetched(alloc, &mut store, 1, 1)?.ok_or("the first")?;
@@ -221,7 +226,12 @@ fn a_start_finds_both_versions(rt: HostRuntime) -> Result<(), Fail> {
     device.write(key(4), &record)?;
 
     let mut store = Store::adopt(alloc, device, 16);
-    assert!(rt; matches!(store.serve(ChunkRequest::Inventory).answer, ChunkAnswer::Down));
+    assert!(rt;
+        matches!(
+            store.serve(ChunkRequest::Inventory).answer,
+            ChunkAnswer::Down
+        )
+    );
     assert_eq!(rt; listed(alloc, &mut store)?.as_slice(), [1, 2].as_slice());
     let second = fetched(alloc, &mut store, 2, 1)?.ok_or("the second")?;
     assert_eq!(rt; second.as_slice(), b"yz".as_slice());
@@ -264,7 +274,12 @@ fn a_failed_start_leaves_the_server_down(rt: HostRuntime) -> Result<(), Fail> {
     device.write(key(1), &record)?;
     let mut store = Store::adopt(alloc, device, 16);
     assert!(rt; matches!(store.serve(ChunkRequest::Start).answer, ChunkAnswer::Fault));
-    assert!(rt; matches!(store.serve(ChunkRequest::Inventory).answer, ChunkAnswer::Down));
+    assert!(rt;
+        matches!(
+            store.serve(ChunkRequest::Inventory).answer,
+            ChunkAnswer::Down
+        )
+    );
     assert_eq!(rt; listed(alloc, &mut store)?.as_slice(), [1].as_slice());
     Ok(())
 }

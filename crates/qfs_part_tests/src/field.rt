@@ -1,6 +1,6 @@
 //! Known values of the field of 256 elements.
 
-use qfs_galois::{add_scaled, inv, mul, pow2};
+use qfs_galois::{add_scaled, horner_step, inv, mul, pow2};
 
 #[test]
 fn powers_of_two(rt: HostRuntime) {
@@ -39,4 +39,15 @@ fn adds_multiples(rt: HostRuntime) {
     let mut sums = [1, 1, 1];
     add_scaled(&mut sums, &[0, 1, 0x80], 2);
     assert_eq!(rt; sums, [1, 3, 0x1c]);
+}
+
+#[test]
+fn steps_of_each_parity_slot(rt: HostRuntime) {
+    let mut sums = [1, 0x80, 7];
+    horner_step(&mut sums, &[2, 0, 7], 0);
+    assert_eq!(rt; sums, [3, 0x80, 0]);
+    horner_step(&mut sums, &[1, 1, 1], 1);
+    assert_eq!(rt; sums, [7, 0x1c, 1]);
+    horner_step(&mut sums, &[0, 0, 0], 2);
+    assert_eq!(rt; sums, [0x1c, 0x70, 4]);
 }

@@ -53,6 +53,10 @@ fn a_range_by_its_windows(rt: HostRuntime) -> Result<(), Fail> {
         window(1, 0, 6),
     ];
     assert!(rt; windows.as_slice() == wanted.as_slice());
+    let blocks = layout.blocks_touched(1500, 4400);
+    assert_eq!(rt; (blocks.start, blocks.end), (0, 2));
+    let second: Vec<Window> = layout.windows_in(1, 1500, 4400).collect(rt.alloc())?;
+    assert!(rt; second.as_slice() == [window(1, 0, 6)].as_slice());
     assert!(rt; layout.windows(4400, 4400, 3000).next().is_none());
     Ok(())
 }

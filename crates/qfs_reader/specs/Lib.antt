@@ -1,6 +1,5 @@
-pub mod Got
+pub mod ReadSoFar
 pub mod Sources
-pub mod Rows
 pub mod Parts
 pub mod Rest
 pub mod Standing

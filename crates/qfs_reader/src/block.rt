@@ -1,91 +1,55 @@
 //! How a get goes from window to window and from block to block.
 #![tactic(auto, unfolding(crate::specs::Rest::rest_at, crate::specs::Rest::report_of, qfs_model_actor::specs::Get::reading_of))]
 
-ghost use Rattle.std.specs.Prelude.{◌≡◌, ℕ, ◌+◌, ◌-◌, ◌*◌, ◌/◌, ◌<◌, ◌≤◌, ◌^◌, List, [], ◌++◌, length, false};
-ghost use Rattle.qfs_base.specs.Shape.{Shape};
-ghost use Rattle.qfs_base.specs.Layout.{row_bytes, block_bytes, window_rows};
-ghost use Rattle.qfs_base.specs.declared.command.Range.{Range};
-ghost use Rattle.qfs_model_actor.specs.Get.{read_blocks, listed_in};
+ghost use Rattle.std.specs.Prelude.{◌≡◌, ◌*◌, ◌/◌, ◌≤◌, ◌∷◌, length, false};
+ghost use Rattle.qfs_base.specs.Layout.{block_bytes};
+ghost use Rattle.qfs_model_actor.specs.Get.{listed_in};
 ghost use Rattle.qfs_model_actor.specs.Read.{are_too_few, causes_of, sources_of};
 ghost use Rattle.qfs_model_actor.specs.Windows.{window_offset};
-ghost use Rattle.qfs_reader.specs.Rest.{rest_at, rest_of_windows, behind_window, pieces_at, reading_at, IsAt, IsBefore, IsBlock, IsRange, IsSpot, HasRoom};
+ghost use Rattle.qfs_stripe.specs.Touched.{IsTouched, AreInOrder};
+ghost use Rattle.qfs_reader.specs.Rest.{rest_at, rest_of_windows, rest_of_blocks, behind_window, pieces_at, reading_at};
+ghost use Rattle.qfs_reader.specs.Standing.{IsAt, IsBefore, IsInWindow, IsRange, HasRoom};
 ghost use Rattle.qfs_reader.specs.Parts.{AreBelow};
-ghost use Rattle.qfs_reader.specs.Rows.{first_touched, groups_touched, window_touched, blocks_from};
 
 use crate::parts::add_window;
-use crate::rows::{
-    block_bytes, blocks_before, first_row, groups_before, past_row, row_bytes, window_at,
-};
 use crate::sources::{Sources, are_too_few, next_source, sources_of};
-use crate::stage::{Ending, OpenFile, Spot, Stage};
+use crate::stage::{Attempt, Get, GetEnding, Position, Stage};
+use crate::window::{stripe, window_offset};
 use qfs_base::layout::Window;
 use qfs_base::mask::Mask;
 use qfs_base::reply::Opened;
-use qfs_stripe::Layout;
-
-/// The rows of an aligned group, which are read together.
-const WINDOW_ROWS: u32 = 16;
-
-/// How many aligned groups of a block lie before the end of the range.
-fn groups_touched(layout: &Layout, to: u32, block: u32) -> u32
-    requires { block * block_bytes layout.now.s layout.now.r < 2 ^ 32 }
-    ensures { result ≡ groups_touched layout.now.s layout.now.r to block }
-{
-    groups_before(past_row(layout, to, block))
-}
-
-/// The rows of a group of a block that the range touches.
-fn window_touched(layout: &Layout, from: u32, to: u32, block: u32, group: u32) -> Window
-    requires block { block * block_bytes layout.now.s layout.now.r < 2 ^ 32 }
-    requires group { group * 16 + 16 < 2 ^ 32 }
-    ensures { result ≡ window_touched layout.now.s layout.now.r from to block group }
-{
-    let first = first_row(layout, from, block);
-    window_at(block, first, past_row(layout, to, block), group)
-}
+use qfs_stripe::{BlockWindows, LayoutCalls};
 
 /// The stage of a get at a window of a block, of which enough slots can be read.
-fn begin_window(layout: &Layout, file: OpenFile, block: u32, group: u32, sources: Sources) -> Stage
-    requires range { IsRange file }
-    requires block { IsBlock layout.now file block }
-    requires group { group < groups_touched layout.now.s layout.now.r file.to block }
+fn begin_window(
+    get: &Get,
+    attempt: Attempt,
+    block: u32,
+    window: Window,
+    windows: BlockWindows,
+    sources: Sources,
+) -> Stage
+    requires range { IsRange attempt.from attempt.to }
+    requires block { IsTouched get.now.layout.s get.now.layout.r attempt.from attempt.to block }
+    requires order { AreInOrder block window.first_row get.now.layout.r (window ∷ windows) }
     requires enough { are_too_few sources ≡ false }
-    requires reached { first_touched layout.now.s layout.now.r file.from block ≤ group * 16 + 16 }
-    requires got { IsBefore file (block * block_bytes layout.now.s layout.now.r + group * 16 * row_bytes layout.now.s) }
-    ensures rest { (path : List (List ℕ)) (range : Range) → rest_at path layout.now range result ≡ rest_of_windows layout.now file block group sources file.got }
-    ensures at { IsAt layout.now result }
+    requires got { IsBefore attempt (window_offset get.now.layout window) }
+    ensures rest { rest_at get.now result
+        ≡ rest_of_windows get.now attempt block (window ∷ windows) sources attempt.got }
+    ensures at { IsAt get.now result }
 {
-    let window = window_touched(layout, file.from, file.to, block, group);
+    let _ = get;
     let (slot, copy) = next_source(&sources, 0);
-    let spot = Spot {
+    let position = Position {
         block,
-        group,
         window,
+        windows,
         sources,
         slot,
         copy,
         have: Mask::none(),
     };
-    Stage::Fetching(file, spot)
-}
-
-/// The stage of a get that has read a block of its file up to a window.
-fn next_window(layout: &Layout, file: OpenFile, block: u32, group: u32, sources: Sources) -> Stage
-    requires range { IsRange file }
-    requires block { IsBlock layout.now file block }
-    requires group { group * 16 < 2 ^ 31 }
-    requires enough { are_too_few sources ≡ false }
-    requires reached { first_touched layout.now.s layout.now.r file.from block ≤ group * 16 + 16 }
-    requires got { IsBefore file (block * block_bytes layout.now.s layout.now.r + group * 16 * row_bytes layout.now.s) }
-    requires end { IsBefore file (block * block_bytes layout.now.s layout.now.r + block_bytes layout.now.s layout.now.r) }
-    ensures rest { (path : List (List ℕ)) (range : Range) → rest_at path layout.now range result ≡ rest_of_windows layout.now file block group sources file.got }
-    ensures at { IsAt layout.now result }
-{
-    if group < groups_touched(layout, file.to, block) {
-        begin_window(layout, file, block, group, sources)
-    } else {
-        next_block(layout, file, block + 1)
-    }
+    Stage::Reading(attempt, position)
 }
 
 /// Where the slots of a block can be read, as its copies are listed.
@@ -99,71 +63,87 @@ fn sources_in(opened: &Opened, block: u32) -> Sources
 }
 
 /// The stage of a get that has read its file up to a block.
-pub fn next_block(layout: &Layout, file: OpenFile, block: u32) -> Stage
-    requires range { IsRange file }
-    requires from { file.from < block * block_bytes layout.now.s layout.now.r + block_bytes layout.now.s layout.now.r }
-    requires got { IsBefore file (block * block_bytes layout.now.s layout.now.r) }
-    ensures rest { (path : List (List ℕ)) (range : Range) → rest_at path layout.now range result ≡ read_blocks layout.now file.opened file.from file.to (blocks_from layout.now.s layout.now.r file.to block) file.got }
-    ensures at { IsAt layout.now result }
+pub fn next_block(get: &Get, attempt: Attempt, block: u32) -> Stage
+    requires range { IsRange attempt.from attempt.to }
+    requires first { attempt.from / block_bytes get.now.layout.s get.now.layout.r ≤ block }
+    requires got { IsBefore attempt (block * block_bytes get.now.layout.s get.now.layout.r) }
+    ensures rest { rest_at get.now result ≡ rest_of_blocks get.now attempt block attempt.got }
+    ensures at { IsAt get.now result }
 {
-    if block >= blocks_before(layout, file.to) {
-        let OpenFile { opened, got, .. } = file;
-        let ending = Ending::Read {
+    let blocks = get.layout.blocks_touched(attempt.from, attempt.to);
+    if block >= blocks.end {
+        let Attempt { opened, got, .. } = attempt;
+        let ending = GetEnding::Read {
             place: opened.place,
             got,
         };
-        return Stage::Releasing(opened.lease, ending);
+        return Stage::Releasing(opened.lease, ending, None);
     }
-    let sources = sources_in(&file.opened, block);
+    let sources = sources_in(&attempt.opened, block);
     if are_too_few(&sources) {
-        return too_few(file, block, sources);
+        return too_few(get, attempt, block, sources);
     }
-    let group = first_row(layout, file.from, block) / WINDOW_ROWS;
-    begin_window(layout, file, block, group, sources)
+    let mut windows = get.layout.windows_in(block, attempt.from, attempt.to);
+    match windows.next() {
+        Some(window) => begin_window(get, attempt, block, window, windows, sources),
+        None => unreachable!(),
+    }
 }
 
-/// The stage of a get that finds too few slots of a block.
-pub fn too_few(file: OpenFile, block: u32, sources: Sources) -> Stage
-    ensures rest { (path : List (List ℕ)) (range : Range) (layout : Shape) → rest_at path layout range result ≡ (reading_at layout file block).too_few (causes_of sources) }
-    ensures at { (layout : Shape) → IsAt layout result }
+/// The stage of a get that finds too few slots of a block: it opens its file again where an attempt
+/// is left, and nothing is kept of what it read.
+pub fn too_few(get: &Get, attempt: Attempt, block: u32, sources: Sources) -> Stage
+    ensures rest { rest_at get.now result ≡ (reading_at get.now attempt block).too_few (causes_of sources) }
+    ensures at { IsAt get.now result }
 {
-    let ending = Ending::TooFew {
-        place: file.opened.place,
+    let _ = get;
+    let lease = attempt.opened.lease;
+    if attempt.more > 0 {
+        return Stage::Retrying {
+            lease,
+            more: attempt.more - 1,
+        };
+    }
+    let ending = GetEnding::TooFew {
+        place: attempt.opened.place,
         block,
         sources,
     };
-    Stage::Releasing(file.opened.lease, ending)
+    Stage::Releasing(lease, ending, None)
 }
 
 /// The stage of a get that has six pieces of its window.
-pub fn window_read(layout: &Layout, file: OpenFile, spot: Spot) -> Stage
-    requires range { IsRange file }
-    requires block { IsBlock layout.now file spot.block }
-    requires group { spot.group < groups_touched layout.now.s layout.now.r file.to spot.block }
-    requires window { spot.window ≡ window_touched layout.now.s layout.now.r file.from file.to spot.block spot.group }
-    requires enough { are_too_few spot.sources ≡ false }
-    requires reached { first_touched layout.now.s layout.now.r file.from spot.block ≤ spot.group * 16 + 16 }
-    requires have { 6 ≤ length spot.have }
-    requires below { AreBelow 9 spot.have }
-    requires got { IsBefore file (window_offset layout.now spot.window) }
-    requires room { HasRoom layout.now file spot.window }
-    ensures rest { (path : List (List ℕ)) (range : Range) → rest_at path layout.now range result ≡ behind_window layout.now file spot file.got spot.sources (pieces_at layout.now file spot) }
-    ensures at { IsAt layout.now result }
+pub fn window_read(get: &Get, attempt: Attempt, position: Position) -> Stage
+    requires window { IsInWindow get.now attempt position }
+    requires enough { are_too_few position.sources ≡ false }
+    requires have { 6 ≤ length position.have }
+    requires below { AreBelow 9 position.have }
+    requires room { HasRoom get.now attempt position.window }
+    ensures rest { rest_at get.now result
+        ≡ behind_window get.now attempt position attempt.got position.sources (pieces_at get.now attempt position) }
+    ensures at { IsAt get.now result }
 {
-    let mut file = file;
-    let rows = spot.window.rows as usize;
-    let stripe = layout.s as usize;
-    let start = spot.block * block_bytes(layout) + spot.window.first_row * row_bytes(layout);
+    let mut attempt = attempt;
+    let start = window_offset(&get.layout, &position.window);
     add_window(
-        file.nine.as_mut_slice(),
-        file.spare.as_mut_slice(),
-        spot.have,
-        stripe,
-        rows,
-        file.from,
-        file.to,
+        attempt.nine.as_mut_slice(),
+        attempt.spare.as_mut_slice(),
+        position.have,
+        stripe(&get.layout) as usize,
+        position.window.rows as usize,
+        attempt.from,
+        attempt.to,
         start,
-        &mut file.got,
+        &mut attempt.got,
     );
-    next_window(layout, file, spot.block, spot.group + 1, spot.sources)
+    let Position {
+        block,
+        mut windows,
+        sources,
+        ..
+    } = position;
+    match windows.next() {
+        Some(window) => begin_window(get, attempt, block, window, windows, sources),
+        None => next_block(get, attempt, block + 1),
+    }
 }

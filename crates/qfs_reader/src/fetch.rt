@@ -1,104 +1,124 @@
 //! How a get goes on when a chunk server has answered.
-#![tactic(auto, unfolding(crate::specs::Rest::rest_at, crate::specs::Rest::report_of, crate::specs::Rest::early_report))]
+#![tactic(auto, unfolding(crate::specs::Rest::rest_at, crate::specs::Rest::report_of))]
 
-ghost use Rattle.std.specs.Prelude.{◌≡◌, ℕ, ◌+◌, ◌*◌, ◌<◌, ◌≤◌, List, length};
-ghost use Rattle.qfs_base.specs.Shape.{Shape};
-ghost use Rattle.qfs_base.specs.declared.command.Range.{Range};
-ghost use Rattle.qfs_model_actor.specs.Hold.{unnamed};
+ghost use Rattle.std.specs.Prelude.{◌≡◌, length};
+ghost use Rattle.qfs_machine.specs.Endings.{report_of as common_report};
+ghost use Rattle.qfs_model_actor.specs.Ask.{after_fetch};
+ghost use Rattle.qfs_model_actor.specs.Shown.{kept_report};
 ghost use Rattle.qfs_model_actor.specs.Work.{goes_on};
-ghost use Rattle.qfs_reader.specs.Rest.{rest_at, rest_of_spot, rest_if_filled, rest_with_piece, rest_without, window_bytes, IsAt, IsReadable, IsSpot, HasRoom};
+ghost use Rattle.qfs_reader.specs.Rest.{rest_at, rest_of_position, rest_if_filled, rest_with_piece, rest_without, window_bytes};
+ghost use Rattle.qfs_reader.specs.Standing.{IsAt, IsPosition, HasRoom};
+ghost use Rattle.qfs_reader.specs.declared.stage.GetEnding.TheVariants as With;
+ghost use Rattle.qfs_reader.specs.declared.stage.Stage.TheVariants as At;
 
 use crate::block::{too_few, window_read};
 use crate::parts::put_part;
 use crate::sources::{are_too_few, next_source};
-use crate::stage::{Early, Ending, OpenFile, Spot, Stage};
+use crate::stage::{Attempt, Get, GetEnding, Position, Stage};
+use crate::window::window_bytes;
 use qfs_base::lists::Cause;
 use qfs_base::reply::{ChunkAnswer, ChunkReply, NodeReply};
-use qfs_stripe::Layout;
+use qfs_base::sizes::DATA_SLOTS;
+use qfs_machine::Ending;
 
-/// How many slots are needed to read a window.
-const DATA_SLOTS: usize = 6;
-
-/// The stage of a get that a node answered what its request doesn't allow.
-pub fn unnamed() -> Stage
-    ensures rest { (path : List (List ℕ)) (layout : Shape) (range : Range) → rest_at path layout range result ≡ unnamed }
-    ensures at { (layout : Shape) → IsAt layout result }
+/// The stage of a get that ends at once, as any command may.
+pub fn ended(ending: Ending) -> Stage
+    ensures { result ≡ At.Ended (With.Common ending) (kept_report (common_report ending)) }
 {
-    Stage::Stopped(Early::Unnamed)
+    Stage::Ended(GetEnding::Common(ending), ending.into_reply())
 }
 
 /// The stage of a get whose slot failed.
-fn failed(file: OpenFile, spot: Spot, cause: Cause) -> Stage
-    requires { IsReadable spot }
-    ensures rest { (path : List (List ℕ)) (layout : Shape) (range : Range) → rest_at path layout range result ≡ rest_without layout file spot cause }
-    ensures at { (layout : Shape) → IsSpot layout file spot → IsAt layout result }
+fn failed(get: &Get, attempt: Attempt, position: Position, cause: Cause) -> Stage
+    requires { IsPosition get.now attempt position }
+    ensures rest { rest_at get.now result ≡ rest_without get.now attempt position cause }
+    ensures at { IsAt get.now result }
 {
-    let mut spot = spot;
-    spot.sources[spot.slot as usize] = Err(cause);
-    if are_too_few(&spot.sources) {
-        return too_few(file, spot.block, spot.sources);
+    let mut position = position;
+    position.sources[position.slot as usize] = Err(cause);
+    if are_too_few(&position.sources) {
+        return too_few(get, attempt, position.block, position.sources);
     }
-    let (slot, copy) = next_source(&spot.sources, spot.slot + 1);
-    spot.slot = slot;
-    spot.copy = copy;
-    Stage::Fetching(file, spot)
+    let (slot, copy) = next_source(&position.sources, position.slot + 1);
+    position.slot = slot;
+    position.copy = copy;
+    Stage::Reading(attempt, position)
 }
 
 /// The stage of a get whose slot gave its bytes.
-fn given(layout: &Layout, file: OpenFile, spot: Spot, bytes: &[u8]) -> Stage
-    requires at { IsSpot layout.now file spot }
-    requires room { HasRoom layout.now file spot.window }
-    requires bytes { length bytes.now ≡ window_bytes layout.now spot.window }
-    ensures rest { (path : List (List ℕ)) (range : Range) → rest_at path layout.now range result ≡ rest_with_piece layout.now file spot bytes.now }
-    ensures at { IsAt layout.now result }
+fn given(get: &Get, attempt: Attempt, position: Position, bytes: &[u8]) -> Stage
+    requires at { IsPosition get.now attempt position }
+    requires room { HasRoom get.now attempt position.window }
+    requires bytes { length bytes.now ≡ window_bytes get.now.layout position.window }
+    ensures rest { rest_at get.now result ≡ rest_with_piece get.now attempt position bytes.now }
+    ensures at { IsAt get.now result }
 {
-    let mut file = file;
-    let mut spot = spot;
-    put_part(file.nine.as_mut_slice(), bytes.len(), spot.slot, bytes);
-    spot.have = spot.have.with(spot.slot);
-    if spot.have.count() >= DATA_SLOTS {
-        return window_read(layout, file, spot);
+    let mut attempt = attempt;
+    let mut position = position;
+    put_part(
+        attempt.nine.as_mut_slice(),
+        bytes.len(),
+        position.slot,
+        bytes,
+    );
+    position.have = position.have.with(position.slot);
+    if position.have.count() >= DATA_SLOTS as usize {
+        return window_read(get, attempt, position);
     }
-    let (slot, copy) = next_source(&spot.sources, spot.slot + 1);
-    spot.slot = slot;
-    spot.copy = copy;
-    Stage::Fetching(file, spot)
+    let (slot, copy) = next_source(&position.sources, position.slot + 1);
+    position.slot = slot;
+    position.copy = copy;
+    Stage::Reading(attempt, position)
 }
 
 /// The stage of a get whose slot was fetched.
-fn taken(layout: &Layout, file: OpenFile, spot: Spot, room: &[u8]) -> Stage
-    requires at { IsSpot layout.now file spot }
-    requires room { HasRoom layout.now file spot.window }
-    ensures rest { (path : List (List ℕ)) (range : Range) → rest_at path layout.now range result ≡ rest_if_filled layout.now file spot room.now }
-    ensures at { IsAt layout.now result }
+fn taken(get: &Get, attempt: Attempt, position: Position, room: &[u8]) -> Stage
+    requires at { IsPosition get.now attempt position }
+    requires room { HasRoom get.now attempt position.window }
+    ensures rest { rest_at get.now result ≡ rest_if_filled get.now attempt position room.now }
+    ensures at { IsAt get.now result }
 {
-    if room.len() != spot.window.rows as usize * layout.s as usize {
-        return unnamed();
+    if room.len() != window_bytes(&get.layout, &position.window) {
+        return ended(Ending::Unnamed);
     }
-    given(layout, file, spot, room)
+    given(get, attempt, position, room)
+}
+
+/// The stage of a get at a server's answer to its request for bytes of a slot, which doesn't end
+/// every command.
+fn answered(get: &Get, attempt: Attempt, position: Position, reply: &ChunkReply) -> Stage
+    requires at { IsPosition get.now attempt position }
+    requires room { HasRoom get.now attempt position.window }
+    ensures rest { rest_at get.now result
+        ≡ after_fetch (window_bytes get.now.layout position.window) (rest_with_piece get.now attempt position) (rest_without get.now attempt position) reply.now.room reply.now.answer }
+    ensures at { IsAt get.now result }
+{
+    match &reply.answer {
+        ChunkAnswer::Fetched => taken(get, attempt, position, reply.room.as_slice()),
+        ChunkAnswer::Down => failed(get, attempt, position, Cause::Down),
+        ChunkAnswer::Lost { asked, now } => {
+            let cause = Cause::Lost {
+                asked: *asked,
+                now: *now,
+            };
+            failed(get, attempt, position, cause)
+        }
+        ChunkAnswer::Absent => failed(get, attempt, position, Cause::Absent),
+        ChunkAnswer::Fault => failed(get, attempt, position, Cause::Fault),
+        _ => ended(Ending::Unnamed),
+    }
 }
 
 /// The stage of a get at a server's answer to its request for bytes of a slot.
-pub fn fetched(layout: &Layout, file: OpenFile, spot: Spot, reply: &ChunkReply) -> Stage
-    requires at { IsSpot layout.now file spot }
-    requires room { HasRoom layout.now file spot.window }
-    ensures rest { (path : List (List ℕ)) (range : Range) → rest_at path layout.now range result ≡ goes_on (rest_of_spot layout.now file spot) (NodeReply.Chunk reply.now) }
-    ensures at { IsAt layout.now result }
+pub fn fetched(get: &Get, attempt: Attempt, position: Position, reply: &ChunkReply) -> Stage
+    requires at { IsPosition get.now attempt position }
+    requires room { HasRoom get.now attempt position.window }
+    ensures rest { rest_at get.now result
+        ≡ goes_on (rest_of_position get.now attempt position) (NodeReply.Chunk reply.now) }
+    ensures at { IsAt get.now result }
 {
-    match &reply.answer {
-        ChunkAnswer::NoMemory => Stage::Releasing(file.opened.lease, Ending::NoMemory),
-        ChunkAnswer::Fetched => taken(layout, file, spot, reply.room.as_slice()),
-        ChunkAnswer::Down => failed(file, spot, Cause::Down),
-        ChunkAnswer::Lost { asked, now } => failed(
-            file,
-            spot,
-            Cause::Lost {
-                asked: *asked,
-                now: *now,
-            },
-        ),
-        ChunkAnswer::Absent => failed(file, spot, Cause::Absent),
-        ChunkAnswer::Fault => failed(file, spot, Cause::Fault),
-        _ => unnamed(),
+    match Ending::of_chunk(&reply.answer) {
+        Some(ending) => { Stage::Releasing(attempt.opened.lease, GetEnding::Common(ending), None) }
+        None => answered(get, attempt, position, reply),
     }
 }

@@ -2,15 +2,16 @@
 #![tactic(auto)]
 
 mod block;
+mod cut;
 mod fetch;
-mod got;
 mod meta;
 mod parts;
+mod read_so_far;
 mod reader;
 mod request;
-mod rows;
 mod sources;
 mod stage;
 mod supply;
+mod window;
 
 pub use reader::Reader;

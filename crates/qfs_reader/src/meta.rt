@@ -1,135 +1,124 @@
 //! How a get goes on when the metaserver has answered.
-#![tactic(auto, unfolding(crate::specs::Rest::rest_at, crate::specs::Rest::early_report, crate::specs::Rest::ends_or, crate::specs::Rest::report_of, qfs_model_actor::specs::Get::is_whole))]
+#![tactic(auto, unfolding(crate::specs::Rest::rest_at, crate::specs::Rest::report_of, qfs_model_actor::specs::Get::is_whole))]
 
-ghost use Rattle.std.specs.Prelude.{◌≡◌, ℕ, ◌≤◌, List};
-ghost use Rattle.qfs_base.specs.Shape.{Shape};
-ghost use Rattle.qfs_base.specs.declared.command.Range.{Range};
+ghost use Rattle.std.specs.Prelude.{◌≡◌, ◌≤◌};
+ghost use Rattle.qfs_base.specs.Sizes.{MOST_FILE_BYTES};
 ghost use Rattle.qfs_model_actor.specs.Get.{is_whole, read_if_whole, read_range, was_opened};
 ghost use Rattle.qfs_model_actor.specs.Hold.{nothing, end_with, on_answer, was_released};
-ghost use Rattle.qfs_model_actor.specs.Shown.{kept_report};
-ghost use Rattle.qfs_model_actor.specs.Work.{Report, Work, ends};
-ghost use Rattle.qfs_base.specs.declared.reply.MetaReply.{MetaReply};
-ghost use Rattle.qfs_reader.specs.Rest.{rest_at, report_of, ends_or, IsAt};
+ghost use Rattle.qfs_model_actor.specs.Work.{ends};
+ghost use Rattle.qfs_reader.specs.Rest.{again, rest_at};
+ghost use Rattle.qfs_reader.specs.Standing.{IsAt};
 
 use crate::block::next_block;
-use crate::fetch::unnamed;
-use crate::got::Got;
-use crate::rows::block_bytes;
-use crate::stage::{Early, Ending, OpenFile, Stage};
-use qfs_base::command::{Excerpt, Range, Reply};
+use crate::fetch::ended;
+use crate::read_so_far::ReadSoFar;
+use crate::stage::{Attempt, Get, GetEnding, Stage};
+use qfs_base::command::Reply;
 use qfs_base::reply::{MetaReply, Opened};
+use qfs_base::sizes::MOST_FILE_BYTES;
+use qfs_machine::Ending;
 use qfs_stripe::{Layout, LayoutCalls};
 use std::alloc::Global;
-
-/// The greatest length of a file.
-const MOST_BYTES: u32 = 268_435_456;
-
-/// What ends a get at any request to the metaserver, if this answer does.
-fn common_end(answer: &MetaReply) -> Option<Early>
-    ensures { (give_up : Report → Work) (next : MetaReply → Work) → ((report : Report) → give_up report ≡ ends report) → on_answer give_up next answer.now ≡ ends_or (next answer.now) result }
-{
-    match answer {
-        MetaReply::Dropped { turn } => Some(Early::Dropped { turn: *turn }),
-        MetaReply::LogFault => Some(Early::LogFault),
-        MetaReply::NoMemory => Some(Early::NoMemory),
-        MetaReply::BadLog { right, offset } => Some(Early::BadLog {
-            right: *right,
-            offset: *offset,
-        }),
-        _ => None,
-    }
-}
 
 /// Whether a file's length is in its range, and each of its blocks has its list.
 fn is_whole(layout: &Layout, opened: &Opened) -> bool
     ensures { result ≡ is_whole layout.now opened.now }
 {
-    opened.len <= MOST_BYTES && opened.blocks.len() == layout.blocks_of(opened.len) as usize
+    opened.len <= MOST_FILE_BYTES && opened.blocks.len() == layout.blocks_of(opened.len) as usize
 }
 
 /// The stage of a get whose file is open and whole.
-fn read(alloc: Global, layout: &Layout, range: Range, opened: Opened) -> Stage
-    requires { opened.len ≤ 268435456 }
-    ensures rest { (path : List (List ℕ)) (asked : Range) → rest_at path layout.now asked result ≡ read_range layout.now opened range }
-    ensures at { IsAt layout.now result }
+fn read(alloc: Global, get: &Get, more: u32, opened: Opened) -> Stage
+    requires { opened.len ≤ MOST_FILE_BYTES }
+    ensures rest { rest_at get.now result ≡ read_range get.now.layout (again get.now more) opened get.now.range }
+    ensures at { IsAt get.now result }
 {
-    let from = range.from;
-    let to = from.saturating_add(range.count).min(opened.len);
+    let from = get.range.from;
+    let to = from.saturating_add(get.range.count).min(opened.len);
     if from >= to {
-        let ending = Ending::Read {
+        let ending = GetEnding::Read {
             place: opened.place,
-            got: Got::nothing(),
+            got: ReadSoFar::nothing(),
         };
-        return Stage::Releasing(opened.lease, ending);
+        return Stage::Releasing(opened.lease, ending, None);
     }
-    let file = OpenFile {
+    let attempt = Attempt {
         opened,
         from,
         to,
-        got: Got::nothing(),
+        more,
+        got: ReadSoFar::nothing(),
         nine: Vec::new(alloc),
         spare: Vec::new(alloc),
     };
-    next_block(layout, file, from / block_bytes(layout))
+    let blocks = get.layout.blocks_touched(from, to);
+    next_block(get, attempt, blocks.start)
 }
 
 /// The stage of a get at an answer that opens its file.
-fn open(alloc: Global, layout: &Layout, range: Range, opened: Opened) -> Stage
-    ensures rest { (path : List (List ℕ)) (asked : Range) → rest_at path layout.now asked result ≡ read_if_whole layout.now range opened (is_whole layout.now opened) }
-    ensures at { IsAt layout.now result }
+fn open(alloc: Global, get: &Get, more: u32, opened: Opened) -> Stage
+    ensures rest { rest_at get.now result
+        ≡ read_if_whole get.now.layout (again get.now more) get.now.range opened (is_whole get.now.layout opened) }
+    ensures at { IsAt get.now result }
 {
-    if is_whole(layout, &opened) {
-        read(alloc, layout, range, opened)
+    if is_whole(&get.layout, &opened) {
+        read(alloc, get, more, opened)
     } else {
-        unnamed()
+        ended(Ending::Unnamed)
     }
 }
 
-/// The stage of a get at an answer to its first request that doesn't end every command.
-fn opened_or_refused(alloc: Global, layout: &Layout, range: Range, answer: MetaReply) -> Stage
-    ensures rest { (path : List (List ℕ)) (asked : Range) → rest_at path layout.now asked result ≡ was_opened layout.now range answer }
-    ensures at { IsAt layout.now result }
+/// The stage of a get at an answer to its request for the file that doesn't end every command.
+fn opened_or_refused(alloc: Global, get: &Get, more: u32, answer: MetaReply) -> Stage
+    ensures rest { rest_at get.now result ≡ was_opened get.now.layout (again get.now more) get.now.range answer }
+    ensures at { IsAt get.now result }
 {
     match answer {
-        MetaReply::Opened(opened) => open(alloc, layout, range, opened),
-        MetaReply::Refused { refusal, place } => Stage::Stopped(Early::Refused { place, refusal }),
-        _ => unnamed(),
+        MetaReply::Opened(opened) => open(alloc, get, more, opened),
+        MetaReply::Refused { refusal, place } => Stage::Ended(
+            GetEnding::Refused { place, refusal },
+            Reply::Refused { place, refusal },
+        ),
+        _ => ended(Ending::Unnamed),
     }
 }
 
-/// The stage of a get at the answer to its first request.
-pub fn opened(alloc: Global, layout: &Layout, range: Range, answer: MetaReply) -> Stage
-    ensures rest { (path : List (List ℕ)) (asked : Range) → rest_at path layout.now asked result ≡ on_answer (end_with nothing) (was_opened layout.now range) answer }
-    ensures at { IsAt layout.now result }
+/// The stage of a get at the answer to its request for the file, where so many attempts may follow.
+pub fn opened(alloc: Global, get: &Get, more: u32, answer: MetaReply) -> Stage
+    ensures rest { rest_at get.now result
+        ≡ on_answer (end_with nothing) (was_opened get.now.layout (again get.now more) get.now.range) answer }
+    ensures at { IsAt get.now result }
 {
-    match common_end(&answer) {
-        Some(end) => Stage::Stopped(end),
-        None => opened_or_refused(alloc, layout, range, answer),
+    match Ending::of_meta(&answer) {
+        Some(ending) => ended(ending),
+        None => opened_or_refused(alloc, get, more, answer),
     }
 }
 
-/// The stage of a get whose lease was given back, or whose answer doesn't say so. The lease may be
-/// gone.
-fn given_back(ending: Ending, kept: Reply<Excerpt>, answer: &MetaReply) -> Stage
-    requires { kept ≡ kept_report (report_of ending) }
-    ensures rest { (path : List (List ℕ)) (layout : Shape) (range : Range) → rest_at path layout range result ≡ was_released (ends (report_of ending)) answer.now }
-    ensures at { (layout : Shape) → IsAt layout result }
+/// The stage of a get whose lease was given back, and which comes to `next` then, or whose answer
+/// doesn't say so. The lease may be gone.
+fn given_back(get: &Get, next: Stage, answer: &MetaReply) -> Stage
+    requires { IsAt get.now next }
+    ensures rest { rest_at get.now result ≡ was_released (rest_at get.now next) answer.now }
+    ensures at { IsAt get.now result }
 {
+    let _ = get;
     match answer {
-        MetaReply::Done { .. } => Stage::Ended(ending, kept),
-        MetaReply::Gone => Stage::Ended(ending, kept),
-        _ => unnamed(),
+        MetaReply::Done { .. } => next,
+        MetaReply::Gone => next,
+        _ => ended(Ending::Unnamed),
     }
 }
 
-/// The stage of a get at the answer to the request that gives its lease back.
-pub fn released(ending: Ending, kept: Reply<Excerpt>, answer: &MetaReply) -> Stage
-    requires { kept ≡ kept_report (report_of ending) }
-    ensures rest { (path : List (List ℕ)) (layout : Shape) (range : Range) → rest_at path layout range result ≡ on_answer ends (was_released (ends (report_of ending))) answer.now }
-    ensures at { (layout : Shape) → IsAt layout result }
+/// The stage of a get at the answer to the request that gives its lease back, behind which it comes
+/// to `next`.
+pub fn released(get: &Get, next: Stage, answer: &MetaReply) -> Stage
+    requires { IsAt get.now next }
+    ensures rest { rest_at get.now result ≡ on_answer ends (was_released (rest_at get.now next)) answer.now }
+    ensures at { IsAt get.now result }
 {
-    match common_end(answer) {
-        Some(end) => Stage::Stopped(end),
-        None => given_back(ending, kept, answer),
+    match Ending::of_meta(answer) {
+        Some(ending) => ended(ending),
+        None => given_back(get, next, answer),
     }
 }

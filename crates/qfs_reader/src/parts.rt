@@ -10,15 +10,13 @@ ghost use Rattle.qfs_model_actor.specs.Pieces.{data_of, row_of, rows_of_file};
 ghost use Rattle.qfs_model_actor.specs.Windows.{cut_to_range};
 ghost use Rattle.qfs_reader.specs.Parts.{part_at, pieces_of, AreBelow};
 
-use crate::got::Got;
-use crate::rows::cut_to_range;
+use crate::cut::cut_to_range;
+use crate::read_so_far::ReadSoFar;
 use qfs_base::mask::Mask;
 use qfs_base::numbers::Slot;
+use qfs_base::sizes::DATA_SLOTS;
 use qfs_code::laws::slots_not_at_hand_have_no_influence;
 use qfs_code::restore;
-
-/// How many slots of a block hold the file's own bytes.
-const DATA_SLOTS: Slot = 6;
 
 /// Writes the part of a slot.
 pub fn put_part(nine: &mut [u8], size: usize, slot: Slot, bytes: &[u8])
@@ -76,7 +74,7 @@ fn add_row(
     from: u32,
     to: u32,
     start: u32,
-    got: &mut Got,
+    got: &mut ReadSoFar,
 )
     requires nine { length nine.now ≡ 9 * size }
     requires row { (row + 1) * stripe ≤ size }
@@ -101,7 +99,7 @@ pub fn add_rows(
     from: u32,
     to: u32,
     start: u32,
-    got: &mut Got,
+    got: &mut ReadSoFar,
 )
     requires nine { length nine.now ≡ 9 * (rows * stripe) }
     requires rows { rows ≤ 1024 }
@@ -129,7 +127,7 @@ pub fn add_window(
     from: u32,
     to: u32,
     start: u32,
-    got: &mut Got,
+    got: &mut ReadSoFar,
 )
     requires enough { 6 ≤ length have }
     requires mask { AreBelow 9 have }

@@ -1,46 +1,38 @@
 //! The machine of a get.
 
-ghost use Rattle.std.specs.Prelude.{◌≡◌, ℕ, List};
-ghost use Rattle.qfs_base.specs.declared.command.Range.{Range};
+ghost use Rattle.std.specs.Prelude.{◌≡◌, ◌≤◌};
 ghost use Rattle.qfs_machine.specs.Kept.{Reports};
 ghost use Rattle.qfs_machine.specs.declared.machine.Readiness.{Readiness};
 ghost use Rattle.qfs_model_actor.specs.Get.{get_work, range_of};
-ghost use Rattle.qfs_model_actor.specs.Shown.{kept_report};
 ghost use Rattle.qfs_model_actor.specs.Work.{goes_on};
-ghost use Rattle.qfs_reader.specs.Rest.{rest_at, early_report, IsAt};
-ghost use Rattle.qfs_reader.specs.Standing.{rest_of, HasEnded, IsSupplied};
+ghost use Rattle.qfs_reader.specs.Rest.{rest_at};
+ghost use Rattle.qfs_reader.specs.Standing.{rest_of, HasEnded, IsAt, IsSupplied};
 
-use crate::fetch::{fetched, unnamed};
+use crate::fetch::{ended, fetched};
 use crate::meta::{opened, released};
 use crate::request::{node_of, request_at};
-use crate::stage::{Early, Stage};
+use crate::stage::{Get, Stage};
 use crate::supply::supply;
 use qfs_base::command::{Excerpt, Range, Reply};
 use qfs_base::numbers::NodeId;
 use qfs_base::path::Path;
 use qfs_base::reply::{ChunkReply, MetaReply, NodeReply};
 use qfs_base::request::NodeRequest;
-use qfs_machine::{Machine, Readiness};
+use qfs_base::sizes::MOST_FILE_BYTES;
+use qfs_machine::{Ending, Machine, Pending, Readiness};
 use qfs_stripe::Layout;
 use std::alloc::{AllocError, Global};
 use std::marker::Model;
 use std::mem;
-
-/// The most bytes of a file.
-const MOST_BYTES: u32 = 268_435_456;
 
 /// A get at work. Contracts see what is wanted, what the get waits for, and how it stands to its
 /// next request. What is left of it is a tree of questions, by the definition of a get.
 #[derive(Drop)]
 pub struct Reader {
     alloc: Global,
-    path: Path,
-    layout: Layout,
-    range: Range,
+    get: Get,
     stage: Stage,
-    readiness: Readiness,
-    request: Option<NodeRequest>,
-    kept: Option<Reply<Excerpt>>,
+    pending: Pending,
 }
 
 impl Model for Reader {
@@ -48,29 +40,42 @@ impl Model for Reader {
 
     ghost Value = { Standing };
 
-    ghost use Rattle.qfs_reader.specs.Rest.{IsAt};
-    ghost use Rattle.qfs_reader.specs.Standing.{IsKept};
+    ghost use Rattle.qfs_machine.specs.Asking.{IsPending};
+    ghost use Rattle.qfs_reader.specs.Rest.{rest_at};
+    ghost use Rattle.qfs_reader.specs.Standing.{IsAt, IsSuppliedWhile};
 
-    ghost view = { λ it. record { path = it.path; layout = it.layout; range = it.range; stage = it.stage; readiness = it.readiness } };
+    ghost view = { λ it. record { get = it.get; stage = it.stage; readiness = it.pending.readiness } };
 
-    ghost invariant = { λ it. IsAt it.layout it.stage × IsKept it.path it.layout it.range it.stage it.request it.kept it.readiness };
+    ghost invariant = { λ it.
+        IsAt it.get it.stage
+        × IsPending (rest_at it.get it.stage) it.pending.readiness it.pending.request
+        × IsSuppliedWhile it.pending.readiness it.get it.stage };
 }
 
 impl Reader {
-    /// The get of the bytes of the file at this path, or of a range of them. Takes no memory.
-    pub fn new(alloc: Global, path: Path, range: Option<Range>, layout: Layout) -> Reader
-        ensures rest { rest_of result ≡ get_work layout path range }
+    /// The get of the bytes of the file at this path, or of a range of them, which opens its file up
+    /// to `tries` times. Takes no memory.
+    pub fn new(
+        alloc: Global,
+        path: Path,
+        range: Option<Range>,
+        layout: Layout,
+        tries: u32,
+    ) -> Reader
+        requires { 1 ≤ tries }
+        ensures rest { rest_of result ≡ get_work layout tries path range }
         ensures unready { result.readiness ≡ Readiness.Unready }
     {
+        let get = Get {
+            layout,
+            path,
+            range: range_of(range),
+        };
         Reader {
             alloc,
-            path,
-            layout,
-            range: range_of(range),
-            stage: Stage::Opening,
-            readiness: Readiness::Unready,
-            request: None,
-            kept: None,
+            get,
+            stage: Stage::Opening { more: tries - 1 },
+            pending: Pending::nothing(),
         }
     }
 }
@@ -84,102 +89,66 @@ fn range_of(range: Option<Range>) -> Range
         Some(range) => range,
         None => Range {
             from: 0,
-            count: MOST_BYTES,
+            count: MOST_FILE_BYTES,
         },
     }
 }
 
 /// The stage of a get behind the reply to its request, for whose reply it has the memory.
-fn stage_after(
-    alloc: Global,
-    layout: &Layout,
-    range: Range,
-    stage: Stage,
-    kept: Option<Reply<Excerpt>>,
-    reply: NodeReply,
-) -> Stage
-    requires at { IsAt layout.now stage }
-    requires supplied { IsSupplied layout.now stage kept }
-    ensures rest { (path : List (List ℕ)) → rest_at path layout.now range result ≡ goes_on (rest_at path layout.now range stage) reply }
-    ensures at { IsAt layout.now result }
+fn stage_after(alloc: Global, get: &Get, stage: Stage, reply: NodeReply) -> Stage
+    requires at { IsAt get.now stage }
+    requires supplied { IsSupplied get.now stage }
+    ensures rest { rest_at get.now result ≡ goes_on (rest_at get.now stage) reply }
+    ensures at { IsAt get.now result }
 {
     match reply {
-        NodeReply::Meta(answer) => after_meta(alloc, layout, range, stage, kept, answer),
-        NodeReply::Chunk(reply) => after_chunk(layout, stage, kept, &reply),
+        NodeReply::Meta(answer) => after_meta(alloc, get, stage, answer),
+        NodeReply::Chunk(reply) => after_chunk(get, stage, &reply),
     }
 }
 
 /// The stage of a get at an answer of the metaserver.
-fn after_meta(
-    alloc: Global,
-    layout: &Layout,
-    range: Range,
-    stage: Stage,
-    kept: Option<Reply<Excerpt>>,
-    answer: MetaReply,
-) -> Stage
-    requires at { IsAt layout.now stage }
-    requires supplied { IsSupplied layout.now stage kept }
-    ensures rest { (path : List (List ℕ)) → rest_at path layout.now range result ≡ goes_on (rest_at path layout.now range stage) (NodeReply.Meta answer) }
-    ensures at { IsAt layout.now result }
+fn after_meta(alloc: Global, get: &Get, stage: Stage, answer: MetaReply) -> Stage
+    requires at { IsAt get.now stage }
+    requires supplied { IsSupplied get.now stage }
+    ensures rest { rest_at get.now result ≡ goes_on (rest_at get.now stage) (NodeReply.Meta answer) }
+    ensures at { IsAt get.now result }
 {
     match stage {
-        Stage::Opening => opened(alloc, layout, range, answer),
-        Stage::Fetching(..) => unnamed(),
-        Stage::Releasing(_, ending) => match kept {
-            Some(kept) => released(ending, kept, &answer),
+        Stage::Opening { more } => opened(alloc, get, more, answer),
+        Stage::Reading(..) => ended(Ending::Unnamed),
+        Stage::Releasing(_, ending, kept) => match kept {
+            Some(kept) => released(get, Stage::Ended(ending, kept), &answer),
             None => unreachable!(),
         },
+        Stage::Retrying { more, .. } => released(get, Stage::Opening { more }, &answer),
         Stage::Ended(ending, kept) => Stage::Ended(ending, kept),
-        Stage::Stopped(end) => Stage::Stopped(end),
     }
 }
 
 /// The stage of a get at an answer of a chunk server.
-fn after_chunk(
-    layout: &Layout,
-    stage: Stage,
-    kept: Option<Reply<Excerpt>>,
-    reply: &ChunkReply,
-) -> Stage
-    requires at { IsAt layout.now stage }
-    requires supplied { IsSupplied layout.now stage kept }
-    ensures rest { (path : List (List ℕ)) (range : Range) → rest_at path layout.now range result ≡ goes_on (rest_at path layout.now range stage) (NodeReply.Chunk reply.now) }
-    ensures at { IsAt layout.now result }
+fn after_chunk(get: &Get, stage: Stage, reply: &ChunkReply) -> Stage
+    requires at { IsAt get.now stage }
+    requires supplied { IsSupplied get.now stage }
+    ensures rest { rest_at get.now result ≡ goes_on (rest_at get.now stage) (NodeReply.Chunk reply.now) }
+    ensures at { IsAt get.now result }
 {
     match stage {
-        Stage::Opening => unnamed(),
-        Stage::Fetching(file, spot) => fetched(layout, file, spot, reply),
-        Stage::Releasing(..) => unnamed(),
+        Stage::Reading(attempt, position) => fetched(get, attempt, position, reply),
         Stage::Ended(ending, kept) => Stage::Ended(ending, kept),
-        Stage::Stopped(end) => Stage::Stopped(end),
-    }
-}
-
-/// The report of a get that ends early.
-#[tactic(auto, unfolding(crate::specs::Rest::early_report, qfs_model_actor::specs::Shown::shown_reply))]
-fn reply_of(end: Early) -> Reply<Excerpt>
-    ensures { result ≡ kept_report (early_report end) }
-{
-    match end {
-        Early::Refused { place, refusal } => Reply::Refused { place, refusal },
-        Early::Dropped { turn } => Reply::Dropped { turn },
-        Early::LogFault => Reply::LogFault,
-        Early::NoMemory => Reply::NoMemory,
-        Early::BadLog { right, offset } => Reply::BadLog { right, offset },
-        Early::Unnamed => Reply::Unnamed,
+        _ => ended(Ending::Unnamed),
     }
 }
 
 /// The report of a get that has ended, as it is kept.
-fn into_kept(layout: &Layout, stage: Stage) -> Reply<Excerpt>
-    requires at { IsAt layout.now stage }
+fn into_kept(get: &Get, stage: Stage) -> Reply<Excerpt>
+    requires at { IsAt get.now stage }
     requires ended { HasEnded stage }
-    ensures { (path : List (List ℕ)) (range : Range) → Reports (rest_at path layout.now range stage) result }
+    ensures { Reports (rest_at get.now stage) result }
 {
+    let _ = get;
     match stage {
         Stage::Ended(_, kept) => kept,
-        Stage::Stopped(end) => reply_of(end),
         _ => unreachable!(),
     }
 }
@@ -190,13 +159,11 @@ impl Machine for Reader {
     ghost readiness = { λ it. it.readiness };
 
     fn ready(&mut self) -> Result<(), AllocError> {
-        match self.readiness {
+        match self.pending.readiness {
             Readiness::Unready => {
-                let kept = supply(self.alloc, &self.layout, &mut self.stage)?;
-                let request = request_at(self.alloc, &self.path, &self.layout, &self.stage)?;
-                self.kept = kept;
-                self.request = request;
-                self.readiness = Readiness::Ready;
+                supply(self.alloc, &self.get, &mut self.stage)?;
+                let request = request_at(self.alloc, &self.get, &self.stage)?;
+                self.pending = Pending::ready(request);
                 Ok(())
             }
             _ => Ok(()),
@@ -204,26 +171,21 @@ impl Machine for Reader {
     }
 
     fn goes_to(&self) -> Option<NodeId> {
-        node_of(&self.layout, &self.stage)
+        node_of(&self.get, &self.stage)
     }
 
     fn next(&mut self) -> Option<NodeRequest> {
-        let request = self.request.take();
-        if request.is_some() {
-            self.readiness = Readiness::Out;
-        }
-        request
+        self.pending.hand_out()
     }
 
     fn took(&mut self, reply: NodeReply) {
-        let stage = mem::replace(&mut self.stage, Stage::Opening);
-        let kept = self.kept.take();
-        self.stage = stage_after(self.alloc, &self.layout, self.range, stage, kept, reply);
-        self.readiness = Readiness::Unready;
+        let stage = mem::replace(&mut self.stage, Stage::Opening { more: 0 });
+        self.stage = stage_after(self.alloc, &self.get, stage, reply);
+        self.pending = Pending::nothing();
     }
 
     fn into_reply(self) -> Reply<Excerpt> {
-        let Reader { layout, stage, .. } = self;
-        into_kept(&layout, stage)
+        let Reader { get, stage, .. } = self;
+        into_kept(&get, stage)
     }
 }

@@ -1,30 +1,37 @@
 //! What a get asks at each stage.
-#![tactic(auto, unfolding(crate::specs::Rest::rest_at, qfs_model_actor::specs::Work::request_in, qfs_model_actor::specs::Hold::end_with, qfs_model_actor::specs::Hold::give_back, qfs_model_actor::specs::Hold::ask_or, qfs_model_actor::specs::Ask::ask, qfs_model_actor::specs::Ask::fetch))]
+#![tactic(auto, unfolding(crate::specs::Rest::rest_at, qfs_model_actor::specs::Work::request_in, qfs_model_actor::specs::Hold::end_with, qfs_model_actor::specs::Hold::give_back, qfs_model_actor::specs::Hold::ask_or, qfs_model_actor::specs::Ask::ask, qfs_model_actor::specs::Ask::fetch, qfs_model_actor::specs::Get::attempt))]
 
-ghost use Rattle.std.specs.Prelude.{◌≡◌, ◌*◌, IfOk, IfSome, Some, option_map, replicate, List, ℕ};
-ghost use Rattle.qfs_base.specs.Shape.{Shape};
-ghost use Rattle.qfs_base.specs.declared.command.Range.{Range};
+ghost use Rattle.std.specs.Prelude.{◌≡◌, IfOk, IfSome, Some, option_map, replicate};
+ghost use Rattle.qfs_base.specs.declared.request.MetaRequest.TheVariants as Ask;
+ghost use Rattle.qfs_base.specs.declared.request.NodeRequest.TheVariants as To;
 ghost use Rattle.qfs_machine.specs.Askable.{IsAskable};
 ghost use Rattle.qfs_model_actor.specs.Work.{node_of_request, request_in};
-ghost use Rattle.qfs_reader.specs.Rest.{rest_at, rest_of_spot, opening, IsAt, IsSpot};
+ghost use Rattle.qfs_reader.specs.Rest.{rest_at, rest_of_position};
+ghost use Rattle.qfs_reader.specs.Standing.{IsAt, IsPosition};
 
-use crate::stage::{OpenFile, Spot, Stage};
+use crate::stage::{Attempt, Get, Position, Stage};
+use crate::window::{first_byte, window_bytes};
 use qfs_base::chunk::{BlockId, ChunkKey};
 use qfs_base::listing::Listing;
 use qfs_base::lists::Bytes;
-use qfs_base::numbers::NodeId;
+use qfs_base::numbers::{LeaseId, NodeId};
 use qfs_base::path::Path;
 use qfs_base::request::{ChunkRequest, MetaRequest, NodeRequest};
-use qfs_stripe::Layout;
 use std::alloc::{AllocError, Global};
 
-/// The request that opens the file.
+/// The request that opens the file at a path.
 fn open_request(path: &Path) -> Result<NodeRequest, AllocError>
-    ensures request { IfOk result (λ request. (layout : Shape) (range : Range) → request_in (opening path.now layout range) ≡ Some request) }
-    ensures askable { IfOk result IsAskable }
+    ensures { IfOk result (λ request. request ≡ To.Meta (Ask.OpenFile path.now)) }
 {
     let path = path.clone()?;
     Ok(NodeRequest::Meta(MetaRequest::OpenFile { path }))
+}
+
+/// The request that gives a lease back.
+fn release_request(lease: LeaseId) -> NodeRequest
+    ensures { result ≡ To.Meta (Ask.Release lease) }
+{
+    NodeRequest::Meta(MetaRequest::Release { lease })
 }
 
 /// So many zeros.
@@ -38,29 +45,29 @@ fn zeros(alloc: Global, len: usize) -> Result<Bytes, AllocError>
 /// The request for the bytes of a slot in a window.
 fn fetch_request(
     alloc: Global,
-    layout: &Layout,
-    file: &OpenFile,
-    spot: &Spot,
+    get: &Get,
+    attempt: &Attempt,
+    position: &Position,
 ) -> Result<NodeRequest, AllocError>
-    requires { IsSpot layout.now file.now spot.now }
-    ensures request { IfOk result (λ request. request_in (rest_of_spot layout.now file.now spot.now) ≡ Some request) }
+    requires { IsPosition get.now attempt.now position.now }
+    ensures request { IfOk result (λ request. request_in (rest_of_position get.now attempt.now position.now) ≡ Some request) }
     ensures askable { IfOk result IsAskable }
 {
-    let copy = spot.copy;
-    let room = zeros(alloc, spot.window.rows as usize * layout.s as usize)?;
+    let copy = position.copy;
+    let room = zeros(alloc, window_bytes(&get.layout, &position.window))?;
     let block = BlockId {
-        file: file.opened.file,
-        index: spot.block,
+        file: attempt.opened.file,
+        index: position.block,
     };
     let key = ChunkKey {
         block,
-        slot: spot.slot,
+        slot: position.slot,
         version: copy.version,
     };
     let fetch = ChunkRequest::Fetch {
         key,
         life: copy.life,
-        from: spot.window.first_row * layout.s,
+        from: first_byte(&get.layout, &position.window),
         room,
     };
     Ok(NodeRequest::Chunk(copy.server, fetch))
@@ -69,43 +76,37 @@ fn fetch_request(
 /// The next request of a get, or None where it has ended.
 pub fn request_at(
     alloc: Global,
-    path: &Path,
-    layout: &Layout,
+    get: &Get,
     stage: &Stage,
 ) -> Result<Option<NodeRequest>, AllocError>
-    requires { IsAt layout.now stage.now }
-    ensures request { IfOk result (λ request. (range : Range) → request_in (rest_at path.now layout.now range stage.now) ≡ request) }
+    requires { IsAt get.now stage.now }
+    ensures request { IfOk result (λ request. request_in (rest_at get.now stage.now) ≡ request) }
     ensures askable { IfOk result (λ request. IfSome request IsAskable) }
 {
     match stage {
-        Stage::Opening => {
-            let request = open_request(path)?;
+        Stage::Opening { .. } => {
+            let request = open_request(&get.path)?;
             Ok(Some(request))
         }
-        Stage::Fetching(file, spot) => {
-            let request = fetch_request(alloc, layout, file, spot)?;
+        Stage::Reading(attempt, position) => {
+            let request = fetch_request(alloc, get, attempt, position)?;
             Ok(Some(request))
         }
-        Stage::Releasing(lease, _) => {
-            let release = MetaRequest::Release { lease: *lease };
-            Ok(Some(NodeRequest::Meta(release)))
-        }
+        Stage::Releasing(lease, _, _) => Ok(Some(release_request(*lease))),
+        Stage::Retrying { lease, .. } => Ok(Some(release_request(*lease))),
         Stage::Ended(..) => Ok(None),
-        Stage::Stopped(_) => Ok(None),
     }
 }
 
 /// The node of the next request: 0 is the metaserver, s is server s. None where the get has ended.
-pub fn node_of(layout: &Layout, stage: &Stage) -> Option<NodeId>
-    requires { IsAt layout.now stage.now }
-    ensures { (path : List (List ℕ)) (range : Range) → result ≡ option_map node_of_request (request_in (rest_at path layout.now range stage.now)) }
+pub fn node_of(get: &Get, stage: &Stage) -> Option<NodeId>
+    requires { IsAt get.now stage.now }
+    ensures { result ≡ option_map node_of_request (request_in (rest_at get.now stage.now)) }
 {
-    let _ = layout;
+    let _ = get;
     match stage {
-        Stage::Opening => Some(0),
-        Stage::Releasing(..) => Some(0),
-        Stage::Fetching(_, spot) => Some(spot.copy.server),
+        Stage::Reading(_, position) => Some(position.copy.server),
         Stage::Ended(..) => None,
-        Stage::Stopped(_) => None,
+        _ => Some(0),
     }
 }

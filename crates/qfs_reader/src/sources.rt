@@ -8,17 +8,15 @@ ghost use Rattle.qfs_reader.specs.Sources.{IsNext};
 use qfs_base::chunk::Copy;
 use qfs_base::listing::Listing;
 use qfs_base::lists::{Cause, CauseList, SlotCause};
-use qfs_base::numbers::{SLOTS, Slot};
+use qfs_base::numbers::Slot;
+use qfs_base::sizes::{DATA_SLOTS, SLOTS};
 use std::alloc::{AllocError, Global};
 
 /// Where a slot can be read, or why it can't.
 pub type Source = Result<Copy, Cause>;
 
 /// Where each slot of a block can be read.
-pub type Sources = [Source; 9];
-
-/// How many slots are needed to read a block.
-const DATA_SLOTS: usize = 6;
+pub type Sources = [Source; SLOTS as usize];
 
 /// Where a slot can be read, as its block is listed.
 fn source_of(nine: &[Option<Copy>], slot: usize) -> Source
@@ -51,7 +49,7 @@ pub fn sources_of(nine: &[Option<Copy>]) -> Sources
 pub fn are_too_few(sources: &Sources) -> bool
     ensures { result ≡ are_too_few sources.now }
 {
-    sources.iter().filter(|source| source.is_ok()).count() < DATA_SLOTS
+    sources.iter().filter(|source| source.is_ok()).count() < DATA_SLOTS as usize
 }
 
 /// Where a slot can be read.

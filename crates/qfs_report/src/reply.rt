@@ -317,6 +317,11 @@ fn push_reply(alloc: Global, out: &mut Vec<u8>, reply: &Reply<Excerpt>) -> Resul
             push_count(out, b"until", *until)
         }
         Reply::NotUp => push_word(out, b"notup"),
+        Reply::Upgraded => {
+            push_word(out, b"writes")?;
+            push_word(out, b"2")
+        }
+        Reply::Down => push_word(out, b"down"),
         Reply::Clock { now } => push_count(out, b"clock", *now),
         Reply::DropDone => push_word(out, b"done"),
         Reply::Saved { turn } => push_count(out, b"saved", *turn),

@@ -66,6 +66,7 @@ abbrev pub script_of : Shape → ℕ → List Command → Script
 script_of layout servers commands = record {
   layout = layout;
   servers = servers;
+  term = 0;
   audit = false;
   phases = (commands ∷ []) ∷ [];
   order = None;

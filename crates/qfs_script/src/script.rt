@@ -1,5 +1,6 @@
 //! Reading a whole script.
 ghost use Rattle.std.specs.Prelude.{◌≡◌, IfOk, IfErr};
+ghost use Rattle.qfs_model_script.specs.InScript.{IsScript};
 ghost use Rattle.qfs_script.specs.Lines.{text_lines};
 ghost use Rattle.qfs_script.specs.Refusal.{TellsBadLine};
 ghost use Rattle.qfs_script.specs.Script.{read_lines, script_of};
@@ -29,21 +30,16 @@ fn one_actor(
     Ok(Script {
         layout,
         servers,
+        term: 0,
         audit: false,
         phases,
         order: None,
     })
 }
 
-/// Reads a script. Its lines are, in this order, each with one blank between two words: `qfs 1`;
-/// `layout S R` with stripes of S bytes, a power of two from 16 to 65,536, and chunks of at most R
-/// rows, 1 to 1,024; `servers N`, 9 to 64; `phase`; `actor 1`; and up to 4,096 lines
-/// `put P hex H` or `get P`, where P is a path of one name and H are 1 to 32 bytes as hexadecimal
-/// digits. The last line may lack its line end.
-///
-/// The error tells the first line that is of another form. Other forms of scripts aren't built yet.
+/// Reads a script, as `read` does.
 #[tactic(auto, unfolding(crate::specs::Script::read_lines))]
-pub fn read(alloc: Global, bytes: &[u8]) -> Result<Script, ScriptError>
+fn read_forms(alloc: Global, bytes: &[u8]) -> Result<Script, ScriptError>
     ensures ok { IfOk result (λ script. read_lines (text_lines bytes.now) ≡ Ok script) }
     ensures bad { IfErr result (TellsBadLine (read_lines (text_lines bytes.now))) }
 {
@@ -59,4 +55,21 @@ pub fn read(alloc: Global, bytes: &[u8]) -> Result<Script, ScriptError>
     };
     let commands = read_commands(alloc, &mut lines)?;
     Ok(one_actor(alloc, layout, servers, commands)?)
+}
+
+/// Reads a script. Its lines are, in this order, each with one blank between two words: `qfs 1`;
+/// `layout S R` with stripes of S bytes, a power of two from 16 to 65,536, and chunks of at most R
+/// rows, 1 to 1,024; `servers N`, 9 to 64; `phase`; `actor 1`; and up to 4,096 lines
+/// `put P hex H` or `get P`, where P is a path of one name and H are 1 to 32 bytes as hexadecimal
+/// digits. The last line may lack its line end.
+///
+/// The error tells the first line that is of another form. Other forms of scripts aren't built yet.
+#[tactic(auto, using(crate::proofs::ScriptSaid::read_script_is))]
+pub fn read(alloc: Global, bytes: &[u8]) -> Result<Script, ScriptError>
+    ensures ok { IfOk result (λ script. read_lines (text_lines bytes.now) ≡ Ok script) }
+    ensures bad { IfErr result (TellsBadLine (read_lines (text_lines bytes.now))) }
+    ensures script { IfOk result IsScript }
+{
+    let script = read_forms(alloc, bytes)?;
+    Ok(script)
 }

@@ -1,2 +1,3 @@
-pub mod Groups
+pub mod BlockWindows
+pub mod Touched
 pub mod Windows

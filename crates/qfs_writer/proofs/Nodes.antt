@@ -6,7 +6,7 @@ use Rattle.qfs_model_actor.specs.Ask.{ask, ask_server}
 use Rattle.qfs_model_actor.specs.Hold.{ask_or, give_back, end_with}
 use Rattle.qfs_model_actor.specs.Put.{ask_grant, store, close_file, put_work}
 use Rattle.qfs_model_actor.specs.Work.{node_of_request, request_in}
-use Rattle.qfs_writer.specs.declared.stage.Ending.{Ending}
+use Rattle.qfs_writer.specs.declared.stage.PutEnding.{PutEnding}
 use Rattle.qfs_writer.specs.declared.stage.Put.{Put}
 use Rattle.qfs_writer.specs.declared.stage.PutSlot.{PutSlot}
 use Rattle.qfs_writer.specs.declared.stage.Stage.{Stage}
@@ -27,11 +27,11 @@ meta-asked put (At.Granting at) asks = rw (rest_of_grant-asks put at at.grants a
 meta-asked put (At.Storing at copy) asks = absurd asks
 meta-asked put (At.Closing file) asks = refl
 meta-asked put (At.Aborting file index slot) asks = refl
-meta-asked put (At.GivingUp file fault) asks = refl
+meta-asked put (At.GivingUp file ending) asks = refl
 meta-asked put (At.Ended ending) asks = absurd asks
 
 -- a put that asks nothing has ended
-pub asks-until_ended : (put : Put) (stage : Stage) → ((ending : Ending) → stage ≡ At.Ended ending → ⊥)
+pub asks-until_ended : (put : Put) (stage : Stage) → ((ending : PutEnding) → stage ≡ At.Ended ending → ⊥)
     → request_in (rest_at put stage) ≡ None → ⊥
 unfolding rest_at ask_grant store close_file put_work ask ask_or ask_server end_with give_back request_in
 asks-until_ended put At.Creating other none = cc
@@ -39,5 +39,5 @@ asks-until_ended put (At.Granting at) other none = let asks = rw (rest_of_grant-
 asks-until_ended put (At.Storing at copy) other none = cc
 asks-until_ended put (At.Closing file) other none = cc
 asks-until_ended put (At.Aborting file index slot) other none = cc
-asks-until_ended put (At.GivingUp file fault) other none = cc
+asks-until_ended put (At.GivingUp file ending) other none = cc
 asks-until_ended put (At.Ended ending) other none = other ending refl

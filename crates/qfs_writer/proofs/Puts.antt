@@ -10,7 +10,7 @@ use Rattle.qfs_base.specs.declared.reply.MetaReply.TheVariants as Said
 use Rattle.qfs_base.specs.declared.request.ChunkRequest.TheVariants as Serve
 use Rattle.qfs_base.specs.declared.request.MetaRequest.TheVariants as Ask
 use Rattle.qfs_base.specs.declared.request.NodeRequest.TheVariants as To
-use Rattle.qfs_model_actor.specs.Ask.{ask, ask_server, key_of, on_served, after_store}
+use Rattle.qfs_model_actor.specs.Ask.{ask, ask_server, key_of, after_store}
 use Rattle.qfs_model_actor.specs.Grants.{is_grant_of, if_meant, with_grant_of}
 use Rattle.qfs_model_actor.specs.Hold.{ask_or, unnamed}
 use Rattle.qfs_model_actor.specs.Put.{created, chosen, ask_grant, store, store_slot, store_slots, store_blocks, close_file, put_blocks_from, put_slots_from}
@@ -20,12 +20,8 @@ use Rattle.qfs_model_slot.specs.Slot.{slot_of}
 use Rattle.qfs_writer.specs.declared.stage.Put.{Put}
 use Rattle.qfs_writer.specs.declared.stage.PutSlot.{PutSlot}
 use Rattle.qfs_writer.specs.declared.stage.Stage.TheVariants as At
-use Rattle.qfs_writer.specs.Moves.{behind_grant, on_grant, on_store}
-use Rattle.qfs_writer.specs.Rest.{bytes_put, rest_at, rest_of_grant, behind, grant_of}
-
--- a slot that has had no server yet
-abbrev pub fresh_slot : ℕ → ℕ → ℕ → PutSlot
-fresh_slot file index slot = record { file = file; index = index; slot = slot; grants = 64; again = false }
+use Rattle.qfs_writer.specs.Moves.{behind_grant, behind_store, on_grant}
+use Rattle.qfs_writer.specs.Rest.{fresh_slot, bytes_put, rest_at, rest_of_grant, behind, grant_of}
 
 pub put_blocks_from-more : (put : Put) (file index : ℕ) → index < blocks_of put.layout.s put.layout.r (length (bytes_put put))
     → rest_at put (At.Granting (fresh_slot file index 0)) ≡ put_blocks_from put.layout (bytes_put put) file index
@@ -121,11 +117,11 @@ created-other put (Said.Created file place) other = absurd (other file place ref
 created-other put answer other = refl
 
 -- a slot that wasn't stored is granted again
-pub on_store-failed : (put : Put) (at : PutSlot) (answer : ChunkAnswer)
+pub behind_store-failed : (put : Put) (at : PutSlot) (answer : ChunkAnswer)
     → (answer ≡ Did.Down) ⊎ (((asked : ℕ) × (now : ℕ) × (answer ≡ Did.Lost asked now)) ⊎ (answer ≡ Did.Fault))
-    → rest_of_grant put at at.grants true ≡ on_store put at answer
-unfolding on_store on_served after_store
-on_store-failed put at answer failed =
+    → rest_of_grant put at at.grants true ≡ behind_store put at answer
+unfolding behind_store after_store
+behind_store-failed put at answer failed =
     elim failed [
       | inl down ↦ rw down refl
       | inr more ↦ elim more [ inl lost ↦ rw lost.2 refl | inr fault ↦ rw fault refl ]

@@ -1,8 +1,8 @@
 -- The bytes of data slots and parity slots, one stripe and one slot after another.
-use Rattle.std.proofs.Common.{true, false, nat_lt, ◌≡◌, ◌∙◌, refl, sym, ap, arith, ℕ, ◌+◌, ◌-◌, ◌*◌, ◌<◌, ◌≤◌, List, length, map, get_or, drop, bit_xor, inl, inr, rules}
-use Rattle.std.proofs.lemmas.Nat.{div-mul-add, mod-mul-add, xor_comm}
+use Rattle.std.proofs.Common.{true, false, nat_lt, ◌≡◌, ◌∙◌, refl, sym, ap, arith, ℕ, ◌+◌, ◌-◌, ◌*◌, ◌<◌, ◌≤◌, List, length, map, get_or, inl, inr, rules}
+use Rattle.std.proofs.lemmas.Nat.{div-mul-add, mod-mul-add, mul-add-lt}
 use Rattle.std.proofs.lemmas.Grind.{common_steps, same_number_lists}
-use Rattle.std.proofs.lemmas.List.{drop_more, places}
+use Rattle.std.proofs.lemmas.List.{places}
 use Rattle.std.proofs.lemmas.List.FromFn.{length-map-range_with_len, get_or-map-range_with_len}
 use Rattle.std.proofs.lemmas.Bool.{cases_lt}
 use Rattle.std.proofs.lemmas.Bool.Decides.{nat_tests}
@@ -10,10 +10,10 @@ use borrow.Rule.Slice.PartMut.{put_mid}
 use Rattle.std.specs.List.{range_with_len}
 use Rattle.qfs_base.specs.Shape.{Shape}
 use Rattle.qfs_base.specs.Layout.{rows_of}
-use Rattle.qfs_galois.specs.Field.{product, power}
-use Rattle.qfs_model_slot.specs.CodeWord.{weighted_sum, parity}
+use Rattle.qfs_code.specs.Code.{slots_of}
+use Rattle.qfs_code.proofs.Columns.{length-column, length-slots_of, byte_of_slots}
+use Rattle.qfs_model_slot.specs.CodeWord.{column, parity}
 use Rattle.qfs_model_slot.specs.Slot.{data_byte, data_bytes, byte_of_kind, slot_byte, slot_of}
-use Rattle.qfs_writer.specs.Row.{row_bytes_at}
 
 -- a list is told by a function where each of its items is
 pub told_by : (f : ℕ → ℕ) (n : ℕ) (xs : List ℕ) → length xs ≡ n → ((k : ℕ) → k < length xs → get_or xs k 0 ≡ f k) → xs ≡ map f (range_with_len 0 n)
@@ -54,57 +54,33 @@ next_stripe layout bytes xs ys k j row inside long before here a below =
     (λ i l. let short : i < layout.s = omega arith in here i l ∙ data_byte-stripe layout bytes k j row i short)
     a (grind arith)
 
--- one more slot is added to the sum of those behind it
-pub weighted_sum-next : (e i : ℕ) (ds : List ℕ) (old : ℕ) → i < length ds → old ≡ weighted_sum e (i + 1) (drop (i + 1) ds)
-    → bit_xor old (product (power 2 (e * i)) (get_or ds i 0)) ≡ weighted_sum e i (drop i ds)
-unfolding weighted_sum
-weighted_sum-next e i ds old inside h =
-    rw (drop_more ds i 0 inside) (xor_comm old _ ∙ ap (bit_xor (product (power 2 (e * i)) (get_or ds i 0))) h)
-
-length-row_bytes_at : (bytes : List ℕ) (from s i : ℕ) → length (row_bytes_at bytes from s i) ≡ 6
-unfolding row_bytes_at
-length-row_bytes_at bytes from s i = refl
-
-get_or-row_bytes_at : (bytes : List ℕ) (from s i j : ℕ) → j < 6
-    → get_or (row_bytes_at bytes from s i) j 0 ≡ get_or bytes (from + j * s + i) 0
-unfolding row_bytes_at
-get_or-row_bytes_at bytes from s i j inside =
-    get_or-map-range_with_len (λ j. get_or bytes (from + j * s + i) 0) 0 6 j j 0 inside (omega arith)
-
--- the same of the bytes of a row, for a weight and a byte that are told by equations
-pub next_weight : (bytes : List ℕ) (from s i e j old weight part : ℕ) → j < 6
-    → old ≡ weighted_sum e (j + 1) (drop (j + 1) (row_bytes_at bytes from s i)) → weight ≡ power 2 (e * j)
-    → part ≡ get_or bytes (from + j * s + i) 0
-    → bit_xor old (product weight part) ≡ weighted_sum e j (drop j (row_bytes_at bytes from s i))
-next_weight bytes from s i e j old weight part inside sum w p =
-    let byte : part ≡ get_or (row_bytes_at bytes from s i) j 0 = p ∙ sym (get_or-row_bytes_at bytes from s i j inside) in
-    let scaled : product weight part ≡ product (power 2 (e * j)) (get_or (row_bytes_at bytes from s i) j 0) = cc in
-    ap (bit_xor old) scaled ∙ weighted_sum-next e j (row_bytes_at bytes from s i) old (rw (length-row_bytes_at bytes from s i) inside) sum
-
-pub no_slots-sum : (e : ℕ) (bytes : List ℕ) (from s i : ℕ) → weighted_sum e 6 (drop 6 (row_bytes_at bytes from s i)) ≡ 0
-unfolding weighted_sum row_bytes_at
-no_slots-sum e bytes from s i = refl
-
-pub all_slots-sum : (e : ℕ) (ds : List ℕ) → weighted_sum e 0 (drop 0 ds) ≡ parity e ds
-unfolding parity
-all_slots-sum e ds = refl
-
--- the bytes of a row are those of the data slots at its place in their chunks
-row_bytes_at-place : (layout : Shape) (bytes : List ℕ) (k row i : ℕ) → i < layout.s
-    → row_bytes_at bytes (k * (6 * layout.s * layout.r) + row * (6 * layout.s)) layout.s i ≡ data_bytes layout bytes k (row * layout.s + i)
-unfolding row_bytes_at data_bytes data_byte
-row_bytes_at-place layout bytes k row i inside =
-    rw (div-mul-add row layout.s i inside, mod-mul-add row layout.s i inside) refl
+-- the bytes of a row are those of the data slots at its place in their chunks, where they stand one after another
+row_of_file : (layout : Shape) (bytes six : List ℕ) (k row i : ℕ) → i < layout.s → length six ≡ 6 * layout.s
+    → ((x : ℕ) → x < length six → get_or six x 0 ≡ get_or bytes (k * (6 * layout.s * layout.r) + row * (6 * layout.s) + x) 0)
+    → column (slots_of 6 layout.s six) i ≡ data_bytes layout bytes k (row * layout.s + i)
+unfolding data_bytes
+row_of_file layout bytes six k row i inside long each =
+    let first = k * (6 * layout.s * layout.r) + row * (6 * layout.s) in
+    let wide : length (column (slots_of 6 layout.s six) i) ≡ 6 = length-column (slots_of 6 layout.s six) i ∙ length-slots_of 6 layout.s six in
+    told_by (λ j. data_byte layout bytes k j (row * layout.s + i)) 6 _ wide
+    (λ j below.
+    let slot : j < 6 = omega arith in
+    let place : j * layout.s + i < 6 * layout.s = omega (arith, mul-add-lt j layout.s i 6 slot inside) in
+    let sum : first + (j * layout.s + i) ≡ k * (6 * layout.s * layout.r) + j * layout.s + row * (6 * layout.s) + i = omega arith in
+    byte_of_slots 6 layout.s six j i slot inside ∙ each (j * layout.s + i) (omega arith) ∙ ap (λ o. get_or bytes o 0) sum
+    ∙ data_byte-stripe layout bytes k j row i inside)
 
 -- the parity of one more row stands
-pub next_parity : (layout : Shape) (bytes xs ys : List ℕ) (k e row n : ℕ) → n ≡ layout.s → row * layout.s + layout.s ≤ length xs → length ys ≡ layout.s
+pub next_parity : (layout : Shape) (bytes six xs ys : List ℕ) (k e row : ℕ) → length six ≡ 6 * layout.s
+    → row * layout.s + layout.s ≤ length xs → length ys ≡ layout.s
+    → ((x : ℕ) → x < length six → get_or six x 0 ≡ get_or bytes (k * (6 * layout.s * layout.r) + row * (6 * layout.s) + x) 0)
     → ((a : ℕ) → a < row * layout.s → get_or xs a 0 ≡ parity e (data_bytes layout bytes k a))
-    → ((i : ℕ) → i < length ys → get_or ys i 0 ≡ parity e (row_bytes_at bytes (k * (6 * layout.s * layout.r) + row * (6 * layout.s)) n i))
+    → ((i : ℕ) → i < length ys → get_or ys i 0 ≡ parity e (column (slots_of 6 layout.s six) i))
     → (a : ℕ) → a < (row + 1) * layout.s
     → get_or (put_mid (row * layout.s) (row * layout.s + layout.s - row * layout.s) xs ys) a 0 ≡ parity e (data_bytes layout bytes k a)
-next_parity layout bytes xs ys k e row n is inside long before here a below =
-    next_part (λ a. parity e (data_bytes layout bytes k a)) xs ys (row * layout.s) _ layout.s (omega arith) inside long before
-    (λ i l. let short : i < layout.s = omega arith in here i l ∙ ap (parity e) (rw is (row_bytes_at-place layout bytes k row i short)))
+next_parity layout bytes six xs ys k e row long inside short each before here a below =
+    next_part (λ a. parity e (data_bytes layout bytes k a)) xs ys (row * layout.s) _ layout.s (omega arith) inside short before
+    (λ i l. let near : i < layout.s = omega arith in here i l ∙ ap (parity e) (row_of_file layout bytes six k row i near long each))
     a (grind arith)
 
 -- the bytes of data slots and of parity slots are those of a slot

@@ -1,4 +1,3 @@
-pub mod Row
 pub mod Rest
 pub mod Moves
 pub mod Standing

@@ -7,11 +7,12 @@ use Rattle.qfs_model_actor.specs.Ask.{on_served, after_store}
 use Rattle.qfs_model_actor.specs.Hold.{Hold, nothing, unclosed, unnamed, was_given_back}
 use Rattle.qfs_model_actor.specs.Put.{aborted, chosen, closed, created, store}
 use Rattle.qfs_model_actor.specs.Work.{Work, ends}
+use Rattle.qfs_machine.specs.Endings.{report_of as common_report}
 use Rattle.qfs_writer.specs.declared.stage.Put.{Put}
 use Rattle.qfs_writer.specs.declared.stage.PutSlot.{PutSlot}
 use Rattle.qfs_writer.specs.declared.stage.Stage.{Stage}
 use Rattle.qfs_writer.specs.declared.stage.Stage.TheVariants as At
-use Rattle.qfs_writer.specs.Rest.{bytes_put, behind, rest_of_grant, fault_report}
+use Rattle.qfs_writer.specs.Rest.{bytes_put, behind, rest_of_grant}
 
 -- what comes behind a grant: the slot is stored, unless the put has taken as many grants as it may
 unfoldable pub behind_grant : Put → PutSlot → ℕ → Granted → Work
@@ -23,12 +24,14 @@ behind_grant put at (suc grants) g =
 unfoldable pub on_grant : Put → PutSlot → MetaReply → Work
 on_grant put at answer = chosen at.file at.index at.slot (behind_grant put at at.grants) answer
 
--- what becomes of a server's answer to a slot that is stored there
-unfoldable pub on_store : Put → PutSlot → ChunkAnswer → Work
-on_store put at answer =
-    on_served (unclosed at.file) (after_store (behind put at) (λ cause. rest_of_grant put at at.grants true)) answer
+-- what becomes of a server's answer to a slot that is stored there, which doesn't end every command, and of any answer
+unfoldable pub behind_store : Put → PutSlot → ChunkAnswer → Work
+behind_store put at answer = after_store (behind put at) (λ cause. rest_of_grant put at at.grants true) answer
 
--- what is given back where a fault ends the put
+unfoldable pub on_store : Put → PutSlot → ChunkAnswer → Work
+on_store put at answer = on_served (unclosed at.file) (behind_store put at) answer
+
+-- what is given back where an answer ends the put
 unfoldable pub hold_at : Stage → Hold
 hold_at (At.Granting at) = unclosed at.file
 hold_at (At.Closing file) = unclosed file
@@ -40,7 +43,7 @@ on_answer_at put At.Creating answer = created put.layout (bytes_put put) answer
 on_answer_at put (At.Granting at) answer = on_grant put at answer
 on_answer_at put (At.Closing file) answer = closed (length (bytes_put put)) answer
 on_answer_at put (At.Aborting file index slot) answer = aborted index slot answer
-on_answer_at put (At.GivingUp file fault) answer = was_given_back (ends (fault_report fault)) answer
+on_answer_at put (At.GivingUp file ending) answer = was_given_back (ends (common_report ending)) answer
 on_answer_at put stage answer = unnamed
 
 -- the stages whose request goes to the metaserver

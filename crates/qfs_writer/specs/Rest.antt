@@ -1,19 +1,19 @@
 -- What is left of a put at each of its stages.
-use Rattle.std.specs.Prelude.{ℕ, ◌+◌, ◌<◌, Bool, true, List, [], length, ⊤}
+use Rattle.std.specs.Prelude.{ℕ, ◌+◌, ◌<◌, Bool, true, false, List, [], length, ⊤}
 use Rattle.qfs_base.specs.Layout.{blocks_of}
 use Rattle.qfs_base.specs.Recipe.{bytes_of}
+use Rattle.qfs_base.specs.Sizes.{SLOTS}
 use Rattle.qfs_base.specs.declared.chunk.Copy.{Copy}
 use Rattle.qfs_base.specs.declared.command.Reply.TheVariants as Report
 use Rattle.qfs_base.specs.declared.reply.Granted.{Granted}
 use Rattle.qfs_base.specs.declared.request.MetaRequest.TheVariants as Ask
 use Rattle.qfs_model_actor.specs.Ask.{ask}
 use Rattle.qfs_model_actor.specs.Hold.{nothing, unclosed, end_with}
-use Rattle.qfs_model_actor.specs.Put.{aborted, store, store_slot, put_slots_from, close_file, put_work}
+use Rattle.qfs_model_actor.specs.Put.{MOST_GRANTS, aborted, store, store_slot, put_slots_from, close_file, put_work}
 use Rattle.qfs_model_actor.specs.Work.{Report, Work, ends}
-use Rattle.qfs_writer.specs.declared.stage.Ending.{Ending}
-use Rattle.qfs_writer.specs.declared.stage.Ending.TheVariants as With
-use Rattle.qfs_writer.specs.declared.stage.Fault.{Fault}
-use Rattle.qfs_writer.specs.declared.stage.Fault.TheVariants as By
+use Rattle.qfs_machine.specs.Endings.{report_of as common_report}
+use Rattle.qfs_writer.specs.declared.stage.PutEnding.{PutEnding}
+use Rattle.qfs_writer.specs.declared.stage.PutEnding.TheVariants as With
 use Rattle.qfs_writer.specs.declared.stage.Put.{Put}
 use Rattle.qfs_writer.specs.declared.stage.PutSlot.{PutSlot}
 use Rattle.qfs_writer.specs.declared.stage.Stage.{Stage}
@@ -23,20 +23,17 @@ use Rattle.qfs_writer.specs.declared.stage.Stage.TheVariants as At
 unfoldable pub bytes_put : Put → List ℕ
 bytes_put put = bytes_of put.recipe
 
--- the report of a command that a fault ends
-unfoldable pub fault_report : Fault → Report
-fault_report By.LogFault = Report.LogFault
-fault_report By.NoMemory = Report.NoMemory
-fault_report (By.BadLog right offset) = Report.BadLog right offset
-
 -- the report of a put that ends so
-unfoldable pub report_of : Ending → Report
+unfoldable pub report_of : PutEnding → Report
 report_of (With.Stored place len) = Report.Stored place len
 report_of (With.NoServer place index slot) = Report.PutNoServer place index slot
 report_of (With.Refused place refusal) = Report.Refused place refusal
-report_of (With.Dropped turn) = Report.Dropped turn
-report_of (With.Fault fault) = fault_report fault
-report_of With.Unnamed = Report.Unnamed
+report_of (With.Common ending) = common_report ending
+
+-- a slot that has had no server yet
+abbrev pub fresh_slot : ℕ → ℕ → ℕ → PutSlot
+fresh_slot file index slot =
+    record { file = file; index = index; slot = slot; grants = MOST_GRANTS; again = false }
 
 -- a grant of a copy
 unfoldable pub grant_of : PutSlot → Copy → Granted
@@ -70,13 +67,13 @@ rest_at put (At.Storing at copy) =
     (grant_of at copy)
 rest_at put (At.Closing file) = close_file (length (bytes_put put)) file
 rest_at put (At.Aborting file index slot) = ask nothing (Ask.Abort file) (aborted index slot)
-rest_at put (At.GivingUp file fault) = end_with (unclosed file) (fault_report fault)
+rest_at put (At.GivingUp file ending) = end_with (unclosed file) (common_report ending)
 rest_at put (At.Ended ending) = ends (report_of ending)
 
 -- the slot is one of a block of the file
 pub record IsPutSlot (put : Put) (at : PutSlot) : Type 0 where
   pub block : at.index < blocks_of put.layout.s put.layout.r (length (bytes_put put))
-  pub slot : at.slot < 9
+  pub slot : at.slot < SLOTS
 
 -- what holds at each stage
 abbrev pub IsAt : Put → Stage → Type 0

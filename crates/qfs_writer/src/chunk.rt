@@ -3,21 +3,19 @@
 ghost use Rattle.std.specs.Prelude.{◌≡◌, ℕ, ◌+◌, ◌-◌, ◌*◌, ◌^◌, ◌<◌, ◌≤◌, length, slice_index, EachIndex, IfOk};
 ghost use Rattle.qfs_base.specs.Layout.{blocks_of};
 ghost use Rattle.qfs_base.specs.Recipe.{bytes_of};
+ghost use Rattle.qfs_base.specs.Sizes.{SLOTS, MOST_CHUNK_BYTES};
 ghost use Rattle.qfs_model_slot.specs.CodeWord.{parity};
 ghost use Rattle.qfs_model_slot.specs.Slot.{data_byte, data_bytes, slot_of};
-ghost use Rattle.qfs_writer.specs.Row.{row_bytes_at};
 
 use qfs_base::listing::Listing;
 use qfs_base::lists::Bytes;
 use qfs_base::numbers::Slot;
 use qfs_base::recipe::Recipe;
-use qfs_galois::{add_scaled, pow2};
+use qfs_base::sizes::DATA_SLOTS;
+use qfs_code::encode_slot;
 use qfs_recipe::RecipeCalls;
 use qfs_stripe::{Layout, LayoutCalls};
 use std::alloc::{AllocError, Global};
-
-/// The slots of a block that hold the file's own bytes.
-const DATA_SLOTS: Slot = 6;
 
 /// The bytes of slot `slot` of block `index` of a file with these bytes, at most 67,108,864 of them:
 /// a data slot holds one stripe of each row, with zeros past the file's end, and a parity slot
@@ -30,8 +28,10 @@ pub fn chunk_of(
     slot: Slot,
 ) -> Result<Bytes, AllocError>
     requires block { index < blocks_of layout.now.s layout.now.r (length (bytes_of recipe.now)) }
-    ensures value { IfOk result (λ chunk. chunk ≡ slot_of layout.now (bytes_of recipe.now) index slot) }
-    ensures bound { IfOk result (λ chunk. length chunk ≤ 67108864) }
+    requires slot { slot < SLOTS }
+    ensures value { IfOk result (λ chunk.
+        chunk ≡ slot_of layout.now (bytes_of recipe.now) index slot) }
+    ensures bound { IfOk result (λ chunk. length chunk ≤ MOST_CHUNK_BYTES) }
 {
     let rows = layout.rows_of(recipe.len(), index);
     let stripe = layout.s as usize;
@@ -39,14 +39,14 @@ pub fn chunk_of(
     if slot < DATA_SLOTS {
         fill_data(layout, recipe, index, slot, rows, chunk.as_mut_slice());
     } else {
-        let mut part = vec![in alloc; 0; stripe]?;
+        let mut six = vec![in alloc; 0; DATA_SLOTS as usize * stripe]?;
         fill_parity(
             layout,
             recipe,
             index,
             slot - DATA_SLOTS,
             rows,
-            part.as_mut_slice(),
+            six.as_mut_slice(),
             chunk.as_mut_slice(),
         );
     }
@@ -55,14 +55,14 @@ pub fn chunk_of(
 
 /// Fills `out` with the stripes of a data slot in the first `rows` rows of block `index`.
 fn fill_data(layout: &Layout, recipe: &Recipe, index: u32, slot: Slot, rows: u32, out: &mut [u8])
-    requires slot { slot < 6 }
+    requires slot { slot < DATA_SLOTS }
     requires len { length out.old ≡ rows * layout.now.s }
-    ensures { EachIndex out.new (λ a. slice_index out.new a ≡ data_byte layout.now (bytes_of recipe.now) index slot a) }
+    ensures { EachIndex out.new (λ a. slice_index out.new a
+        ≡ data_byte layout.now (bytes_of recipe.now) index slot a) }
 {
     let stripe = layout.s as usize;
-    let row_bytes = 6 * stripe;
-    let block_bytes = row_bytes * layout.r as usize;
-    let first = index as usize * block_bytes + slot as usize * stripe;
+    let row_bytes = layout.row_bytes() as usize;
+    let first = index as usize * layout.block_bytes() as usize + slot as usize * stripe;
     for row in 0..rows as usize {
         let at = row * stripe;
         fill_from(recipe, first + row * row_bytes, &mut out[at..at + stripe]);
@@ -70,51 +70,37 @@ fn fill_data(layout: &Layout, recipe: &Recipe, index: u32, slot: Slot, rows: u32
 }
 
 /// Fills `out` with the bytes that complete the code words of the first `rows` rows of block
-/// `index`, in the parity slot of this number, from 0. `part` is room for a stripe.
+/// `index`, in the parity slot of this number, 0 to 2. `six` is room for the stripes of a row, which
+/// stand one after another in the file.
 fn fill_parity(
     layout: &Layout,
     recipe: &Recipe,
     index: u32,
     number: u8,
     rows: u32,
-    part: &mut [u8],
+    six: &mut [u8],
     out: &mut [u8],
 )
-    requires part { length part.old ≡ layout.now.s }
+    requires number { number < 3 }
+    requires six { length six.old ≡ DATA_SLOTS * layout.now.s }
     requires len { length out.old ≡ rows * layout.now.s }
-    ensures { EachIndex out.new (λ a. slice_index out.new a ≡ parity number (data_bytes layout.now (bytes_of recipe.now) index a)) }
+    ensures { EachIndex out.new (λ a. slice_index out.new a
+        ≡ parity number (data_bytes layout.now (bytes_of recipe.now) index a)) }
 {
     let stripe = layout.s as usize;
-    let row_bytes = 6 * stripe;
-    let first = index as usize * (row_bytes * layout.r as usize);
+    let row_bytes = layout.row_bytes() as usize;
+    let first = index as usize * layout.block_bytes() as usize;
     for row in 0..rows as usize {
         let at = row * stripe;
-        let from = first + row * row_bytes;
-        add_row(recipe, from, number, part, &mut out[at..at + stripe]);
-    }
-}
-
-/// Fills `sums` with the bytes that complete the code words of a row, in the parity slot of this
-/// number. The row's six stripes stand in the file from byte `from` on; `part` is room for one.
-fn add_row(recipe: &Recipe, from: usize, number: u8, part: &mut [u8], sums: &mut [u8])
-    requires part { length part.old ≡ length sums.old }
-    requires from { from + 6 * length part.old < 2 ^ 64 }
-    ensures { EachIndex sums.new (λ i. slice_index sums.new i ≡ parity number (row_bytes_at (bytes_of recipe.now) from (length part.old) i)) }
-{
-    sums.fill(0);
-    let stripe = part.len();
-    let mut slot = DATA_SLOTS;
-    while slot > 0 {
-        slot -= 1;
-        fill_from(recipe, from + slot as usize * stripe, part);
-        let weight = pow2(u32::from(number) * u32::from(slot));
-        add_scaled(sums, part, weight);
+        fill_from(recipe, first + row * row_bytes, six);
+        encode_slot(six, stripe, number, &mut out[at..at + stripe]);
     }
 }
 
 /// Fills `out` with the recipe's bytes from `from` on, and with zeros past the last of them.
 fn fill_from(recipe: &Recipe, from: usize, out: &mut [u8])
-    ensures { EachIndex out.new (λ i. slice_index out.new i ≡ slice_index (bytes_of recipe.now) (from + i)) }
+    ensures { EachIndex out.new (λ i. slice_index out.new i
+        ≡ slice_index (bytes_of recipe.now) (from + i)) }
 {
     let len = recipe.len() as usize;
     let start = from.min(len);

@@ -24,7 +24,8 @@ fn copy_path(path: &Path) -> Result<Path, AllocError>
 
 /// The request that makes the file.
 fn create_request(put: &Put) -> Result<NodeRequest, AllocError>
-    ensures request { IfOk result (λ request. request_in (rest_at put.now Stage.Creating) ≡ Some request) }
+    ensures request { IfOk result (λ request.
+        request_in (rest_at put.now Stage.Creating) ≡ Some request) }
     ensures askable { IfOk result IsAskable }
 {
     let path = copy_path(&put.path)?;
@@ -56,7 +57,8 @@ fn store_request(
     copy: Copy,
 ) -> Result<NodeRequest, AllocError>
     requires { IsPutSlot put.now at }
-    ensures request { IfOk result (λ request. request_in (rest_at put.now (Stage.Storing at copy)) ≡ Some request) }
+    ensures request { IfOk result (λ request.
+        request_in (rest_at put.now (Stage.Storing at copy)) ≡ Some request) }
     ensures askable { IfOk result IsAskable }
 {
     let bytes = chunk_of(alloc, &put.layout, &put.recipe, at.index, at.slot)?;

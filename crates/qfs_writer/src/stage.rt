@@ -2,13 +2,17 @@
 
 ghost use Rattle.std.specs.Prelude.{◌≡◌, ◌≤◌, length};
 ghost use Rattle.qfs_base.specs.Layout.{blocks_of};
-ghost use Rattle.qfs_writer.specs.Rest.{bytes_put};
+ghost use Rattle.qfs_base.specs.Sizes.{MOST_FILE_BYTES};
+ghost use Rattle.qfs_model_actor.specs.Shown.{kept_report};
+ghost use Rattle.qfs_writer.specs.Rest.{bytes_put, report_of};
 
 use qfs_base::chunk::Copy;
-use qfs_base::numbers::{FileId, Place, Slot, Turn};
+use qfs_base::command::{Excerpt, Reply};
+use qfs_base::numbers::{FileId, Place, Slot};
 use qfs_base::path::Path;
 use qfs_base::recipe::Recipe;
 use qfs_base::reply::TreeRefusal;
+use qfs_machine::Ending;
 use qfs_recipe::RecipeCalls;
 use qfs_stripe::{Layout, LayoutCalls};
 
@@ -27,14 +31,15 @@ impl Put {
     #[tactic(auto, unfolding(crate::specs::Rest::bytes_put))]
     pub fn len(&self) -> u32
         ensures value { result ≡ length (bytes_put self.now) }
-        ensures bound { result ≤ 268435456 }
+        ensures bound { result ≤ MOST_FILE_BYTES }
     {
         self.recipe.len()
     }
 
     /// How many blocks the file has.
     pub fn blocks(&self) -> u32
-        ensures { result ≡ blocks_of self.now.layout.s self.now.layout.r (length (bytes_put self.now)) }
+        ensures { result
+            ≡ blocks_of self.now.layout.s self.now.layout.r (length (bytes_put self.now)) }
     {
         self.layout.blocks_of(self.len())
     }
@@ -51,18 +56,9 @@ pub struct PutSlot {
     pub again: bool,
 }
 
-/// What of a node ends every command.
-#[derive(Clone, Copy)]
-pub enum Fault {
-    LogFault,
-    NoMemory,
-    /// The metaserver's newest disk goes wrong at this offset.
-    BadLog { right: bool, offset: u64 },
-}
-
 /// How a put ends.
 #[derive(Clone, Copy)]
-pub enum Ending {
+pub enum PutEnding {
     /// The file was closed, and has `len` bytes.
     Stored {
         place: Place,
@@ -79,13 +75,23 @@ pub enum Ending {
         place: Place,
         refusal: TreeRefusal,
     },
-    /// The actor had been dropped at this turn.
-    Dropped {
-        turn: Turn,
-    },
-    Fault(Fault),
-    /// A node answered something that its request doesn't allow.
-    Unnamed,
+    /// It ends as any command may.
+    Common(Ending),
+}
+
+impl PutEnding {
+    /// The reply of a put that ends so, as it is kept. Takes no memory.
+    #[tactic(auto, unfolding(crate::specs::Rest::report_of, qfs_model_actor::specs::Shown::shown_reply))]
+    pub fn into_reply(self) -> Reply<Excerpt>
+        ensures { result ≡ kept_report (report_of self) }
+    {
+        match self {
+            PutEnding::Stored { place, len } => Reply::Stored { place, len },
+            PutEnding::NoServer { place, index, slot } => Reply::PutNoServer { place, index, slot },
+            PutEnding::Refused { place, refusal } => Reply::Refused { place, refusal },
+            PutEnding::Common(ending) => ending.into_reply(),
+        }
+    }
 }
 
 /// What a put waits for.
@@ -101,8 +107,8 @@ pub enum Stage {
     Closing(FileId),
     /// It found no server for a slot, and gives its file up: the block's index and the slot.
     Aborting(FileId, u32, Slot),
-    /// It gives its file up, and then this fault ends it.
-    GivingUp(FileId, Fault),
+    /// It gives its file up, and then it ends so.
+    GivingUp(FileId, Ending),
     /// It has ended.
-    Ended(Ending),
+    Ended(PutEnding),
 }

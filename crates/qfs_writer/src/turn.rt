@@ -1,5 +1,5 @@
 //! How a put goes on when a node has answered.
-#![tactic(auto, unfolding(crate::specs::Rest::rest_at, crate::specs::Rest::report_of, crate::specs::Rest::fault_report, crate::specs::Moves::on_answer_at, crate::specs::Moves::on_grant, crate::specs::Moves::on_store, crate::specs::Moves::hold_at, qfs_model_actor::specs::Put::closed, qfs_model_actor::specs::Put::aborted, qfs_model_actor::specs::Put::chosen, qfs_model_actor::specs::Put::created, qfs_model_actor::specs::Tree::refused, qfs_model_actor::specs::Ask::on_served, qfs_model_actor::specs::Ask::after_store, qfs_model_actor::specs::Hold::on_answer, qfs_model_actor::specs::Hold::was_given_back, qfs_model_actor::specs::Hold::end_with, qfs_model_actor::specs::Hold::give_back, qfs_model_actor::specs::Grants::is_grant_of))]
+#![tactic(auto, unfolding(crate::specs::Rest::rest_at, crate::specs::Rest::report_of, qfs_machine::specs::Endings::ended, qfs_machine::specs::Endings::report_of, crate::specs::Moves::on_answer_at, crate::specs::Moves::on_grant, crate::specs::Moves::on_store, crate::specs::Moves::behind_store, crate::specs::Moves::hold_at, qfs_model_actor::specs::Put::closed, qfs_model_actor::specs::Put::aborted, qfs_model_actor::specs::Put::chosen, qfs_model_actor::specs::Put::created, qfs_model_actor::specs::Tree::refused, qfs_model_actor::specs::Ask::on_served, qfs_model_actor::specs::Ask::after_store, qfs_model_actor::specs::Hold::on_answer, qfs_model_actor::specs::Hold::was_given_back, qfs_model_actor::specs::Hold::end_with, qfs_model_actor::specs::Hold::give_back, qfs_model_actor::specs::Grants::is_grant_of))]
 
 ghost use Rattle.std.specs.Prelude.{◌≡◌, ◌+◌, length, true, false};
 ghost use Rattle.qfs_base.specs.declared.chunk.Copy.{Copy};
@@ -8,23 +8,33 @@ ghost use Rattle.qfs_model_actor.specs.Hold.{end_with, on_answer, was_given_back
 ghost use Rattle.qfs_model_actor.specs.Put.{aborted, closed, created, put_blocks_from};
 ghost use Rattle.qfs_model_actor.specs.Tree.{refused};
 ghost use Rattle.qfs_model_actor.specs.Work.{ends, goes_on};
-ghost use Rattle.qfs_writer.specs.Moves.{hold_at, on_answer_at, on_grant, on_store, AsksMeta};
-ghost use Rattle.qfs_writer.specs.Rest.{bytes_put, behind, fault_report, rest_at, IsAt, IsPutSlot};
+ghost use Rattle.qfs_machine.specs.Endings.{ended, report_of as common_report};
+ghost use Rattle.qfs_writer.specs.Moves.{behind_store, hold_at, on_answer_at, on_grant, on_store, AsksMeta};
+ghost use Rattle.qfs_writer.specs.Rest.{bytes_put, behind, fresh_slot, rest_at, IsAt, IsPutSlot};
 
-use crate::stage::{Ending, Fault, Put, PutSlot, Stage};
+use crate::stage::{Put, PutEnding, PutSlot, Stage};
 use qfs_base::chunk::Copy;
 use qfs_base::numbers::{FileId, Slot};
 use qfs_base::reply::{ChunkAnswer, Granted, MetaReply, NodeReply};
+use qfs_base::sizes::SLOTS;
+use qfs_machine::Ending;
 
 /// The last slot of a block.
-const LAST_SLOT: Slot = 8;
+const LAST_SLOT: Slot = SLOTS - 1;
 
 /// How many grants of one slot a put takes.
 const MOST_GRANTS: u8 = 64;
 
+/// The stage of a put that ends at once, as any command may.
+fn ended(ending: Ending) -> Stage
+    ensures { result ≡ Stage.Ended (PutEnding.Common ending) }
+{
+    Stage::Ended(PutEnding::Common(ending))
+}
+
 /// The stage of a put at a slot that has had no server yet.
 fn at_slot(file: FileId, index: u32, slot: Slot) -> Stage
-    ensures { result ≡ Stage.Granting (record { file = file; index = index; slot = slot; grants = 64; again = false }) }
+    ensures { result ≡ Stage.Granting (fresh_slot file index slot) }
 {
     Stage::Granting(PutSlot {
         file,
@@ -37,7 +47,8 @@ fn at_slot(file: FileId, index: u32, slot: Slot) -> Stage
 
 /// The stage of a put whose file is there.
 fn begun(put: &Put, file: FileId) -> Stage
-    ensures rest { rest_at put.now result ≡ put_blocks_from put.now.layout (bytes_put put.now) file 0 }
+    ensures rest { rest_at put.now result
+        ≡ put_blocks_from put.now.layout (bytes_put put.now) file 0 }
     ensures at { IsAt put.now result }
 {
     if put.blocks() == 0 {
@@ -72,11 +83,11 @@ fn refused(put: &Put, answer: &MetaReply) -> Stage
     ensures at { IsAt put.now result }
 {
     match answer {
-        MetaReply::Refused { refusal, place } => Stage::Ended(Ending::Refused {
+        MetaReply::Refused { refusal, place } => Stage::Ended(PutEnding::Refused {
             place: *place,
             refusal: *refusal,
         }),
-        _ => Stage::Ended(Ending::Unnamed),
+        _ => ended(Ending::Unnamed),
     }
 }
 
@@ -105,7 +116,7 @@ fn use_grant(put: &Put, at: PutSlot, grant: &Granted) -> Stage
     ensures at { IsAt put.now result }
 {
     if at.grants == 0 || !is_grant_of(at, grant) {
-        return Stage::Ended(Ending::Unnamed);
+        return ended(Ending::Unnamed);
     }
     let copy = Copy {
         server: grant.server,
@@ -131,7 +142,7 @@ fn granted(put: &Put, at: PutSlot, answer: &MetaReply) -> Stage
     match answer {
         MetaReply::Granted(grant) => use_grant(put, at, grant),
         MetaReply::NoServer { .. } => Stage::Aborting(at.file, at.index, at.slot),
-        _ => Stage::Ended(Ending::Unnamed),
+        _ => ended(Ending::Unnamed),
     }
 }
 
@@ -148,68 +159,93 @@ fn grant_again(at: PutSlot) -> Stage
     })
 }
 
-/// The stage of a put at a server's answer to a slot that is stored there.
+/// The stage of a put at a server's answer to a slot that is stored there, which doesn't end every
+/// command.
 fn stored(put: &Put, at: PutSlot, answer: &ChunkAnswer) -> Stage
     requires { IsPutSlot put.now at }
-    ensures rest { rest_at put.now result ≡ on_store put.now at answer.now }
+    ensures rest { rest_at put.now result ≡ behind_store put.now at answer.now }
     ensures at { IsAt put.now result }
 {
     match answer {
         ChunkAnswer::Stored => behind(put, at),
-        ChunkAnswer::NoMemory => Stage::GivingUp(at.file, Fault::NoMemory),
         ChunkAnswer::Down | ChunkAnswer::Lost { .. } | ChunkAnswer::Fault => grant_again(at),
-        _ => Stage::Ended(Ending::Unnamed),
+        _ => ended(Ending::Unnamed),
+    }
+}
+
+/// The stage of a put at a server's answer to a slot that is stored there.
+fn on_chunk(put: &Put, at: PutSlot, answer: &ChunkAnswer) -> Stage
+    requires { IsPutSlot put.now at }
+    ensures rest { rest_at put.now result ≡ on_store put.now at answer.now }
+    ensures at { IsAt put.now result }
+{
+    match Ending::of_chunk(answer) {
+        Some(ending) => Stage::GivingUp(at.file, ending),
+        None => stored(put, at, answer),
     }
 }
 
 /// The ending of a put at the answer to its request to close the file.
-fn closed(put: &Put, answer: &MetaReply) -> Ending
-    ensures { rest_at put.now (Stage.Ended result) ≡ closed (length (bytes_put put.now)) answer.now }
+fn closed(put: &Put, answer: &MetaReply) -> PutEnding
+    ensures { rest_at put.now (Stage.Ended result)
+        ≡ closed (length (bytes_put put.now)) answer.now }
 {
     match answer {
-        MetaReply::Done { place } => Ending::Stored {
+        MetaReply::Done { place } => PutEnding::Stored {
             place: *place,
             len: put.len(),
         },
-        _ => Ending::Unnamed,
+        _ => PutEnding::Common(Ending::Unnamed),
     }
 }
 
 /// The ending of a put that found no server for a slot, at the answer to its request to give the
 /// file up.
-fn aborted(put: &Put, index: u32, slot: Slot, answer: &MetaReply) -> Ending
+fn aborted(put: &Put, index: u32, slot: Slot, answer: &MetaReply) -> PutEnding
     ensures { rest_at put.now (Stage.Ended result) ≡ aborted index slot answer.now }
 {
     match answer {
-        MetaReply::Done { place } => Ending::NoServer {
+        MetaReply::Done { place } => PutEnding::NoServer {
             place: *place,
             index,
             slot,
         },
-        _ => Ending::Unnamed,
+        _ => PutEnding::Common(Ending::Unnamed),
     }
 }
 
-/// The ending of a put that gave its file up at a fault.
-fn given_up(put: &Put, fault: Fault, answer: &MetaReply) -> Ending
-    ensures { rest_at put.now (Stage.Ended result) ≡ was_given_back (ends (fault_report fault)) answer.now }
+/// The ending of a put that gave its file up, to end so.
+fn given_up(put: &Put, ending: Ending, answer: &MetaReply) -> Ending
+    ensures { rest_at put.now (Stage.Ended (PutEnding.Common result))
+        ≡ was_given_back (ends (common_report ending)) answer.now }
 {
     match answer {
-        MetaReply::Done { .. } => Ending::Fault(fault),
+        MetaReply::Done { .. } => ending,
         _ => Ending::Unnamed,
     }
 }
 
-/// The stage of a put that a fault of the metaserver ends: it gives its file up if the file isn't
-/// given up or closed yet by this very request.
-fn give_up(put: &Put, stage: Stage, fault: Fault) -> Stage
-    ensures rest { rest_at put.now result ≡ end_with (hold_at stage) (fault_report fault) }
+/// The stage of a put that gives up what it holds and ends so: its file, if this very request
+/// wasn't to make it or to give it up.
+fn give_up(put: &Put, stage: Stage, ending: Ending) -> Stage
+    ensures rest { rest_at put.now result ≡ end_with (hold_at stage) (common_report ending) }
     ensures at { IsAt put.now result }
 {
     match stage {
-        Stage::Granting(at) => Stage::GivingUp(at.file, fault),
-        Stage::Closing(file) => Stage::GivingUp(file, fault),
-        _ => Stage::Ended(Ending::Fault(fault)),
+        Stage::Granting(at) => Stage::GivingUp(at.file, ending),
+        Stage::Closing(file) => Stage::GivingUp(file, ending),
+        _ => ended(ending),
+    }
+}
+
+/// The stage of a put that an answer of the metaserver ends. A dropped actor holds nothing.
+fn end(put: &Put, stage: Stage, ending: Ending) -> Stage
+    ensures rest { rest_at put.now result ≡ ended (end_with (hold_at stage)) ending }
+    ensures at { IsAt put.now result }
+{
+    match ending {
+        Ending::Dropped { .. } | Ending::Unnamed => ended(ending),
+        _ => give_up(put, stage, ending),
     }
 }
 
@@ -224,29 +260,21 @@ fn answered(put: &Put, stage: Stage, answer: &MetaReply) -> Stage
         Stage::Granting(at) => granted(put, at, answer),
         Stage::Closing(_) => Stage::Ended(closed(put, answer)),
         Stage::Aborting(_, index, slot) => Stage::Ended(aborted(put, index, slot, answer)),
-        Stage::GivingUp(_, fault) => Stage::Ended(given_up(put, fault, answer)),
-        Stage::Storing(..) | Stage::Ended(_) => Stage::Ended(Ending::Unnamed),
+        Stage::GivingUp(_, ending) => ended(given_up(put, ending, answer)),
+        Stage::Storing(..) | Stage::Ended(_) => ended(Ending::Unnamed),
     }
 }
 
 /// The stage of a put at an answer of the metaserver.
 fn on_meta(put: &Put, stage: Stage, answer: &MetaReply) -> Stage
     requires { IsAt put.now stage }
-    ensures rest { rest_at put.now result ≡ on_answer (end_with (hold_at stage)) (on_answer_at put.now stage) answer.now }
+    ensures rest { rest_at put.now result
+        ≡ on_answer (end_with (hold_at stage)) (on_answer_at put.now stage) answer.now }
     ensures at { IsAt put.now result }
 {
-    match answer {
-        MetaReply::Dropped { turn } => Stage::Ended(Ending::Dropped { turn: *turn }),
-        MetaReply::LogFault => give_up(put, stage, Fault::LogFault),
-        MetaReply::NoMemory => give_up(put, stage, Fault::NoMemory),
-        MetaReply::BadLog { right, offset } => {
-            let fault = Fault::BadLog {
-                right: *right,
-                offset: *offset,
-            };
-            give_up(put, stage, fault)
-        }
-        _ => answered(put, stage, answer),
+    match Ending::of_meta(answer) {
+        Some(ending) => end(put, stage, ending),
+        None => answered(put, stage, answer),
     }
 }
 
@@ -259,19 +287,20 @@ fn after_question(put: &Put, stage: Stage, reply: &NodeReply) -> Stage
 {
     match reply {
         NodeReply::Meta(answer) => on_meta(put, stage, answer),
-        NodeReply::Chunk(_) => Stage::Ended(Ending::Unnamed),
+        NodeReply::Chunk(_) => ended(Ending::Unnamed),
     }
 }
 
 /// The stage of a put that asked a server to store a slot, at a node's reply.
 fn after_store(put: &Put, at: PutSlot, reply: &NodeReply) -> Stage
     requires { IsPutSlot put.now at }
-    ensures rest { (copy : Copy) → rest_at put.now result ≡ goes_on (rest_at put.now (Stage.Storing at copy)) reply.now }
+    ensures rest { (copy : Copy) →
+        rest_at put.now result ≡ goes_on (rest_at put.now (Stage.Storing at copy)) reply.now }
     ensures at { IsAt put.now result }
 {
     match reply {
-        NodeReply::Chunk(reply) => stored(put, at, &reply.answer),
-        NodeReply::Meta(_) => Stage::Ended(Ending::Unnamed),
+        NodeReply::Chunk(reply) => on_chunk(put, at, &reply.answer),
+        NodeReply::Meta(_) => ended(Ending::Unnamed),
     }
 }
 

@@ -2,15 +2,14 @@
 
 ghost use Rattle.std.specs.Prelude.{◌≡◌, None};
 ghost use Rattle.qfs_base.specs.Recipe.{bytes_of};
-ghost use Rattle.qfs_model_actor.specs.Shown.{kept_report};
 ghost use Rattle.qfs_machine.specs.declared.machine.Readiness.{Readiness};
 ghost use Rattle.qfs_model_actor.specs.Put.{put_work};
 ghost use Rattle.qfs_model_actor.specs.Work.{ends, request_in};
-ghost use Rattle.qfs_writer.specs.Rest.{fault_report, report_of};
+ghost use Rattle.qfs_writer.specs.Rest.{report_of};
 ghost use Rattle.qfs_writer.specs.Standing.{rest_of};
 
 use crate::request::{node_of, request_at};
-use crate::stage::{Ending, Fault, Put, Stage};
+use crate::stage::{Put, PutEnding, Stage};
 use crate::turn::stage_after;
 use qfs_base::command::{Excerpt, Reply};
 use qfs_base::numbers::NodeId;
@@ -18,7 +17,7 @@ use qfs_base::path::Path;
 use qfs_base::recipe::Recipe;
 use qfs_base::reply::NodeReply;
 use qfs_base::request::NodeRequest;
-use qfs_machine::{Machine, Readiness};
+use qfs_machine::{Machine, Pending, Readiness};
 use qfs_stripe::Layout;
 use std::alloc::{AllocError, Global};
 use std::marker::Model;
@@ -32,8 +31,7 @@ pub struct Writer {
     alloc: Global,
     put: Put,
     stage: Stage,
-    readiness: Readiness,
-    request: Option<NodeRequest>,
+    pending: Pending,
 }
 
 impl Model for Writer {
@@ -41,12 +39,15 @@ impl Model for Writer {
 
     ghost Value = { Standing };
 
-    ghost use Rattle.qfs_writer.specs.Rest.{IsAt};
-    ghost use Rattle.qfs_writer.specs.Standing.{IsKept};
+    ghost use Rattle.qfs_machine.specs.Asking.{IsPending};
+    ghost use Rattle.qfs_writer.specs.Rest.{rest_at, IsAt};
 
-    ghost view = { λ it. record { put = it.put; stage = it.stage; readiness = it.readiness } };
+    ghost view = { λ it.
+        record { put = it.put; stage = it.stage; readiness = it.pending.readiness } };
 
-    ghost invariant = { λ it. IsAt it.put it.stage × IsKept it.put it.stage it.request it.readiness };
+    ghost invariant = { λ it.
+        IsAt it.put it.stage
+        × IsPending (rest_at it.put it.stage) it.pending.readiness it.pending.request };
 }
 
 impl Writer {
@@ -66,13 +67,12 @@ impl Writer {
             alloc,
             put,
             stage: Stage::Creating,
-            readiness: Readiness::Unready,
-            request: None,
+            pending: Pending::nothing(),
         }
     }
 
     /// How the put has ended.
-    fn ending(&self) -> Ending
+    fn ending(&self) -> PutEnding
         requires { request_in (rest_of self.now) ≡ None }
         ensures { rest_of self.now ≡ ends (report_of result) }
     {
@@ -89,10 +89,10 @@ impl Machine for Writer {
     ghost readiness = { λ it. it.readiness };
 
     fn ready(&mut self) -> Result<(), AllocError> {
-        match self.readiness {
+        match self.pending.readiness {
             Readiness::Unready => {
-                self.request = request_at(self.alloc, &self.put, self.stage)?;
-                self.readiness = Readiness::Ready;
+                let request = request_at(self.alloc, &self.put, self.stage)?;
+                self.pending = Pending::ready(request);
                 Ok(())
             }
             _ => Ok(()),
@@ -104,46 +104,15 @@ impl Machine for Writer {
     }
 
     fn next(&mut self) -> Option<NodeRequest> {
-        let request = self.request.take();
-        if request.is_some() {
-            self.readiness = Readiness::Out;
-        }
-        request
+        self.pending.hand_out()
     }
 
     fn took(&mut self, reply: NodeReply) {
         self.stage = stage_after(&self.put, self.stage, &reply);
-        self.readiness = Readiness::Unready;
+        self.pending = Pending::nothing();
     }
 
     fn into_reply(self) -> Reply<Excerpt> {
-        reply_of(self.ending())
-    }
-}
-
-/// The report of a put that ends so.
-#[tactic(auto, unfolding(crate::specs::Rest::report_of, crate::specs::Rest::fault_report, qfs_model_actor::specs::Shown::shown_reply))]
-fn reply_of(ending: Ending) -> Reply<Excerpt>
-    ensures { result ≡ kept_report (report_of ending) }
-{
-    match ending {
-        Ending::Stored { place, len } => Reply::Stored { place, len },
-        Ending::NoServer { place, index, slot } => Reply::PutNoServer { place, index, slot },
-        Ending::Refused { place, refusal } => Reply::Refused { place, refusal },
-        Ending::Dropped { turn } => Reply::Dropped { turn },
-        Ending::Fault(fault) => reply_of_fault(fault),
-        Ending::Unnamed => Reply::Unnamed,
-    }
-}
-
-/// The report of a put that a fault ends.
-#[tactic(auto, unfolding(crate::specs::Rest::fault_report, qfs_model_actor::specs::Shown::shown_reply))]
-fn reply_of_fault(fault: Fault) -> Reply<Excerpt>
-    ensures { result ≡ kept_report (fault_report fault) }
-{
-    match fault {
-        Fault::LogFault => Reply::LogFault,
-        Fault::NoMemory => Reply::NoMemory,
-        Fault::BadLog { right, offset } => Reply::BadLog { right, offset },
+        self.ending().into_reply()
     }
 }

@@ -14,4 +14,5 @@ returns c =
       swept = record { requests = refl; end = refl };
       leaves = record { requests = refl; end = refl };
       starts = record { requests = refl; end = refl };
+      upgrades = (record { requests = refl; end = refl }, record { requests = refl; end = refl });
     }

@@ -15,6 +15,11 @@ pub returns-clause-too_few : goal.returns-clause-too_few
 unfolding work_on_literals
 returns-clause-too_few c = record { requests = refl; end = refl }
 
+pub returns-clause-second : goal.returns-clause-second
+unfolding work_on_literals
+returns-clause-second c =
+    record { reads = record { requests = refl; end = refl }; is_refused = record { requests = refl; end = refl } }
+
 pub returns-clause-actor : goal.returns-clause-actor
 unfolding work_on_literals
 returns-clause-actor c = refl

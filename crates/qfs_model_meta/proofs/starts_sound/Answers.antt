@@ -11,20 +11,22 @@ pub returns : goal.returns
 unfolding whole_metaserver IsDistinct no_past files_in known_copies condemned_of live_servers
 returns c = record {
   image = record {
-    some_server = rw length-replicate c.requires.some;
-    few_servers = rw length-replicate c.requires.few;
-    first_file = one;
-    first_lease = one;
-    first_condemned = one;
+    fits = record {
+      some_server = rw length-replicate c.requires.some;
+      few_servers = rw length-replicate c.requires.few;
+      first_file = one;
+      first_lease = one;
+      first_condemned = one;
+      tree = record { in_order = tt; paths = tt; no_root = tt; in_directories = tt; plain_directories = tt; file_numbers = tt; each_file_once = tt; lengths = tt; makers = tt };
+      slots = record { in_order = tt; slot_numbers = tt; of_files = tt; current_of_closed = tt; on_servers = tt; grants = tt; failed_in_order = tt };
+      leases = record { in_order = tt; numbers = tt; actors = tt };
+      condemned = record { in_order = tt; numbers = tt; slot_numbers = tt; on_servers = tt; blockers = tt };
+      dropped = record { in_order = tt; actors = tt };
+      history = tt;
+    };
     counters = refl;
-    tree = record { in_order = tt; paths = tt; no_root = tt; in_directories = tt; plain_directories = tt; file_numbers = tt; each_file_once = tt; lengths = tt; makers = tt };
-    slots = record { in_order = tt; slot_numbers = tt; of_files = tt; current_of_closed = tt; on_servers = tt; failed_in_order = tt };
-    leases = record { in_order = tt; numbers = tt };
-    condemned = record { in_order = tt; numbers = tt; slot_numbers = tt; on_servers = tt; blockers = tt };
-    dropped = tt;
-    history = tt;
   };
-  granted_once = record { once = tt; of_files = tt; behind = tt; different = λ block slot. tt; known = λ block slot. tt; ordered = tt; listed = tt };
+  granted_once = record { once = tt; of_files = tt; behind = tt; counted = tt; different = λ block slot. tt; known = λ block slot. tt; ordered = tt; listed = tt };
   lives = tt;
   leases = record { once = tt; numbers = tt; given = tt; listed = tt; kept = tt };
   ordered = tt;

@@ -28,6 +28,7 @@ limits = record {
   stripe = (omega arith, omega arith, refl);
   rows = (omega arith, omega arith);
   servers = (omega arith, omega arith);
+  term = omega arith;
   phases = (omega arith, omega arith);
   few_actors = omega arith;
   few_commands = (omega arith, tt);

@@ -1,6 +1,6 @@
 use Rattle.std.proofs.Common.{◌≡◌, ◌∙◌, ap, sym, subst}
 use Rattle.qfs_model_meta.specs.Apply.{apply}
-use Rattle.qfs_model_meta.specs.Change.{EndLease}
+use Rattle.qfs_base.specs.declared.change.Change.TheVariants.{EndLease}
 use Rattle.qfs_model_meta.specs.Leases.{holds_lease}
 use Rattle.qfs_model_meta.specs.Step.{next_turn}
 use Rattle.qfs_meta.specs.Kept.{IsKept}

@@ -1,7 +1,7 @@
 use Rattle.std.proofs.Common.{◌≡◌, ◌∙◌, ap, sym, subst, arith, Some, None}
 use Rattle.std.specs.Option.{option_copied}
 use Rattle.qfs_model_meta.specs.Apply.{apply}
-use Rattle.qfs_model_meta.specs.Change.{CloseFile}
+use Rattle.qfs_base.specs.declared.change.Change.TheVariants.{CloseFile}
 use Rattle.qfs_model_meta.specs.Lists.{block_count}
 use Rattle.qfs_model_meta.specs.PutRequests.{first_ungranted}
 use Rattle.qfs_model_meta.specs.Step.{next_turn}

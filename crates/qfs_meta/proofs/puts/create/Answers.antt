@@ -1,7 +1,7 @@
 use Rattle.std.proofs.Common.{◌≡◌, ◌∙◌, ap, sym, subst, arith}
 use Rattle.qfs_base.specs.NameTree.{add_refusal}
 use Rattle.qfs_model_meta.specs.Apply.{apply}
-use Rattle.qfs_model_meta.specs.Change.{AddFile}
+use Rattle.qfs_base.specs.declared.change.Change.TheVariants.{AddFile}
 use Rattle.qfs_model_meta.specs.Step.{next_turn}
 use Rattle.qfs_model_meta.specs.TreeRows.{standing}
 use Rattle.qfs_meta.specs.Kept.{IsKept}

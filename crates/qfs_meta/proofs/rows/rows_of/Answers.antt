@@ -1,5 +1,5 @@
 use Rattle.std.proofs.Common.{refl, sym}
-use Rattle.qfs_meta.specs.Runs.{has_key}
+use Rattle.qfs_base.specs.Table.{has_key}
 use Rattle.qfs_meta.proofs.RunLaws.{part_of, filter_part}
 use Rattle.qfs_meta.proofs.rows.rows_of.Goals as goal
 

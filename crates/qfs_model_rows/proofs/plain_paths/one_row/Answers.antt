@@ -4,4 +4,4 @@ use Rattle.qfs_model_rows.proofs.plain_paths.one_row.Goals as goal
 
 pub returns : goal.returns
 unfolding world_on_literals
-returns c = record { prints = record { fitting = refl; whole = refl; printed = refl }; stores = record { stored = refl }; eighth_record = refl }
+returns c = record { prints = record { fitting = refl; whole = refl; printed = refl }; stores = record { stored = refl } }

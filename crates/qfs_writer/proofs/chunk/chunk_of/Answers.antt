@@ -4,7 +4,7 @@ use Rattle.qfs_base.specs.Recipe.{bytes_of}
 use Rattle.qfs_base.specs.Shape.{Shape}
 use Rattle.qfs_writer.proofs.Stripes.{data_byte-slot, parity-slot, slot_of-each}
 use Rattle.qfs_writer.proofs.chunk.chunk_of.Goals as goal
-use Rattle.qfs_writer.proofs.chunk.chunk_of.Goals.{then-slot-lt-DATA_SLOTS, else-slot-lt-DATA_SLOTS+in_ok-part}
+use Rattle.qfs_writer.proofs.chunk.chunk_of.Goals.{then-slot-lt-DATA_SLOTS, else-slot-lt-DATA_SLOTS+in_ok-six}
 
 pub returns-clause-value : goal.returns-clause-value
 returns-clause-value c =
@@ -19,7 +19,7 @@ returns-clause-value c =
           rw same
           (slot_of-each c.args.layout.now (bytes_of c.args.recipe.now) w.fill_data.new.out c.args.index c.args.slot c.rows_of-rows.result rows long
           (λ a inside. w.fill_data.ensures a inside ∙ data_byte-slot c.args.layout.now (bytes_of c.args.recipe.now) c.args.index c.args.slot a w.if-slot-lt-DATA_SLOTS.true))
-      | else-slot-lt-DATA_SLOTS+in_ok-part w ↦
+      | else-slot-lt-DATA_SLOTS+in_ok-six w ↦
           let long : length w.fill_parity.new.out ≡ c.rows_of-rows.result * c.args.layout.now.s = first_of (omega arith, grind (arith, common_steps)) in
           let same : c.if-slot-lt-DATA_SLOTS.chunk.items ≡ w.fill_parity.new.out = rw w.chunk-is (first_of (search (rules, common_steps), grind (arith, common_steps))) in
           rw same

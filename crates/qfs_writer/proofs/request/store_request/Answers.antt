@@ -4,7 +4,7 @@ use Rattle.qfs_writer.proofs.request.store_request.Goals as goal
 
 pub chunk_of-requires : goal.chunk_of-requires
 unfolding bytes_put
-chunk_of-requires c = record { block = c.requires.block }
+chunk_of-requires c = record { block = c.requires.block; slot = c.requires.slot }
 
 pub returns-clause-request : goal.returns-clause-request
 unfolding bytes_put

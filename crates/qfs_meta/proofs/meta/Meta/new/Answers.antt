@@ -1,12 +1,12 @@
-use Rattle.std.proofs.Common.{refl}
 use Rattle.qfs_model_meta.specs.Step.{opening}
 use Rattle.qfs_meta.proofs.meta.Meta.new.Goals as goal
 
 pub returns : goal.returns
 unfolding opening
-returns c = (
-  refl,
-  λ i. record {
+returns c i = record {
+  layout = c.args.layout;
+  term = c.args.term;
+  image = record {
     turn = 0;
     clock = 0;
     next_file = 1;
@@ -19,5 +19,5 @@ returns c = (
     condemned = c.new-4.ensures i;
     dropped = c.new-5.ensures i;
     history = c.new-6.ensures i;
-  },
-)
+  };
+}

@@ -1,8 +1,0 @@
--- A `Told` owns nothing, so any thread may share it.
-use denote.RattleType.{RattleType}
-use denote.Param.Send.{IsSync, part_keyless}
-use Rattle.qfs_machine.specs.contracts.told.Told.{the_row}
-use Rattle.qfs_machine.proofs.told.Told.TheSendSync.Send.{send}
-
-pub sync : (T : RattleType) → IsSync (the_row T)
-sync T = record { shared = λ d b o κ q. part_keyless (the_row T) (send T) q d b o }

@@ -1,0 +1,7 @@
+use Rattle.std.proofs.Common.{refl}
+use Rattle.qfs_model_promises.proofs.OnLiterals.{promises_on_literals}
+use Rattle.qfs_model_rows.proofs.promised.heard_words.Goals as goal
+
+pub returns : goal.returns
+unfolding promises_on_literals
+returns c = record { two_actors = refl; third_fails = refl }

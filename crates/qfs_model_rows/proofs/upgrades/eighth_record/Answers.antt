@@ -1,0 +1,8 @@
+use Rattle.std.proofs.Common.{refl}
+use Rattle.qfs_model_rows.specs.Upgrades.{records_on}
+use Rattle.qfs_model_world.proofs.OnLiterals.{world_on_literals}
+use Rattle.qfs_model_rows.proofs.upgrades.eighth_record.Goals as goal
+
+pub returns : goal.returns
+unfolding world_on_literals records_on
+returns c = refl
