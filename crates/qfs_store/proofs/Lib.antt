@@ -1,7 +1,16 @@
+pub mod DoesLaws
+pub mod EntryLaws
+pub mod FoundLaws
 pub mod FreshLaws
+pub mod HeadLaws
 pub mod KeyLaws
 pub mod PutLaws
+pub mod RangeLaws
 pub mod ReadLaws
 pub mod RecordLaws
+pub mod ServeLaws
+pub mod SoundLaws
 pub mod StandsLaws
+pub mod StartStep
 pub mod StepLaws
+pub mod UnreadLaws

@@ -90,7 +90,7 @@ check_next stripe held told told' begun now now' sizes chunk rest before did =
 above : (a b : ChunkKey) → key_cmp a b ≡ Less → same_key b a ≡ false
 above a b less = ap is_eq (key_cmp_total.antisymm b a ∙ ap ordering_reverse less)
 
-abbrev Stands : Contents → Contents → Type 0
+abbrev pub Stands : Contents → Contents → Type 0
 Stands whole part = AllByRecursion (λ (chunk : ChunkKey × List ℕ). value_at key_cmp whole chunk.0 ≡ Some chunk.1) part
 
 stand_behind : (entry : ChunkKey × List ℕ) (whole rest : Contents) → AllByRecursion (λ key. key_cmp entry.0 key ≡ Less) (keys_of rest) → Stands whole rest → Stands (entry ∷ whole) rest
@@ -229,11 +229,11 @@ blanks_above key (e ∷ es) above =
       | false ↦ blanks_above key es above.1
     ]
 
-abbrev added : ChunkKey → Option CopySize → Sizes → Sizes
+abbrev pub added : ChunkKey → Option CopySize → Sizes → Sizes
 added key None others = others
 added key (Some size) others = (key, size) ∷ others
 
-copies_more : (stripe : ℕ) (e : ChunkKey × List ℕ) (es : Contents) → copies_in stripe (e ∷ es) ≡ added e.0 (copy_under stripe e.0 e.1) (copies_in stripe es)
+pub copies_more : (stripe : ℕ) (e : ChunkKey × List ℕ) (es : Contents) → copies_in stripe (e ∷ es) ≡ added e.0 (copy_under stripe e.0 e.1) (copies_in stripe es)
 copies_more stripe e es =
     elim (copy_under stripe e.0 e.1) as (λ (o : Option CopySize). cons_option (option_map (entry_of e.0) o) (copies_in stripe es) ≡ added e.0 o (copies_in stripe es)) [
       | None ↦ refl

@@ -100,13 +100,13 @@ upgrade_passed known now none = up_passed known.up none
 
 -- ---- one key
 
-holds_along : (stripe : ℕ) (q : ChunkKey) (under under' : Option (List ℕ)) (copy copy' : Option Chunk) → under ≡ under' → copy ≡ copy'
+pub holds_along : (stripe : ℕ) (q : ChunkKey) (under under' : Option (List ℕ)) (copy copy' : Option Chunk) → under ≡ under' → copy ≡ copy'
     → HoldsUnder stripe q under copy → HoldsUnder stripe q under' copy'
 holds_along stripe q under under' copy copy' a b holds =
     subst (λ (t : Option (List ℕ) × Option Chunk). HoldsUnder stripe q t.0 t.1) (λ i. (a i, b i)) holds
 
 -- at the key that was set stands what was set there, and at every other what stood there
-holds_one : (stripe : ℕ) (key q : ChunkKey) (under under' : Option (List ℕ)) (copy copy' : Option Chunk) (b : Bool) → (b ≡ true → key ≡ q)
+pub holds_one : (stripe : ℕ) (key q : ChunkKey) (under under' : Option (List ℕ)) (copy copy' : Option Chunk) (b : Bool) → (b ≡ true → key ≡ q)
     → HoldsUnder stripe key under copy → HoldsUnder stripe q under' copy' → HoldsUnder stripe q (cond b under under') (cond b copy copy')
 holds_one stripe key q under under' copy copy' true same set other = subst (λ (k : ChunkKey). HoldsUnder stripe k under copy) (same refl) set
 holds_one stripe key q under under' copy copy' false same set other = other

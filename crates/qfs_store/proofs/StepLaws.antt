@@ -34,16 +34,16 @@ abbrev pub Led : ChunkRequest → ChunkReply → ℕ → Held → Option Held �
 Led request reply stripe held told known server step = (now : Held) × (told ≡ Some now) × Steps request reply stripe held now known server step
 
 -- a life that was told is the one of the device
-life_told : (life : ℕ) (told : Option Held) (held : Held) → told ≡ Some held → IsLife life told → life ≡ held.life
+pub life_told : (life : ℕ) (told : Option Held) (held : Held) → told ≡ Some held → IsLife life told → life ≡ held.life
 life_told life told held is life_is = subst (λ (t : Option Held). IsLife life t) is life_is
 
 -- nothing was handed out
-none_more : (more : Bool) (old count : ℕ) → HandsOut more old (old + (count - count))
+pub none_more : (more : Bool) (old count : ℕ) → HandsOut more old (old + (count - count))
 none_more false old count = omega arith
 none_more true old count = omega arith
 
 -- a server that stays as it was
-stayed : (request : ChunkRequest) (stripe : ℕ) (held : Held) (told : Option Held) (known : Known) (server : Server) (answer : ChunkAnswer) (room : List ℕ)
+pub stayed : (request : ChunkRequest) (stripe : ℕ) (held : Held) (told : Option Held) (known : Known) (server : Server) (answer : ChunkAnswer) (room : List ℕ)
     → told ≡ Some held → StandsOn stripe held known server
     → Led request (record { answer = answer; room = room }) stripe held told known server (stays server answer room)
 stayed request stripe held told known server answer room told_is stands = (
@@ -63,7 +63,7 @@ refused_step request answer outcome before held server told_is stands due =
     (stayed request before.stripe held before.told before.known server answer (room_of request) told_is stands)
 
 -- what is let through is attempted
-attempted : (request : ChunkRequest) (outcome : Outcome) (stripe : ℕ) (held : Held) (known : Known) (server : Server) → StandsOn stripe held known server
+pub attempted : (request : ChunkRequest) (outcome : Outcome) (stripe : ℕ) (held : Held) (known : Known) (server : Server) → StandsOn stripe held known server
     → refusal known held.life request ≡ None → server_step request outcome server ≡ chunk_attempted server request outcome
 unfolding server_step chunk_decided
 attempted request outcome stripe held known server stands none =
@@ -71,7 +71,7 @@ attempted request outcome stripe held known server stands none =
 
 -- ---- Put
 
-put_step : (stripe : ℕ) (key : ChunkKey) (life : ℕ) (bytes : List ℕ) (answer : ChunkAnswer) (held : Held) (told told' : Option Held) (known : Known) (copies' : Sizes) (server : Server)
+pub put_step : (stripe : ℕ) (key : ChunkKey) (life : ℕ) (bytes : List ℕ) (answer : ChunkAnswer) (held : Held) (told told' : Option Held) (known : Known) (copies' : Sizes) (server : Server)
     → told ≡ Some held → StandsOn stripe held known server → has_key key_cmp known.copies key ≡ false
     → let copy : Chunk = written server bytes in IsChunk stripe key copy
     → PutLeaves key (size_of copy) (chunk_record stripe key copy) answer known.copies copies' told told'
@@ -124,7 +124,7 @@ copy_part stripe held key size from count (Some copy) holds is =
     ∙ ap (λ (bytes : List ℕ). take count (drop (head_bytes copy.form + from) bytes)) (bytes_are held key (chunk_record stripe key copy) holds.spelled)
     ∙ ap (take count) (behind_head stripe key copy from holds.fits)
 
-fetch_step : (stripe : ℕ) (key : ChunkKey) (life from : ℕ) (room room' : List ℕ) (answer : ChunkAnswer) (size : CopySize) (held : Held) (told told' : Option Held) (known : Known) (server : Server)
+pub fetch_step : (stripe : ℕ) (key : ChunkKey) (life from : ℕ) (room room' : List ℕ) (answer : ChunkAnswer) (size : CopySize) (held : Held) (told told' : Option Held) (known : Known) (server : Server)
     → told ≡ Some held → StandsOn stripe held known server → value_at key_cmp known.copies key ≡ Some size
     → FetchLeaves key size from (length room) answer room' told told'
     → Led (Ask.Fetch key life from room) (record { answer = answer; room = room' }) stripe held told' known server (chunk_attempted server (Ask.Fetch key life from room) (chunk_outcome answer))
@@ -156,7 +156,7 @@ fetch_step stripe key life from room room' _ size held told told' known server t
 
 -- ---- Erase and Wipe
 
-erase_step : (stripe : ℕ) (key : ChunkKey) (life : ℕ) (answer : ChunkAnswer) (held : Held) (told told' : Option Held) (known : Known) (copies' : Sizes) (server : Server)
+pub erase_step : (stripe : ℕ) (key : ChunkKey) (life : ℕ) (answer : ChunkAnswer) (held : Held) (told told' : Option Held) (known : Known) (copies' : Sizes) (server : Server)
     → told ≡ Some held → StandsOn stripe held known server → EraseLeaves key answer known.copies copies' told told'
     → Led (Ask.Erase key life) (without_room answer) stripe held told' (record known { copies = copies' }) server (chunk_attempted server (Ask.Erase key life) (chunk_outcome answer))
 unfolding chunk_attempted chunk_outcome chunk_served room_of
@@ -181,7 +181,7 @@ erase_step stripe key life Answer.Fault held told told' known copies' server tol
 )
 erase_step stripe key life _ held told told' known copies' server told_is stands left = absurd left
 
-wipe_step : (stripe : ℕ) (answer : ChunkAnswer) (held : Held) (told told' : Option Held) (known : Known) (copies' : Sizes) (server : Server)
+pub wipe_step : (stripe : ℕ) (answer : ChunkAnswer) (held : Held) (told told' : Option Held) (known : Known) (copies' : Sizes) (server : Server)
     → told ≡ Some held → StandsOn stripe held known server → WipeLeaves answer known.copies copies' told told'
     → Led Ask.Wipe (without_room answer) stripe held told' (record known { copies = copies' }) server (chunk_attempted server Ask.Wipe (chunk_outcome answer))
 unfolding chunk_attempted chunk_outcome chunk_served room_of
@@ -214,7 +214,7 @@ keys_are : (copies : Copies) → keys_of (sizes_in copies) ≡ map (λ copy. cop
 keys_are [] = refl
 keys_are (copy ∷ copies) = ap (λ (keys : List ChunkKey). copy.0 ∷ keys) (keys_are copies)
 
-inventory_step : (stripe : ℕ) (answer : ChunkAnswer) (held : Held) (told : Option Held) (known : Known) (server : Server)
+pub inventory_step : (stripe : ℕ) (answer : ChunkAnswer) (held : Held) (told : Option Held) (known : Known) (server : Server)
     → told ≡ Some held → StandsOn stripe held known server → InventoryIs answer known.copies told
     → Led Ask.Inventory (without_room answer) stripe held told known server (chunk_attempted server Ask.Inventory (chunk_outcome answer))
 unfolding chunk_attempted chunk_outcome chunk_served room_of

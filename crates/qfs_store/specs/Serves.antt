@@ -2,6 +2,7 @@
 use Rattle.std.specs.Prelude.{ℕ, ◌≡◌, ◌+◌, ◌-◌, ◌^◌, ◌<◌, ◌≤◌, not, Bool, true, false, List, [], length, take, drop, replicate, Option, Some, None, IfSome, is_some, ⊤}
 use Rattle.std.specs.Option.{option_map}
 use Rattle.std.specs.List.{list_any}
+use Rattle.std.specs.List.Sorted.{IsStrictlySortedBy}
 use Rattle.std.specs.Map.{keys_of}
 use Rattle.qfs_base.specs.Key.{key_cmp}
 use Rattle.qfs_base.specs.KeyMap.{has_key, value_at, with_entry, without_key}
@@ -80,12 +81,12 @@ InventoryIs (Answer.Inventory life keys) copies told = (keys ≡ keys_of copies)
 InventoryIs Answer.NoMemory copies told = ⊤
 InventoryIs _ copies told = ⊥
 
--- a stopped server's copies are those that stand on its device, and all fronts were read; on one that is up nothing is
--- read
+-- a stopped server, whose copies rose by key, has those that stand on its device, and all fronts were read; on one that
+-- is up nothing is read
 abbrev pub FindsCopies : ℕ → Bool → Sizes → Sizes → Option Held → Option Held → Type 0
 FindsCopies stripe true copies copies' told told' = (copies' ≡ copies) × (told' ≡ told)
 FindsCopies stripe false copies copies' told told' =
-    (held : Held) → told ≡ Some held → Found stripe held copies' told'
+    IsStrictlySortedBy key_cmp (keys_of copies) × ((held : Held) → told ≡ Some held → Found stripe held copies' told')
 
 -- a Start that failed may have read; one that found no memory has read nothing
 abbrev pub StartLeaves : ℕ → Bool → ChunkAnswer → Sizes → Sizes → Option Held → Option Held → Type 0

@@ -1,5 +1,6 @@
 //! The copies that a chunk server knows of.
 ghost use Rattle.std.specs.Prelude.{◌≡◌, [], IfOk, OnOk, OnErr};
+ghost use Rattle.std.specs.List.Sorted.{IsStrictlySortedBy};
 ghost use Rattle.std.specs.Map.{keys_of};
 ghost use Rattle.qfs_base.specs.Key.{key_cmp};
 ghost use Rattle.qfs_base.specs.KeyMap.{value_at, has_key, with_entry, without_key};
@@ -97,6 +98,15 @@ impl Copies {
         ensures { self.new ≡ [] }
     {
         self.map.clear();
+    }
+
+    /// Puts other copies in the place of these, which rose by key.
+    pub fn replace(&mut self, found: Copies)
+        ensures found { self.new ≡ found }
+        ensures rose { IsStrictlySortedBy key_cmp (keys_of self.old) }
+    {
+        let Copies { map } = found;
+        self.map = map;
     }
 
     /// The keys of the copies, rising.

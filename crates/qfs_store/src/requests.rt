@@ -23,7 +23,7 @@ pub fn put<D: ChunkDevice>(
     device: &mut D,
     copies: &mut Copies,
     key: ChunkKey,
-    bytes: &[u8],
+    bytes: &Bytes,
     form: u8,
     stripe: u32,
 ) -> ChunkAnswer
@@ -41,7 +41,7 @@ pub fn put<D: ChunkDevice>(
         form,
         len: bytes.len() as u32,
     };
-    match spelled(alloc, key, bytes, form, stripe) {
+    match spelled(alloc, key, bytes.as_slice(), form, stripe) {
         Ok(record) => store(device, copies, key, size, &record),
         Err(_) => ChunkAnswer::NoMemory,
     }
@@ -59,7 +59,8 @@ fn spelled(
     requires size { length bytes.now ≤ 67108864 }
     requires form { (form ≡ 1) ⊎ (form ≡ 2) }
     requires stripe { IsStripe stripe }
-    ensures { IfOk result (λ made. made.items ≡ chunk_record stripe key (record { form = form; bytes = bytes.now })) }
+    ensures fits { IsChunk stripe key (record { form = form; bytes = bytes.now }) }
+    ensures made { IfOk result (λ made. made.items ≡ chunk_record stripe key (record { form = form; bytes = bytes.now })) }
 {
     let mut record = Vec::new(alloc);
     let named = if form == 1 { 0 } else { stripe };
@@ -199,7 +200,7 @@ pub fn start<D: ChunkDevice>(
     }
     match copies_on(alloc, device, stripe) {
         Ok(found) => {
-            *copies = found;
+            copies.replace(found);
             *up = true;
             ChunkAnswer::Started {
                 life: device.life(),

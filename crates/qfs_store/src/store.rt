@@ -197,7 +197,7 @@ impl<D: ChunkDevice> Store<D> {
                     &mut self.device,
                     &mut self.copies,
                     key,
-                    bytes.as_slice(),
+                    &bytes,
                     self.form,
                     self.stripe,
                 ),
