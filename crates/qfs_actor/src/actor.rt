@@ -10,8 +10,8 @@ ghost use Rattle.qfs_machine.specs.declared.machine.Readiness.{Readiness};
 ghost use Rattle.qfs_actor.specs.Forms.{IsBuilt};
 ghost use Rattle.qfs_actor.specs.Standing.{at_start, CanAsk};
 
-use crate::state::ActorState;
 use crate::actor_model::{ActorModel, Setting, model_after, model_at_start};
+use crate::state::ActorState;
 use qfs_base::command::{Command, ReplyLine, ReplyList};
 use qfs_base::listing::Listing;
 use qfs_base::numbers::{ActorId, NodeId};

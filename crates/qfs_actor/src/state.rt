@@ -15,8 +15,8 @@ ghost use Rattle.qfs_actor.specs.State.{IsOf, readiness_in};
 ghost use Rattle.qfs_actor.specs.CommandMachine.{rest_of, readiness_of};
 ghost use Rattle.qfs_actor.specs.Forms.{IsBuilt};
 
-use crate::command_machine::CommandMachine;
 use crate::actor_model::Setting;
+use crate::command_machine::CommandMachine;
 use qfs_base::command::{Command, ReplyLine};
 use qfs_base::numbers::NodeId;
 use qfs_base::reply::NodeReply;

@@ -1,5 +1,5 @@
 //! Two commands of an actor, among nodes that answer as a test says.
-ghost use Rattle.std.specs.Prelude.{◌≡◌, IfOk};
+ghost use Rattle.std.specs.Prelude.{◌≡◌, ◌≤◌, IfOk};
 ghost use Rattle.qfs_machine.specs.declared.machine.Readiness.{Readiness};
 ghost use Rattle.qfs_actor.specs.Forms.{IsBuiltFile};
 
@@ -9,6 +9,7 @@ use qfs_base::listing::Listing;
 use qfs_base::path::path_from;
 use qfs_base::reply::{MetaReply, NodeReply, TreeRefusal};
 use qfs_base::request::{MetaRequest, NodeRequest};
+use qfs_base::rules::Rules;
 use qfs_recipe::{Form, Recipe};
 use qfs_stripe::{Layout, LayoutCalls};
 use std::alloc::Global;
@@ -29,6 +30,18 @@ fn answer(request: &NodeRequest) -> NodeReply {
         }
         _ => NodeReply::Meta(MetaReply::Nothing),
     }
+}
+
+/// Chunks of up to two rows of stripes of 16 bytes; a get opens its file once.
+fn small_rules() -> Result<Rules, Fail>
+    ensures { IfOk result (λ rules. 1 ≤ rules.tries) }
+{
+    let layout = Layout::new(16, 2).ok_or("a layout")?;
+    Ok(Rules {
+        layout,
+        term: 0,
+        tries: 1,
+    })
 }
 
 /// A put of no bytes.
@@ -86,13 +99,13 @@ fn are_stored_and_refused(replies: &[ReplyLine]) -> bool {
 
 #[test]
 fn commands_come_one_after_another(rt: HostRuntime) -> Result<(), Fail> {
-    let layout = Layout::new(16, 2).ok_or("a layout")?;
+    let rules = small_rules()?;
     let first = Command::File(put_of_nothing(rt.alloc())?);
     let second = Command::File(put_of_nothing(rt.alloc())?);
     let mut commands = Listing::new(rt.alloc());
     commands.push(first)?;
     commands.push(second)?;
-    let mut actor = Actor::new(rt.alloc(), layout, 3, commands);
+    let mut actor = Actor::new(rt.alloc(), rules, 3, commands);
     assert!(rt; actor.goes_to() == Some(0));
     assert_eq!(rt; run(&mut actor)?, 3);
     assert!(rt; actor.goes_to().is_none());
@@ -106,8 +119,8 @@ fn crosses<T: Drop + Send + Sync>(_value: &T) {}
 
 #[test]
 fn an_actor_may_cross_threads(rt: HostRuntime) -> Result<(), Fail> {
-    let layout = Layout::new(16, 2).ok_or("a layout")?;
-    let actor = Actor::new(rt.alloc(), layout, 3, Listing::new(rt.alloc()));
+    let rules = small_rules()?;
+    let actor = Actor::new(rt.alloc(), rules, 3, Listing::new(rt.alloc()));
     crosses(&actor);
     assert!(rt; actor.goes_to().is_none());
     Ok(())

@@ -1,4 +1,5 @@
 //! Gets among nodes that answer as a test says.
+ghost use Rattle.std.specs.Prelude.{◌≤◌};
 
 use crate::nodes::{Nodes, run};
 use qfs_base::chunk::Copy;
@@ -22,6 +23,9 @@ struct GetNodes {
     alloc: Global,
     len: u32,
     failing: u16,
+    /// Whether the devices work again once the lease was given back.
+    mends: bool,
+    openings: u8,
     fetched: Listing<u8>,
     released: bool,
 }
@@ -32,6 +36,8 @@ impl GetNodes {
             alloc,
             len,
             failing,
+            mends: false,
+            openings: 0,
             fetched: Listing::new(alloc),
             released: false,
         }
@@ -98,9 +104,15 @@ impl GetNodes {
 impl Nodes for GetNodes {
     fn serve(&mut self, request: NodeRequest) -> Result<NodeReply, AllocError> {
         match request {
-            NodeRequest::Meta(MetaRequest::OpenFile { .. }) => Ok(NodeReply::Meta(self.opened()?)),
+            NodeRequest::Meta(MetaRequest::OpenFile { .. }) => {
+                self.openings = self.openings.saturating_add(1);
+                Ok(NodeReply::Meta(self.opened()?))
+            }
             NodeRequest::Meta(MetaRequest::Release { lease }) => {
                 self.released = lease == 5;
+                if self.mends {
+                    self.failing = 0;
+                }
                 Ok(NodeReply::Meta(MetaReply::Done { place: 2 }))
             }
             NodeRequest::Chunk(
@@ -117,15 +129,19 @@ impl Nodes for GetNodes {
     }
 }
 
-/// The report of a get of a range of the nodes' file, in chunks of up to 40 rows.
+/// The report of a get of a range of the nodes' file, in chunks of up to 40 rows, that opens it up to
+/// `tries` times.
 fn report_of(
     alloc: Global,
     range: Option<Range>,
+    tries: u32,
     nodes: &mut GetNodes,
-) -> Result<Reply<Excerpt>, Fail> {
+) -> Result<Reply<Excerpt>, Fail>
+    requires { 1 ≤ tries }
+{
     let layout = Layout::new(16, 40).ok_or("a layout")?;
     let path = path_from(alloc, b"/a")?.ok_or("a path")?;
-    run(Reader::new(alloc, path, range, layout), nodes)
+    run(Reader::new(alloc, path, range, layout, tries), nodes)
 }
 
 /// Whether a report tells these bytes.
@@ -162,7 +178,7 @@ fn tells_four_faults(report: &Reply<Excerpt>) -> bool {
 #[test]
 fn three_failed_slots_are_restored(rt: HostRuntime) -> Result<(), Fail> {
     let mut nodes = GetNodes::new(rt.alloc(), 5, 3);
-    let report = report_of(rt.alloc(), None, &mut nodes)?;
+    let report = report_of(rt.alloc(), None, 1, &mut nodes)?;
     assert!(rt; tells(&report, &[1, 2, 3, 4, 5]));
     assert_eq!(rt;
         nodes.fetched.as_slice(),
@@ -175,10 +191,33 @@ fn three_failed_slots_are_restored(rt: HostRuntime) -> Result<(), Fail> {
 #[test]
 fn four_failed_slots_are_too_many(rt: HostRuntime) -> Result<(), Fail> {
     let mut nodes = GetNodes::new(rt.alloc(), 5, 4);
-    let report = report_of(rt.alloc(), None, &mut nodes)?;
+    let report = report_of(rt.alloc(), None, 1, &mut nodes)?;
     assert!(rt; tells_four_faults(&report));
     assert_eq!(rt; nodes.fetched.as_slice(), [0, 1, 2, 3].as_slice());
     assert!(rt; nodes.released);
+    Ok(())
+}
+
+#[test]
+fn a_second_opening_reads_anew(rt: HostRuntime) -> Result<(), Fail> {
+    let mut nodes = GetNodes::new(rt.alloc(), 5, 4);
+    nodes.mends = true;
+    let report = report_of(rt.alloc(), None, 2, &mut nodes)?;
+    assert!(rt; tells(&report, &[1, 2, 3, 4, 5]));
+    assert_eq!(rt;
+        nodes.fetched.as_slice(),
+        [0, 1, 2, 3, 0, 1, 2, 3, 4, 5].as_slice()
+    );
+    assert_eq!(rt; nodes.openings, 2);
+    Ok(())
+}
+
+#[test]
+fn two_attempts_are_no_three(rt: HostRuntime) -> Result<(), Fail> {
+    let mut nodes = GetNodes::new(rt.alloc(), 5, 4);
+    let report = report_of(rt.alloc(), None, 2, &mut nodes)?;
+    assert!(rt; tells_four_faults(&report));
+    assert_eq!(rt; nodes.openings, 2);
     Ok(())
 }
 
@@ -190,7 +229,7 @@ fn a_range_over_two_windows(rt: HostRuntime) -> Result<(), Fail> {
         from: 1534,
         count: 4,
     };
-    let report = report_of(rt.alloc(), Some(range), &mut nodes)?;
+    let report = report_of(rt.alloc(), Some(range), 1, &mut nodes)?;
     assert!(rt; tells(&report, &[29, 30, 31, 32]));
     assert_eq!(rt;
         nodes.fetched.as_slice(),
