@@ -320,6 +320,7 @@ built_first (Does.Stop server) is = absurd is
 built_first (Does.Start server) is = absurd is
 built_first (Does.Wipe server) is = absurd is
 built_first (Does.Hibernate server ticks) is = absurd is
+built_first (Does.Upgrade server) is = absurd is
 built_first Does.Tick is = absurd is
 built_first (Does.Drop actor) is = absurd is
 built_first Does.Checkpoint is = absurd is

@@ -1,7 +1,7 @@
 //! A run on one thread, from the script's bytes to the text that is written.
 ghost use Rattle.std.specs.Prelude.{◌≡◌, All, length};
 ghost use Rattle.qfs_driver.specs.Run.{AllRemain};
-ghost use Rattle.qfs_driver.specs.Serial.{EndsSo, OnUntouched, OnUnwritten, number_of};
+ghost use Rattle.qfs_driver.specs.Serial.{EndsSo, OnUntouched, OnUnwritten, number_of, outside_of};
 ghost use Rattle.qfs_world.specs.Calls.{IsNew};
 
 use crate::reading::read_script;
@@ -46,7 +46,10 @@ pub fn serial<S: Source, K: Sink, D: ChunkDevice, L: LogDisk>(
     disks: &mut MetaDisks<L>,
 ) -> Status
     requires { All (IsNew D.told) devices.old.items }
-    ensures ends { EndsSo D.told D.faults (number_of plan) devices.old.items devices.new.items (record { left = S.left script.old; source_faults = S.faults script.old; written = K.written out.old; sink_faults = K.faults out.old }) (record { left = S.left script.new; source_faults = S.faults script.new; written = K.written out.new; sink_faults = K.faults out.new }) result }
+    ensures ends { EndsSo D.told D.faults (number_of plan)
+        (outside_of S.left S.faults K.written K.faults script.old out.old devices.old.items)
+        (outside_of S.left S.faults K.written K.faults script.new out.new devices.new.items)
+        result }
     ensures unwritten { OnUnwritten result (out.new ≡ out.old) }
     ensures untouched { OnUntouched result (devices.new ≡ devices.old) }
     ensures places { length devices.new.items ≡ length devices.old.items }
@@ -69,7 +72,10 @@ fn drawn<S: Source, K: Sink, D: ChunkDevice, L: LogDisk>(
     disks: &mut MetaDisks<L>,
 ) -> Status
     requires { All (IsNew D.told) devices.old.items }
-    ensures ends { EndsSo D.told D.faults number devices.old.items devices.new.items (record { left = S.left script.old; source_faults = S.faults script.old; written = K.written out.old; sink_faults = K.faults out.old }) (record { left = S.left script.new; source_faults = S.faults script.new; written = K.written out.new; sink_faults = K.faults out.new }) result }
+    ensures ends { EndsSo D.told D.faults number
+        (outside_of S.left S.faults K.written K.faults script.old out.old devices.old.items)
+        (outside_of S.left S.faults K.written K.faults script.new out.new devices.new.items)
+        result }
     ensures unwritten { OnUnwritten result (out.new ≡ out.old) }
     ensures untouched { OnUntouched result (devices.new ≡ devices.old) }
     ensures places { length devices.new.items ≡ length devices.old.items }

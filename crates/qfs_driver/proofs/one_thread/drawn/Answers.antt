@@ -41,5 +41,5 @@ returns-in-Ok-run-clause-ends g c = record {
 pub returns-clause-ends : goal.returns-clause-ends
 returns-clause-ends g c =
     let is = read_script_is_first (text_lines c.in-Ok.ensures.ok.bytes) c.in-Ok.script c.in-Ok.ensures.ok.says in
-    ends_over g.D.ChunkDevice.told g.D.ChunkDevice.faults c.args.number c.args.devices.now.items c.run.new.devices.items _ _
+    ends_over g.D.ChunkDevice.told g.D.ChunkDevice.faults c.args.number _ _
     c.in-Ok.script c.in-Ok.ensures.ok is.first_path.most (search rules) c.run.ensures.places c.in-Err-run.status c.in-Err-run.ensures.err

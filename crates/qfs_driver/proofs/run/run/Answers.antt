@@ -31,8 +31,7 @@ returns-in-Ok-text_of-clause-text g c =
     c.as_slice.ensures ∙ c.in-Ok-into_parts.ensures.replies in
     let history : c.as_slice-in-Ok-into_parts.result.now ≡ c.play-played.new.world.meta.history =
     c.as_slice-in-Ok-into_parts.ensures ∙ ap (λ (m : MetaImage). m.history) c.in-Ok-into_parts.ensures.image in
-    let order : c.as_slice-in-Ok-into_parts-2.result.now ≡ c.play-played.new.world.order =
-    c.as_slice-in-Ok-into_parts-2.ensures ∙ c.in-Ok-into_parts.ensures.order in
+    let order = c.in-Ok-into_parts.ensures.order in
     run_prints _ _ _ _ _ _ _ c.in-Ok.world c.play-played.new.world _ c.requires.enough starts c.play-played.ensures.continues
     c.in-Ok-into_parts.ensures.devices
     c.in_ok-played-in-Ok-into_parts.ensures.drawn c.in_ok-played-in-Ok-into_parts.ensures.ended
