@@ -1,1 +1,1 @@
-pub mod Courses
+pub mod States

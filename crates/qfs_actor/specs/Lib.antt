@@ -1,5 +1,5 @@
-pub mod Course
-pub mod Doing
+pub mod State
+pub mod CommandMachine
 pub mod Forms
-pub mod Plain
+pub mod ActorModel
 pub mod Standing

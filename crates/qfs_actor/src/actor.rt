@@ -1,7 +1,7 @@
 //! An actor: its commands, one after another.
 #![tactic(auto)]
 
-ghost use Rattle.std.specs.Prelude.{◌≡◌, ◌<◌, ◌^◌, length, All, IfSome, OnOk, OnErr, None, Some};
+ghost use Rattle.std.specs.Prelude.{◌≡◌, ◌<◌, ◌≤◌, ◌^◌, length, All, IfSome, OnOk, OnErr, None, Some};
 ghost use Rattle.qfs_model_actor.specs.Actor.{request_of, node_of, after_reply};
 ghost use Rattle.qfs_machine.specs.Askable.{IsAskable};
 ghost use Rattle.qfs_machine.specs.Asking.{IsOut, after_asking};
@@ -10,26 +10,26 @@ ghost use Rattle.qfs_machine.specs.declared.machine.Readiness.{Readiness};
 ghost use Rattle.qfs_actor.specs.Forms.{IsBuilt};
 ghost use Rattle.qfs_actor.specs.Standing.{at_start, CanAsk};
 
-use crate::course::Course;
-use crate::plain::{Plain, Post, told_after, told_at_start};
+use crate::state::ActorState;
+use crate::actor_model::{ActorModel, Setting, model_after, model_at_start};
 use qfs_base::command::{Command, ReplyLine, ReplyList};
 use qfs_base::listing::Listing;
 use qfs_base::numbers::{ActorId, NodeId};
 use qfs_base::reply::NodeReply;
 use qfs_base::request::NodeRequest;
-use qfs_machine::Told;
-use qfs_stripe::Layout;
+use qfs_base::rules::Rules;
+use qfs_machine::Ghost;
 use std::alloc::{AllocError, Global};
 use std::marker::Model;
 
-/// An actor. Contracts see how it stands: its number and layout, its commands, the reports of those
+/// An actor. Contracts see how it stands: its number and rules, its commands, the reports of those
 /// that have ended with all bytes that were read, and what the nodes answered in the present one;
 /// and how it stands to its next request. It keeps less: of the answers only what its next requests
 /// and its reply lines need.
 #[derive(Drop)]
 pub struct Actor {
-    course: Course,
-    told: Told<Plain>,
+    state: ActorState,
+    model: Ghost<ActorModel>,
 }
 
 impl Model for Actor {
@@ -37,47 +37,48 @@ impl Model for Actor {
 
     ghost Value = { Standing };
 
-    ghost use Rattle.qfs_actor.specs.Course.{IsOf, readiness_in};
+    ghost use Rattle.qfs_actor.specs.State.{IsOf, readiness_in};
 
-    ghost view = { λ it. record { actor = it.told.value; readiness = readiness_in it.course.doing } };
+    ghost view = { λ it. record { actor = it.model.value; readiness = readiness_in it.state.machine } };
 
-    ghost invariant = { λ it. IsOf it.told.value it.course };
+    ghost invariant = { λ it. IsOf it.model.value it.state };
 }
 
 impl Actor {
     /// An actor at its first command. Each command is one that is built so far: a put or a get. Takes
     /// no memory.
-    pub fn new(alloc: Global, layout: Layout, number: ActorId, commands: Listing<Command>) -> Actor
+    pub fn new(alloc: Global, rules: Rules, number: ActorId, commands: Listing<Command>) -> Actor
+        requires tries { 1 ≤ rules.tries }
         requires few { length commands < 2 ^ 16 }
         requires built { All IsBuilt commands }
-        ensures { result ≡ at_start layout number commands }
+        ensures { result ≡ at_start rules number commands }
     {
-        let post = Post { number, layout };
-        let told = told_at_start(&post, &commands);
-        let course = Course::new(alloc, post, commands.into_vec());
-        Actor { course, told }
+        let setting = Setting { number, rules };
+        let model = model_at_start(&setting, &commands);
+        let state = ActorState::new(alloc, setting, commands.into_vec());
+        Actor { state, model }
     }
 
     /// The actor's number.
     pub fn number(&self) -> ActorId
         ensures { result ≡ self.now.actor.number }
     {
-        self.course.post.number
+        self.state.setting.number
     }
 
     /// The replies of the commands that have ended.
     pub fn replies(&self) -> &[ReplyLine]
         ensures { result.now ≡ lines_from self.now.actor.number 1 self.now.actor.ended }
     {
-        self.course.replies.as_slice()
+        self.state.replies.as_slice()
     }
 
     /// The same, once the actor isn't wanted any more.
     pub fn into_replies(self) -> ReplyList
         ensures { result ≡ lines_from self.actor.number 1 self.actor.ended }
     {
-        let Actor { course, told: _ } = self;
-        let Course { replies, .. } = course;
+        let Actor { state, model: _ } = self;
+        let ActorState { replies, .. } = state;
         Listing::from_vec(replies)
     }
 
@@ -86,7 +87,7 @@ impl Actor {
     pub fn goes_to(&self) -> Option<NodeId>
         ensures { result ≡ node_of self.now.actor }
     {
-        self.course.goes_to()
+        self.state.goes_to()
     }
 
     /// Takes the memory for the next request and its reply. How the actor stands is as before. A
@@ -97,7 +98,7 @@ impl Actor {
         ensures ok { OnOk result (CanAsk self.new) }
         ensures err { OnErr result (self.new ≡ self.old) }
     {
-        self.course.ready()
+        self.state.ready()
     }
 
     /// Hands the next request out, if the actor hasn't finished. Takes no memory.
@@ -108,7 +109,7 @@ impl Actor {
         ensures out { self.new.readiness ≡ after_asking result self.old.readiness }
         ensures askable { IfSome result IsAskable }
     {
-        self.course.next()
+        self.state.next()
     }
 
     /// Goes on with a node's reply to the request that is out. Takes no memory.
@@ -117,8 +118,8 @@ impl Actor {
         ensures after { self.new.actor ≡ after_reply self.old.actor reply }
         ensures unready { self.new.readiness ≡ Readiness.Unready }
     {
-        let told = told_after(&self.told, &reply);
-        self.course.took(reply);
-        self.told = told;
+        let model = model_after(&self.model, &reply);
+        self.state.took(reply);
+        self.model = model;
     }
 }

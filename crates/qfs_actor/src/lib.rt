@@ -2,9 +2,9 @@
 #![tactic(auto)]
 
 mod actor;
-mod course;
-mod doing;
-mod plain;
+mod actor_model;
+mod command_machine;
+mod state;
 
 pub use actor::Actor;
-pub use doing::Doing;
+pub use command_machine::CommandMachine;

@@ -5,7 +5,7 @@ use Rattle.qfs_base.specs.declared.reply.ChunkAnswer.TheVariants as Did
 use Rattle.qfs_base.specs.declared.reply.MetaReply.{MetaReply}
 use Rattle.qfs_base.specs.declared.reply.MetaReply.TheVariants as Said
 use Rattle.qfs_model_actor.specs.Ask.{on_served}
-use Rattle.qfs_model_actor.specs.Hold.{Hold, on_answer, end_with}
+use Rattle.qfs_model_actor.specs.Hold.{Hold, nothing, on_answer, give_back, end_with}
 use Rattle.qfs_model_actor.specs.Work.{Report, Work, ends}
 use Rattle.qfs_machine.specs.declared.ending.Ending.{Ending}
 use Rattle.qfs_machine.specs.declared.ending.Ending.TheVariants as By
@@ -56,3 +56,16 @@ pub on_served-none : (hold : Hold) (next : ChunkAnswer → Work) (answer : Chunk
     → on_served hold next answer ≡ next answer
 unfolding ended_or
 on_served-none hold next answer is = on_served-ends hold next answer ∙ ap (ended_or (end_with hold) (next answer)) is
+
+ended-nothing : (ending : Ending) → ended (end_with nothing) ending ≡ ends (report_of ending)
+unfolding ended report_of end_with give_back
+ended-nothing (By.Dropped turn) = refl
+ended-nothing By.Unnamed = refl
+ended-nothing ending = refl
+
+-- who holds nothing ends at once
+pub on_answer-nothing : (next : MetaReply → Work) (answer : MetaReply) (ending : Ending) → ending_of_meta answer ≡ Some ending
+    → on_answer (end_with nothing) next answer ≡ ends (report_of ending)
+unfolding ended_or
+on_answer-nothing next answer ending is =
+    on_answer-ends (end_with nothing) next answer ∙ ap (ended_or (end_with nothing) (next answer)) is ∙ ended-nothing ending

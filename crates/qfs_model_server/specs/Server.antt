@@ -1,5 +1,5 @@
 -- A chunk server and its step.
-use Rattle.std.specs.Prelude.{ℕ, ◌+◌, ◌==◌, ◌&&◌, nat_le, min, Bool, true, false, if◌then◌else◌, not, List, [], length, take, drop, map, sum, replicate, Option, Some, None}
+use Rattle.std.specs.Prelude.{ℕ, ◌+◌, ◌==◌, ◌&&◌, nat_le, min, Bool, true, false, if◌then◌else◌, not, List, [], length, take, drop, map, sum_by, replicate, Option, Some, None}
 use Rattle.qfs_base.specs.KeyMap.{value_at, has_key, with_entry, without_key}
 use Rattle.qfs_base.specs.Key.{key_cmp}
 use Rattle.qfs_base.specs.Sizes.{LAST_U32}
@@ -95,7 +95,7 @@ without_room answer = record { answer = answer; room = [] }
 -- the bytes that a start reads on a stopped server: the head of each copy's record
 unfoldable pub start_reads : Server → ℕ
 start_reads server =
-    if server.up then 0 else sum (map (λ (copy : ChunkKey × Chunk). head_bytes copy.1.form) server.copies)
+    if server.up then 0 else sum_by (λ (copy : ChunkKey × Chunk). head_bytes copy.1.form) server.copies
 
 -- a copy as a server writes it
 abbrev pub written : Server → List ℕ → Chunk

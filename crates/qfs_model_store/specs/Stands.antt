@@ -5,15 +5,16 @@ use Rattle.qfs_base.specs.KeyMap.{value_at}
 use Rattle.qfs_base.specs.Sizes.{LAST_U64}
 use Rattle.qfs_base.specs.declared.chunk.ChunkKey.{ChunkKey}
 use Rattle.qfs_device.specs.Held.{Held, chunk_at}
-use Rattle.qfs_record.specs.ChunkRecord.{IsChunk, chunk_record}
+use Rattle.qfs_record.specs.ChunkRecord.{IsHead, head_of, chunk_record}
 use Rattle.qfs_model_server.specs.Chunk.{Chunk}
 use Rattle.qfs_model_server.specs.Server.{Server}
 
 -- ---- chunks
 
--- these bytes are, whole, the record of this chunk, which names this key, and this stripe where its form names one
+-- what is found is, whole, the record of this chunk, which names this key, and this stripe where its form names one. A
+-- device has nothing but bytes, so the grammar is that of the head
 pub record IsRecordOf (stripe : ℕ) (key : ChunkKey) (found : Option (List ℕ)) (chunk : Chunk) : Type 0 where
-  pub fits : IsChunk stripe key chunk
+  pub fits : IsHead (head_of stripe key chunk)
   pub spelled : found ≡ Some (chunk_record stripe key chunk)
 
 -- under the key of a copy stands the record of that copy, in its form; under the key of no copy stands, whole, no record

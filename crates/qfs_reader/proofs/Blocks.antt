@@ -1,96 +1,149 @@
 -- What is left of a get that goes from window to window and from block to block.
-use Rattle.std.proofs.Common.{◌≡◌, ◌∙◌, refl, ap, sym, arith, ℕ, ◌+◌, ◌-◌, ◌*◌, ◌/◌, ◌<◌, ◌≤◌, false, true, List, [], count_by, is_ok}
+use Rattle.std.proofs.Common.{◌≡◌, refl, ap, sym, arith, ℕ, zero, suc, ◌+◌, ◌-◌, ◌*◌, ◌/◌, ◌<◌, ◌≤◌, ◌^◌, false, true, List, [], ◌∷◌, length, count_by, is_ok, mul-suc}
+use Rattle.std.proofs.Math.Nat.{mul-le-mul_right, div-lt_iff_lt-mul}
 use Rattle.std.proofs.lemmas.Bool.Decides.{nat_tests}
+use Rattle.qfs_base.specs.Layout.{block_bytes, row_bytes, blocks_of, windows_touched}
 use Rattle.qfs_base.specs.Shape.{Shape}
+use Rattle.qfs_base.specs.Sizes.{MOST_FILE_BYTES}
 use Rattle.qfs_base.specs.declared.chunk.Copy.{Copy}
-use Rattle.qfs_base.specs.declared.layout.Window.{Window}
-use Rattle.qfs_model_actor.specs.Get.{reading_of, read_blocks, listed_in}
-use Rattle.qfs_model_actor.specs.Pieces.{Piece, data_of, rows_of_file}
-use Rattle.qfs_model_actor.specs.Windows.{window_offset, cut_to_range}
-use Rattle.qfs_base.specs.Layout.{block_bytes, row_bytes}
-use Rattle.qfs_model_actor.specs.Read.{Source, are_too_few, causes_of, sources_of, read_windows, read_block, with_enough, go_on_or_stop}
-use Rattle.qfs_model_actor.specs.Hold.{opened, end_with}
 use Rattle.qfs_base.specs.declared.command.Reply.TheVariants as Report
+use Rattle.qfs_base.specs.declared.layout.Window.{Window}
+use Rattle.qfs_model_actor.specs.Get.{reading_of, read_blocks, attempts, listed_in}
+use Rattle.qfs_model_actor.specs.Hold.{opened, end_with, give_back}
+use Rattle.qfs_model_actor.specs.Pieces.{Piece, data_of, rows_of_file}
+use Rattle.qfs_model_actor.specs.Read.{Source, are_too_few, causes_of, sources_of, read_windows, read_block, with_enough, go_on_or_stop}
+use Rattle.qfs_model_actor.specs.Windows.{window_offset, cut_to_range}
+use Rattle.qfs_stripe.specs.Touched.{IsWindowBehind, AreInOrder}
 use Rattle.qfs_reader.specs.Parts.{pieces_of}
-use Rattle.qfs_reader.specs.Rest.{rest_of_windows, rest_of_spot, behind_window, reading_at, IsRange, IsBlock}
-use Rattle.qfs_reader.specs.Rows.{groups_touched, window_touched, blocks_before, blocks_from, first_touched}
+use Rattle.qfs_reader.specs.Rest.{rest_of_blocks, rest_of_windows, rest_of_position, behind_window, reading_at, opening}
 use Rattle.qfs_reader.specs.Sources.{IsNext}
-use Rattle.qfs_reader.specs.declared.stage.OpenFile.{OpenFile}
-use Rattle.qfs_reader.specs.declared.stage.Spot.{Spot}
-use Rattle.qfs_reader.proofs.Touched.{windows_from-next, blocks_from-next, IsInside, window-inside}
+use Rattle.qfs_reader.specs.declared.stage.Attempt.{Attempt}
+use Rattle.qfs_reader.specs.declared.stage.Get.{Get}
+use Rattle.qfs_reader.specs.declared.stage.Position.{Position}
 
 pub enough_left : (sources : List Source) → are_too_few sources ≡ false → 6 ≤ count_by is_ok sources
 unfolding are_too_few
 enough_left sources enough = grind (arith, nat_tests, enough)
 
 -- a window is read from its first slot that can be read
-pub spot-begins : (layout : Shape) (file : OpenFile) (block group : ℕ) (window : Window) (sources : List Source) (slot : ℕ) (copy : Copy)
-    → group < groups_touched layout.s layout.r file.to block
-    → window ≡ window_touched layout.s layout.r file.from file.to block group
-    → IsNext sources 0 slot copy
-    → rest_of_spot layout file (record { block = block; group = group; window = window; sources = sources; slot = slot; copy = copy; have = [] })
-    ≡ rest_of_windows layout file block group sources file.got
-unfolding rest_of_spot read_windows pieces_of
-spot-begins layout file block group window sources slot copy within is next =
-    let spot : Spot = record { block = block; group = group; window = window; sources = sources; slot = slot; copy = copy; have = [] } in
-    let more = windows_from-next layout.s layout.r file.from file.to block group within in
-    sym (next.passed (reading_at layout file block) window 5 [] (behind_window layout file spot file.got))
-    ∙ rw (is, more) refl
+pub position-begins : (get : Get) (attempt : Attempt) (block : ℕ) (window : Window) (windows : List Window) (sources : List Source)
+    (slot : ℕ) (copy : Copy) → IsNext sources 0 slot copy
+    → rest_of_position get attempt (record { block = block; window = window; windows = windows; sources = sources; slot = slot; copy = copy; have = [] })
+    ≡ rest_of_windows get attempt block (window ∷ windows) sources attempt.got
+unfolding rest_of_position read_windows pieces_of
+position-begins get attempt block window windows sources slot copy next =
+    let position : Position = record { block = block; window = window; windows = windows; sources = sources; slot = slot; copy = copy; have = [] } in
+    sym (next.passed (reading_at get attempt block) window 5 [] (behind_window get attempt position attempt.got))
 
-pub no_windows : (layout : Shape) (file : OpenFile) (block group : ℕ) (sources : List Source) (got : List ℕ)
-    → groups_touched layout.s layout.r file.to block ≤ group
-    → read_blocks layout file.opened file.from file.to (blocks_from layout.s layout.r file.to (block + 1)) got
-    ≡ rest_of_windows layout file block group sources got
+-- behind the last window of a block comes the next block
+pub no_windows : (get : Get) (attempt : Attempt) (block : ℕ) (sources : List Source) (got : List ℕ)
+    → rest_of_blocks get attempt (block + 1) got ≡ rest_of_windows get attempt block [] sources got
 unfolding read_windows
-no_windows layout file block group sources got past =
-    let none : groups_touched layout.s layout.r file.to block - group ≡ 0 = omega (arith, past) in rw none refl
+no_windows get attempt block sources got = refl
 
-pub no_blocks : (layout : Shape) (file : OpenFile) (block : ℕ) (got : List ℕ) → blocks_before layout.s layout.r file.to ≤ block
-    → end_with (opened file.opened.lease) (Report.Read file.opened.place got)
-    ≡ read_blocks layout file.opened file.from file.to (blocks_from layout.s layout.r file.to block) got
+-- behind the last block the lease is given back
+pub no_blocks : (get : Get) (attempt : Attempt) (block : ℕ) (got : List ℕ) → blocks_of get.layout.s get.layout.r attempt.to ≤ block
+    → end_with (opened attempt.opened.lease) (Report.Read attempt.opened.place got) ≡ rest_of_blocks get attempt block got
 unfolding read_blocks
-no_blocks layout file block got past =
-    let none : blocks_before layout.s layout.r file.to - block ≡ 0 = omega (arith, past) in rw none refl
+no_blocks get attempt block got past =
+    let none : blocks_of get.layout.s get.layout.r attempt.to - block ≡ 0 = omega (arith, past) in rw none refl
 
-pub block-begins : (layout : Shape) (file : OpenFile) (block : ℕ) (got : List ℕ) → block < blocks_before layout.s layout.r file.to
-    → are_too_few (sources_of (listed_in file.opened block)) ≡ false
-    → rest_of_windows layout file block (first_touched layout.s layout.r file.from block / 16) (sources_of (listed_in file.opened block)) got
-    ≡ read_blocks layout file.opened file.from file.to (blocks_from layout.s layout.r file.to block) got
+pub block-begins : (get : Get) (attempt : Attempt) (block : ℕ) (got : List ℕ) → block < blocks_of get.layout.s get.layout.r attempt.to
+    → are_too_few (sources_of (listed_in attempt.opened block)) ≡ false
+    → rest_of_windows get attempt block (windows_touched get.layout.s get.layout.r attempt.from attempt.to block) (sources_of (listed_in attempt.opened block)) got
+    ≡ rest_of_blocks get attempt block got
 unfolding read_blocks read_block with_enough go_on_or_stop
-block-begins layout file block got within enough = rw (blocks_from-next layout.s layout.r file.to block within, enough) refl
+block-begins get attempt block got within enough =
+    let more : blocks_of get.layout.s get.layout.r attempt.to - block ≡ suc (blocks_of get.layout.s get.layout.r attempt.to - (block + 1)) = omega (arith, within) in
+    rw (more, enough) refl
 
-pub block-stops : (layout : Shape) (file : OpenFile) (block : ℕ) (got : List ℕ) → block < blocks_before layout.s layout.r file.to
-    → are_too_few (sources_of (listed_in file.opened block)) ≡ true
-    → (reading_at layout file block).too_few (causes_of (sources_of (listed_in file.opened block)))
-    ≡ read_blocks layout file.opened file.from file.to (blocks_from layout.s layout.r file.to block) got
+pub block-stops : (get : Get) (attempt : Attempt) (block : ℕ) (got : List ℕ) → block < blocks_of get.layout.s get.layout.r attempt.to
+    → are_too_few (sources_of (listed_in attempt.opened block)) ≡ true
+    → (reading_at get attempt block).too_few (causes_of (sources_of (listed_in attempt.opened block))) ≡ rest_of_blocks get attempt block got
 unfolding read_blocks read_block with_enough go_on_or_stop
-block-stops layout file block got within few = rw (blocks_from-next layout.s layout.r file.to block within, few) refl
+block-stops get attempt block got within few =
+    let more : blocks_of get.layout.s get.layout.r attempt.to - block ≡ suc (blocks_of get.layout.s get.layout.r attempt.to - (block + 1)) = omega (arith, within) in
+    rw (more, few) refl
 
--- the rows of a window lie in its block
-pub window_at-inside : (layout : Shape) (file : OpenFile) (spot : Spot) → IsRange file → IsBlock layout file spot.block
-    → spot.group < groups_touched layout.s layout.r file.to spot.block
-    → spot.window ≡ window_touched layout.s layout.r file.from file.to spot.block spot.group
-    → first_touched layout.s layout.r file.from spot.block ≤ spot.group * 16 + 16
-    → IsInside layout.r spot.group spot.window
-window_at-inside layout file spot range block group window reached =
-    rw window
-    (window-inside layout.s layout.r file.from file.to spot.block spot.group
-    (record { some = range.some; starts = block.starts; ends = block.ends }) group reached)
+-- with no attempt left a get that finds too few slots ends with its report; else its file is opened again
+pub stops-for_good : (get : Get) (attempt : Attempt) (block : ℕ) (sources : List Source) → attempt.more ≤ 0
+    → end_with (opened attempt.opened.lease) (Report.ReadTooFew attempt.opened.place block (causes_of sources))
+    ≡ (reading_at get attempt block).too_few (causes_of sources)
+unfolding reading_of attempts end_with
+stops-for_good get attempt block sources none = let zero_more : attempt.more ≡ 0 = omega (arith, none) in rw zero_more refl
+
+pub stops-again : (get : Get) (attempt : Attempt) (block : ℕ) (sources : List Source) → 0 < attempt.more
+    → give_back (opening get (attempt.more - 1)) (opened attempt.opened.lease) ≡ (reading_at get attempt block).too_few (causes_of sources)
+unfolding reading_of attempts
+stops-again get attempt block sources some = let one_more : attempt.more ≡ suc (attempt.more - 1) = omega (arith, some) in
+    ap (λ n. give_back (attempts n get.layout get.path get.range (Report.ReadTooFew attempt.opened.place block (causes_of sources))) (opened attempt.opened.lease)) (sym one_more)
+
+-- ---- where a window stands
+
+-- windows in their order begin at the first row of the first
+pub from_first_row : (k row r : ℕ) (w : Window) (ws : List Window) → AreInOrder k row r (w ∷ ws) → AreInOrder k w.first_row r (w ∷ ws)
+from_first_row k row r w ws order =
+    (record { index = order.0.index; behind = omega arith; some = order.0.some; few = order.0.few; within = order.0.within }, order.1)
 
 -- what is kept of a window
-pub window_kept : (layout : Shape) (file : OpenFile) (spot : Spot) (pieces : List Piece)
-    → spot.window ≡ window_touched layout.s layout.r file.from file.to spot.block spot.group
-    → (reading_at layout file spot.block).kept spot.window pieces
-    ≡ cut_to_range file.from file.to (spot.block * block_bytes layout.s layout.r + spot.window.first_row * row_bytes layout.s) (rows_of_file layout.s spot.window.rows (data_of pieces))
-unfolding reading_of window_offset
-window_kept layout file spot pieces window =
-    let index : spot.window.index ≡ spot.block = ap (λ (w : Window). w.index) window in
-    ap (λ k. cut_to_range file.from file.to (k * block_bytes layout.s layout.r + spot.window.first_row * row_bytes layout.s) (rows_of_file layout.s spot.window.rows (data_of pieces))) index
+pub window_kept : (get : Get) (attempt : Attempt) (block : ℕ) (w : Window) (pieces : List Piece)
+    → (reading_at get attempt block).kept w pieces
+    ≡ cut_to_range attempt.from attempt.to (window_offset get.layout w) (rows_of_file get.layout.s w.rows (data_of pieces))
+unfolding reading_of
+window_kept get attempt block w pieces = refl
 
-pub window_offset-spot : (layout : Shape) (file : OpenFile) (spot : Spot)
-    → spot.window ≡ window_touched layout.s layout.r file.from file.to spot.block spot.group
-    → window_offset layout spot.window ≡ spot.block * block_bytes layout.s layout.r + spot.window.first_row * row_bytes layout.s
+-- a window of a block begins there
+pub window_offset-at : (layout : Shape) (k : ℕ) (w : Window) → w.index ≡ k
+    → window_offset layout w ≡ k * block_bytes layout.s layout.r + w.first_row * row_bytes layout.s
 unfolding window_offset
-window_offset-spot layout file spot window =
-    let index : spot.window.index ≡ spot.block = ap (λ (w : Window). w.index) window in
-    ap (λ k. k * block_bytes layout.s layout.r + spot.window.first_row * row_bytes layout.s) index
+window_offset-at layout k w index = ap (λ i. i * block_bytes layout.s layout.r + w.first_row * row_bytes layout.s) index
+
+-- and those of a later one begin behind it
+pub window_behind : (s k r : ℕ) (w next : Window) → IsWindowBehind k (w.first_row + w.rows) r next
+    → w.first_row * row_bytes s + w.rows * row_bytes s ≤ next.first_row * row_bytes s
+window_behind s k r w next behind =
+    let sum : (w.first_row + w.rows) * row_bytes s ≡ w.first_row * row_bytes s + w.rows * row_bytes s = grind arith in
+    omega (arith, sum, mul-le-mul_right (row_bytes s) behind.behind)
+
+-- the bytes of rows that lie in a block are no more than the block's
+pub rows_end : (s r first rows : ℕ) → first + rows ≤ r → first * row_bytes s + rows * row_bytes s ≤ block_bytes s r
+rows_end s r first rows within =
+    let whole : block_bytes s r ≡ r * row_bytes s = grind arith in
+    let sum : (first + rows) * row_bytes s ≡ first * row_bytes s + rows * row_bytes s = grind arith in
+    omega (arith, whole, sum, mul-le-mul_right (row_bytes s) within)
+
+-- a window of a block that begins early in its file
+pub starts_early : (layout : Shape) (k : ℕ) (w : Window) (to : ℕ) → w.index ≡ k → k * block_bytes layout.s layout.r < to → to ≤ MOST_FILE_BYTES
+    → w.index * block_bytes layout.s layout.r < MOST_FILE_BYTES
+starts_early layout k w to index starts most = rw index (omega (arith, starts, most))
+
+-- what lies before a block lies before each of its windows
+pub begins_behind : (layout : Shape) (k from : ℕ) (got : List ℕ) (w : Window) → w.index ≡ k
+    → length got ≤ k * block_bytes layout.s layout.r - from → length got ≤ window_offset layout w - from
+begins_behind layout k from got w index before = omega (arith, before, window_offset-at layout k w index)
+
+-- what a window ends with lies before the next one of its block, and before the end of the block
+pub before_next : (layout : Shape) (k from len : ℕ) (w next : Window) → w.index ≡ k → IsWindowBehind k (w.first_row + w.rows) layout.r next
+    → len ≤ window_offset layout w + w.rows * (6 * layout.s) - from → len ≤ window_offset layout next - from
+before_next layout k from len w next index behind bound =
+    omega (arith, bound, window_offset-at layout k w index, window_offset-at layout k next behind.index, window_behind layout.s k layout.r w next behind)
+
+pub before_end : (layout : Shape) (k from len : ℕ) (w : Window) → w.index ≡ k → w.first_row + w.rows ≤ layout.r
+    → len ≤ window_offset layout w + w.rows * (6 * layout.s) - from → len ≤ (k + 1) * block_bytes layout.s layout.r - from
+before_end layout k from len w index within bound =
+    let next : (k + 1) * block_bytes layout.s layout.r ≡ k * block_bytes layout.s layout.r + block_bytes layout.s layout.r = grind arith in
+    omega (arith, bound, next, window_offset-at layout k w index, rows_end layout.s layout.r w.first_row w.rows within)
+
+-- the block that a range begins in is no later than one that it touches
+pub first_before : (from k size : ℕ) → from < k * size + size → from / size ≤ k + 1
+first_before from k zero ends = omega (arith, ends)
+first_before from k (suc size) ends =
+    let next : (k + 1) * suc size ≡ k * suc size + suc size = grind arith in
+    let before : from < (k + 1) * suc size = omega (arith, ends, next) in
+    let less : from / suc size < k + 1 = (div-lt_iff_lt-mul (omega arith)).1 before in
+    omega (arith, less)
+
+-- a block that begins early has a number that is small
+pub few_blocks : (from to k size : ℕ) → from < k * size + size → k * size < to → to ≤ MOST_FILE_BYTES → k + 1 < 2 ^ 32
+few_blocks from to k zero ends starts most = absurd (omega (arith, ends))
+few_blocks from to k (suc size) ends starts most = omega (arith, starts, most, mul-suc k size)

@@ -4,24 +4,23 @@ use Rattle.std.proofs.lemmas.Bool.Decides.{nat_tests}
 use Rattle.std.proofs.lemmas.List.{take-set, get_or-set_same, length-set}
 use Rattle.std.proofs.lemmas.Option.{slice_get_read}
 use Rattle.std.specs.List.{slice_get, slice_set}
-use Rattle.qfs_base.specs.Shape.{Shape}
 use Rattle.qfs_base.specs.declared.chunk.Copy.{Copy}
 use Rattle.qfs_base.specs.declared.lists.Cause.{Cause}
-use Rattle.qfs_base.specs.declared.lists.Cause.TheVariants as Because
 use Rattle.qfs_base.specs.declared.reply.ChunkAnswer.{ChunkAnswer}
 use Rattle.qfs_base.specs.declared.reply.ChunkAnswer.TheVariants as Did
 use Rattle.qfs_base.specs.declared.reply.ChunkReply.{ChunkReply}
 use Rattle.qfs_base.specs.declared.reply.NodeReply.TheVariants as From
-use Rattle.qfs_base.specs.declared.command.Reply.TheVariants as Report
 use Rattle.qfs_model_actor.specs.Ask.{on_served, on_chunk, after_fetch, filled, fetch}
 use Rattle.qfs_model_actor.specs.Get.{reading_of}
-use Rattle.qfs_model_actor.specs.Hold.{opened, unnamed, end_with}
+use Rattle.qfs_model_actor.specs.Hold.{opened, unnamed}
 use Rattle.qfs_model_actor.specs.Read.{Source, are_too_few, causes_of, at_source, read_slots, with_enough, go_on_or_stop}
-use Rattle.qfs_model_actor.specs.Work.{goes_on}
-use Rattle.qfs_reader.specs.Rest.{rest_of_slots, rest_of_spot, rest_with_piece, rest_if_filled, rest_without, reading_at, pieces_at, window_bytes, behind_window, IsReadable}
+use Rattle.qfs_model_actor.specs.Work.{Work, goes_on}
+use Rattle.qfs_reader.specs.Rest.{rest_of_slots, rest_of_position, rest_with_piece, rest_if_filled, rest_without, reading_at, pieces_at, window_bytes, behind_window}
 use Rattle.qfs_reader.specs.Sources.{IsNext}
-use Rattle.qfs_reader.specs.declared.stage.OpenFile.{OpenFile}
-use Rattle.qfs_reader.specs.declared.stage.Spot.{Spot}
+use Rattle.qfs_reader.specs.Standing.{IsReadable}
+use Rattle.qfs_reader.specs.declared.stage.Attempt.{Attempt}
+use Rattle.qfs_reader.specs.declared.stage.Get.{Get}
+use Rattle.qfs_reader.specs.declared.stage.Position.{Position}
 use Rattle.std.specs.Vec.{with_items}
 use Rattle.std.specs.declared.vec.Vec.{Vec}
 use Rattle.std.proofs.lemmas.List.{with_items_is, map-append}
@@ -31,76 +30,36 @@ use Rattle.qfs_reader.proofs.Slots.{insert_slot-last}
 use Rattle.qfs_reader.proofs.Passing.{count_ok-none}
 
 -- the bytes of the slot are asked for
-pub spot-fetch : (layout : Shape) (file : OpenFile) (spot : Spot) → IsReadable spot
-    → rest_of_spot layout file spot
-    ≡ fetch (opened file.opened.lease) (record { file = file.opened.file; index = spot.block }) spot.slot (spot.window.first_row * layout.s) (window_bytes layout spot.window)
-    (rest_with_piece layout file spot) (rest_without layout file spot) spot.copy
-unfolding rest_of_spot read_slots at_source rest_with_piece rest_without reading_of
-spot-fetch layout file spot readable =
-    let wanted : 6 - length spot.have ≡ suc (5 - length spot.have) = omega (arith, readable.few) in
-    let slots : 9 - spot.slot ≡ suc (9 - (spot.slot + 1)) = omega (arith, readable.slot) in
+pub position-fetch : (get : Get) (attempt : Attempt) (position : Position) → IsReadable position
+    → rest_of_position get attempt position
+    ≡ fetch (opened attempt.opened.lease) (record { file = attempt.opened.file; index = position.block }) position.slot (position.window.first_row * get.layout.s) (window_bytes get.layout position.window)
+    (rest_with_piece get attempt position) (rest_without get attempt position) position.copy
+unfolding rest_of_position read_slots at_source rest_with_piece rest_without reading_of
+position-fetch get attempt position readable =
+    let wanted : 6 - length position.have ≡ suc (5 - length position.have) = omega (arith, readable.few) in
+    let slots : 9 - position.slot ≡ suc (9 - (position.slot + 1)) = omega (arith, readable.slot) in
     rw (wanted, slots, readable.listed) refl
 
 -- what becomes of the server's answer
-pub spot-served : (layout : Shape) (file : OpenFile) (spot : Spot) (reply : ChunkReply) → IsReadable spot
-    → goes_on (rest_of_spot layout file spot) (From.Chunk reply)
-    ≡ on_served (opened file.opened.lease)
-    (after_fetch (window_bytes layout spot.window) (rest_with_piece layout file spot) (rest_without layout file spot) reply.room) reply.answer
+pub position-served : (get : Get) (attempt : Attempt) (position : Position) (reply : ChunkReply) → IsReadable position
+    → goes_on (rest_of_position get attempt position) (From.Chunk reply)
+    ≡ on_served (opened attempt.opened.lease)
+    (after_fetch (window_bytes get.layout position.window) (rest_with_piece get attempt position) (rest_without get attempt position) reply.room) reply.answer
 unfolding fetch goes_on on_chunk
-spot-served layout file spot reply readable = rw (spot-fetch layout file spot readable) refl
-
-pub served-no_memory : (layout : Shape) (file : OpenFile) (spot : Spot) (reply : ChunkReply) → IsReadable spot → reply.answer ≡ Did.NoMemory
-    → end_with (opened file.opened.lease) Report.NoMemory ≡ goes_on (rest_of_spot layout file spot) (From.Chunk reply)
-unfolding on_served
-served-no_memory layout file spot reply readable did = sym (spot-served layout file spot reply readable ∙ rw did refl)
-
-pub served-fetched : (layout : Shape) (file : OpenFile) (spot : Spot) (reply : ChunkReply) → IsReadable spot → reply.answer ≡ Did.Fetched
-    → rest_if_filled layout file spot reply.room ≡ goes_on (rest_of_spot layout file spot) (From.Chunk reply)
-unfolding on_served after_fetch rest_if_filled
-served-fetched layout file spot reply readable did = sym (spot-served layout file spot reply readable ∙ rw did refl)
-
-pub served-down : (layout : Shape) (file : OpenFile) (spot : Spot) (reply : ChunkReply) → IsReadable spot → reply.answer ≡ Did.Down
-    → rest_without layout file spot Because.Down ≡ goes_on (rest_of_spot layout file spot) (From.Chunk reply)
-unfolding on_served after_fetch
-served-down layout file spot reply readable did = sym (spot-served layout file spot reply readable ∙ rw did refl)
-
-pub served-lost : (layout : Shape) (file : OpenFile) (spot : Spot) (reply : ChunkReply) (asked now : ℕ) → IsReadable spot → reply.answer ≡ Did.Lost asked now
-    → rest_without layout file spot (Because.Lost asked now) ≡ goes_on (rest_of_spot layout file spot) (From.Chunk reply)
-unfolding on_served after_fetch
-served-lost layout file spot reply asked now readable did = sym (spot-served layout file spot reply readable ∙ rw did refl)
-
-pub served-absent : (layout : Shape) (file : OpenFile) (spot : Spot) (reply : ChunkReply) → IsReadable spot → reply.answer ≡ Did.Absent
-    → rest_without layout file spot Because.Absent ≡ goes_on (rest_of_spot layout file spot) (From.Chunk reply)
-unfolding on_served after_fetch
-served-absent layout file spot reply readable did = sym (spot-served layout file spot reply readable ∙ rw did refl)
-
-pub served-fault : (layout : Shape) (file : OpenFile) (spot : Spot) (reply : ChunkReply) → IsReadable spot → reply.answer ≡ Did.Fault
-    → rest_without layout file spot Because.Fault ≡ goes_on (rest_of_spot layout file spot) (From.Chunk reply)
-unfolding on_served after_fetch
-served-fault layout file spot reply readable did = sym (spot-served layout file spot reply readable ∙ rw did refl)
+position-served get attempt position reply readable = rw (position-fetch get attempt position readable) refl
 
 -- an answer that a fetch doesn't allow
-on_served-other : (layout : Shape) (file : OpenFile) (spot : Spot) (room : List ℕ) (answer : ChunkAnswer)
-    → (answer ≡ Did.NoMemory → ⊥) → (answer ≡ Did.Fetched → ⊥) → (answer ≡ Did.Down → ⊥) → ((asked now : ℕ) → answer ≡ Did.Lost asked now → ⊥)
+pub fetched-other : (len : ℕ) (given : List ℕ → Work) (failed : Cause → Work) (room : List ℕ) (answer : ChunkAnswer)
+    → (answer ≡ Did.Fetched → ⊥) → (answer ≡ Did.Down → ⊥) → ((asked now : ℕ) → answer ≡ Did.Lost asked now → ⊥)
     → (answer ≡ Did.Absent → ⊥) → (answer ≡ Did.Fault → ⊥)
-    → on_served (opened file.opened.lease)
-    (after_fetch (window_bytes layout spot.window) (rest_with_piece layout file spot) (rest_without layout file spot) room) answer
-    ≡ unnamed
-unfolding on_served after_fetch
-on_served-other layout file spot room Did.NoMemory a b c d e f = absurd (a refl)
-on_served-other layout file spot room Did.Fetched a b c d e f = absurd (b refl)
-on_served-other layout file spot room Did.Down a b c d e f = absurd (c refl)
-on_served-other layout file spot room (Did.Lost asked now) a b c d e f = absurd (d asked now refl)
-on_served-other layout file spot room Did.Absent a b c d e f = absurd (e refl)
-on_served-other layout file spot room Did.Fault a b c d e f = absurd (f refl)
-on_served-other layout file spot room answer a b c d e f = refl
-
-pub served-other : (layout : Shape) (file : OpenFile) (spot : Spot) (reply : ChunkReply) → IsReadable spot
-    → (reply.answer ≡ Did.NoMemory → ⊥) → (reply.answer ≡ Did.Fetched → ⊥) → (reply.answer ≡ Did.Down → ⊥)
-    → ((asked now : ℕ) → reply.answer ≡ Did.Lost asked now → ⊥) → (reply.answer ≡ Did.Absent → ⊥) → (reply.answer ≡ Did.Fault → ⊥)
-    → unnamed ≡ goes_on (rest_of_spot layout file spot) (From.Chunk reply)
-served-other layout file spot reply readable a b c d e f =
-    sym (spot-served layout file spot reply readable ∙ on_served-other layout file spot reply.room reply.answer a b c d e f)
+    → unnamed ≡ after_fetch len given failed room answer
+unfolding after_fetch
+fetched-other len given failed room Did.Fetched b c d e f = absurd (b refl)
+fetched-other len given failed room Did.Down b c d e f = absurd (c refl)
+fetched-other len given failed room (Did.Lost asked now) b c d e f = absurd (d asked now refl)
+fetched-other len given failed room Did.Absent b c d e f = absurd (e refl)
+fetched-other len given failed room Did.Fault b c d e f = absurd (f refl)
+fetched-other len given failed room answer b c d e f = refl
 
 -- ---- a slot that failed
 
@@ -116,20 +75,20 @@ count-failed sources slot cause within =
     ∙ ap (count_by is_ok) (take-set sources slot (Err cause))
 
 -- too few are left
-pub without-stops : (layout : Shape) (file : OpenFile) (spot : Spot) (cause : Cause) → are_too_few (slice_set spot.sources spot.slot (Err cause)) ≡ true
-    → (reading_at layout file spot.block).too_few (causes_of (slice_set spot.sources spot.slot (Err cause))) ≡ rest_without layout file spot cause
+pub without-stops : (get : Get) (attempt : Attempt) (position : Position) (cause : Cause) → are_too_few (slice_set position.sources position.slot (Err cause)) ≡ true
+    → (reading_at get attempt position.block).too_few (causes_of (slice_set position.sources position.slot (Err cause))) ≡ rest_without get attempt position cause
 unfolding rest_without with_enough go_on_or_stop
-without-stops layout file spot cause few = rw few refl
+without-stops get attempt position cause few = rw few refl
 
 -- enough are left
-pub without-goes_on : (layout : Shape) (file : OpenFile) (spot : Spot) (cause : Cause) (slot : ℕ) (copy : Copy) → length spot.have < 6
-    → are_too_few (slice_set spot.sources spot.slot (Err cause)) ≡ false
-    → IsNext (slice_set spot.sources spot.slot (Err cause)) (spot.slot + 1) slot copy
-    → rest_of_spot layout file (record spot { sources = slice_set spot.sources spot.slot (Err cause); slot = slot; copy = copy }) ≡ rest_without layout file spot cause
-unfolding rest_without with_enough go_on_or_stop rest_of_spot
-without-goes_on layout file spot cause slot copy few enough next =
-    let wanted : 6 - length spot.have ≡ suc (5 - length spot.have) = omega (arith, few) in
-    rw (enough, wanted) (sym (next.passed (reading_at layout file spot.block) spot.window (5 - length spot.have) (pieces_at layout file spot) (behind_window layout file spot file.got)))
+pub without-goes_on : (get : Get) (attempt : Attempt) (position : Position) (cause : Cause) (slot : ℕ) (copy : Copy) → length position.have < 6
+    → are_too_few (slice_set position.sources position.slot (Err cause)) ≡ false
+    → IsNext (slice_set position.sources position.slot (Err cause)) (position.slot + 1) slot copy
+    → rest_of_position get attempt (record position { sources = slice_set position.sources position.slot (Err cause); slot = slot; copy = copy }) ≡ rest_without get attempt position cause
+unfolding rest_without with_enough go_on_or_stop rest_of_position
+without-goes_on get attempt position cause slot copy few enough next =
+    let wanted : 6 - length position.have ≡ suc (5 - length position.have) = omega (arith, few) in
+    rw (enough, wanted) (sym (next.passed (reading_at get attempt position.block) position.window (5 - length position.have) (pieces_at get attempt position) (behind_window get attempt position attempt.got)))
 
 -- ---- a slot that gave its bytes
 
@@ -157,23 +116,23 @@ pub length-insert : (slot : ℕ) (have : List ℕ) → AreBelow slot have → le
 length-insert slot have below = ap length (insert_slot-last slot have below) ∙ length-append have (slot ∷ [])
 
 -- six pieces are enough
-pub six-pieces : (layout : Shape) (file : OpenFile) (spot : Spot) (bytes : List ℕ) → length spot.have + 1 ≡ 6
-    → behind_window layout file spot file.got spot.sources (pieces_at layout file spot ++ record { slot = spot.slot; bytes = bytes } ∷ [])
-    ≡ rest_with_piece layout file spot bytes
+pub six-pieces : (get : Get) (attempt : Attempt) (position : Position) (bytes : List ℕ) → length position.have + 1 ≡ 6
+    → behind_window get attempt position attempt.got position.sources (pieces_at get attempt position ++ record { slot = position.slot; bytes = bytes } ∷ [])
+    ≡ rest_with_piece get attempt position bytes
 unfolding rest_with_piece read_slots
-six-pieces layout file spot bytes six = let none : 5 - length spot.have ≡ 0 = omega (arith, six) in rw none refl
+six-pieces get attempt position bytes six = let none : 5 - length position.have ≡ 0 = omega (arith, six) in rw none refl
 
 -- with fewer the next slot is read
-pub next-piece : (layout : Shape) (file : OpenFile) (spot : Spot) (bytes : List ℕ) (slot : ℕ) (copy : Copy) → length spot.have + 1 < 6
-    → IsNext spot.sources (spot.slot + 1) slot copy
-    → rest_of_slots layout file spot (6 - (length spot.have + 1)) slot spot.sources (pieces_at layout file spot ++ record { slot = spot.slot; bytes = bytes } ∷ [])
-    ≡ rest_with_piece layout file spot bytes
+pub next-piece : (get : Get) (attempt : Attempt) (position : Position) (bytes : List ℕ) (slot : ℕ) (copy : Copy) → length position.have + 1 < 6
+    → IsNext position.sources (position.slot + 1) slot copy
+    → rest_of_slots get attempt position (6 - (length position.have + 1)) slot position.sources (pieces_at get attempt position ++ record { slot = position.slot; bytes = bytes } ∷ [])
+    ≡ rest_with_piece get attempt position bytes
 unfolding rest_with_piece
-next-piece layout file spot bytes slot copy few next =
-    let wanted : 6 - (length spot.have + 1) ≡ suc (4 - length spot.have) = omega (arith, few) in
-    let left : 5 - length spot.have ≡ suc (4 - length spot.have) = omega (arith, few) in
+next-piece get attempt position bytes slot copy few next =
+    let wanted : 6 - (length position.have + 1) ≡ suc (4 - length position.have) = omega (arith, few) in
+    let left : 5 - length position.have ≡ suc (4 - length position.have) = omega (arith, few) in
     rw (wanted, left)
-    (sym (next.passed (reading_at layout file spot.block) spot.window (4 - length spot.have) (pieces_at layout file spot ++ record { slot = spot.slot; bytes = bytes } ∷ []) (behind_window layout file spot file.got)))
+    (sym (next.passed (reading_at get attempt position.block) position.window (4 - length position.have) (pieces_at get attempt position ++ record { slot = position.slot; bytes = bytes } ∷ []) (behind_window get attempt position attempt.got)))
 
 -- the room of the parts with another list in it
 pub room_with : {Z : Type 0} (v : Vec ℕ Z) (new : List ℕ) (size : ℕ) → length v.items ≡ 9 * size → length new ≡ 9 * size → (with_items v new).items ≡ new
@@ -183,12 +142,12 @@ pub enough-few : (sources : List Source) → 6 ≤ count_by is_ok sources → ar
 unfolding are_too_few
 enough-few sources enough = grind (arith, nat_tests, enough)
 
-pub filled-short : (layout : Shape) (file : OpenFile) (spot : Spot) (room : List ℕ) → length room ≢ window_bytes layout spot.window
-    → unnamed ≡ rest_if_filled layout file spot room
+pub filled-short : (get : Get) (attempt : Attempt) (position : Position) (room : List ℕ) → length room ≢ window_bytes get.layout position.window
+    → unnamed ≡ rest_if_filled get attempt position room
 unfolding rest_if_filled filled
-filled-short layout file spot room short = let no : (length room == window_bytes layout spot.window) ≡ false = grind (arith, nat_tests, short) in rw no refl
+filled-short get attempt position room short = let no : (length room == window_bytes get.layout position.window) ≡ false = grind (arith, nat_tests, short) in rw no refl
 
-pub filled-whole : (layout : Shape) (file : OpenFile) (spot : Spot) (room : List ℕ) → length room ≡ window_bytes layout spot.window
-    → rest_with_piece layout file spot room ≡ rest_if_filled layout file spot room
+pub filled-whole : (get : Get) (attempt : Attempt) (position : Position) (room : List ℕ) → length room ≡ window_bytes get.layout position.window
+    → rest_with_piece get attempt position room ≡ rest_if_filled get attempt position room
 unfolding rest_if_filled filled
-filled-whole layout file spot room whole = let yes : (length room == window_bytes layout spot.window) ≡ true = grind (arith, nat_tests, whole) in rw yes refl
+filled-whole get attempt position room whole = let yes : (length room == window_bytes get.layout position.window) ≡ true = grind (arith, nat_tests, whole) in rw yes refl

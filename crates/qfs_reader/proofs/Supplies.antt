@@ -1,43 +1,39 @@
 -- A get with other room for what its slots give.
-use Rattle.std.proofs.Common.{◌≡◌, ◌∙◌, refl, ap, sym, arith, inl, inr, ℕ, ◌≤◌, ◌⊎◌, []}
-use Rattle.qfs_base.specs.Shape.{Shape}
+use Rattle.std.proofs.Common.{◌≡◌, ◌∙◌, refl, ap, sym, inl, inr, ◌⊎◌, []}
 use Rattle.qfs_reader.specs.Parts.{pieces_of}
-use Rattle.qfs_reader.specs.Rest.{rest_of_spot, window_bytes, pieces_at, IsOtherRoom, IsSpot, HasRoom}
-use Rattle.qfs_reader.specs.Rows.{window_touched}
-use Rattle.qfs_reader.specs.declared.stage.OpenFile.{OpenFile}
-use Rattle.qfs_reader.specs.declared.stage.Spot.{Spot}
-
-rows-few : (s r from to k g : ℕ) → (window_touched s r from to k g).rows ≤ 16
-rows-few s r from to k g = omega arith
-
-pub window_rows-few : (layout : Shape) (file : OpenFile) (spot : Spot) → IsSpot layout file spot → spot.window.rows ≤ 16
-window_rows-few layout file spot at = rw at.window (rows-few layout.s layout.r file.from file.to spot.block spot.group)
+use Rattle.qfs_reader.specs.Rest.{rest_of_position, window_bytes, pieces_at}
+use Rattle.qfs_reader.specs.Standing.{IsOtherRoom, IsPosition, HasRoom}
+use Rattle.qfs_reader.specs.declared.stage.Attempt.{Attempt}
+use Rattle.qfs_reader.specs.declared.stage.Get.{Get}
+use Rattle.qfs_reader.specs.declared.stage.Position.{Position}
 
 -- no slot has given its bytes
-none_given : (layout : Shape) (before after : OpenFile) (spot : Spot) → spot.have ≡ [] → pieces_at layout after spot ≡ pieces_at layout before spot
+none_given : (get : Get) (before after : Attempt) (position : Position) → position.have ≡ [] → pieces_at get after position ≡ pieces_at get before position
 unfolding pieces_of
-none_given layout before after spot none =
-    ap (pieces_of (window_bytes layout spot.window) after.nine.items) none ∙ sym (ap (pieces_of (window_bytes layout spot.window) before.nine.items) none)
+none_given get before after position none =
+    ap (pieces_of (window_bytes get.layout position.window) after.nine.items) none
+    ∙ sym (ap (pieces_of (window_bytes get.layout position.window) before.nine.items) none)
 
-pub other_room-rest : (layout : Shape) (before after : OpenFile) (spot : Spot) → IsSpot layout before spot → IsOtherRoom before after
-    → (HasRoom layout before spot.window → after ≡ before) → rest_of_spot layout after spot ≡ rest_of_spot layout before spot
-unfolding rest_of_spot
-other_room-rest layout before after spot at other there =
+pub other_room-rest : (get : Get) (before after : Attempt) (position : Position) → IsPosition get before position → IsOtherRoom before after
+    → (HasRoom get before position.window → after ≡ before) → rest_of_position get after position ≡ rest_of_position get before position
+unfolding rest_of_position
+other_room-rest get before after position at other there =
     elim at.room [
-      | inl none ↦ rw (none_given layout before after spot none, other.opened, other.from, other.to, other.got) refl
-      | inr room ↦ ap (λ (file : OpenFile). rest_of_spot layout file spot) (there room)
+      | inl none ↦ rw (none_given get before after position none, other.opened, other.from, other.to, other.more, other.got) refl
+      | inr room ↦ ap (λ (attempt : Attempt). rest_of_position get attempt position) (there room)
     ]
 
-pub other_room-at : (layout : Shape) (before after : OpenFile) (spot : Spot) → IsSpot layout before spot → IsOtherRoom before after
-    → (spot.have ≡ []) ⊎ HasRoom layout after spot.window → IsSpot layout after spot
-other_room-at layout before after spot at other room =
+pub other_room-at : (get : Get) (before after : Attempt) (position : Position) → IsPosition get before position → IsOtherRoom before after
+    → (position.have ≡ []) ⊎ HasRoom get after position.window → IsPosition get after position
+other_room-at get before after position at other room =
     record {
-      range = record { some = rw (other.from, other.to) at.range.some; most = rw other.to at.range.most };
-      block = record { starts = rw other.to at.block.starts; ends = rw other.from at.block.ends };
-      group = rw other.to at.group;
-      window = rw (other.from, other.to) at.window;
-      reached = rw other.from at.reached;
+      window =
+          record {
+            range = record { some = rw (other.from, other.to) at.window.range.some; most = rw other.to at.window.range.most };
+            block = record { some = rw (other.from, other.to) at.window.block.some; starts = rw other.to at.window.block.starts; ends = rw other.from at.window.block.ends };
+            order = at.window.order;
+            got = rw (other.from, other.got) at.window.got;
+          };
       readable = at.readable;
-      got = rw (other.from, other.got) at.got;
       room = room;
     }

@@ -1,5 +1,5 @@
 -- How a reader stands, and what holds at each of its stages.
-use Rattle.std.specs.Prelude.{◌≡◌, ℕ, ◌-◌, ◌*◌, ◌<◌, ◌≤◌, List, [], ◌∷◌, length, take, count_by, is_ok, Option, Some, Ok, slice_get, ⊤, ◌⊎◌, IsSome, IfSome}
+use Rattle.std.specs.Prelude.{◌≡◌, ℕ, ◌-◌, ◌*◌, ◌<◌, ◌≤◌, [], ◌∷◌, length, take, count_by, is_ok, Some, Ok, slice_get, ⊤, ◌⊎◌, IsSome, IfSome}
 use Rattle.qfs_base.specs.Sizes.{SLOTS, DATA_SLOTS, MOST_FILE_BYTES}
 use Rattle.qfs_base.specs.declared.command.Excerpt.{Excerpt}
 use Rattle.qfs_base.specs.declared.command.Reply.{Reply}
@@ -30,9 +30,9 @@ abbrev pub rest_of : Standing → Work
 rest_of standing = rest_at standing.get standing.stage
 
 -- a range of a file that isn't empty
-pub record IsRange (attempt : Attempt) : Type 0 where
-  pub some : attempt.from < attempt.to
-  pub most : attempt.to ≤ MOST_FILE_BYTES
+pub record IsRange (from to : ℕ) : Type 0 where
+  pub some : from < to
+  pub most : to ≤ MOST_FILE_BYTES
 
 -- the bytes that were read lie before byte `start`
 abbrev pub IsBefore : Attempt → ℕ → Type 0
@@ -40,7 +40,7 @@ IsBefore attempt start = length attempt.got ≤ start - attempt.from
 
 -- a window of a block that the range touches is read, and those behind it come in their order
 pub record IsInWindow (get : Get) (attempt : Attempt) (position : Position) : Type 0 where
-  pub range : IsRange attempt
+  pub range : IsRange attempt.from attempt.to
   pub block : IsTouched get.layout.s get.layout.r attempt.from attempt.to position.block
   pub order : AreInOrder position.block position.window.first_row get.layout.r (position.window ∷ position.windows)
   pub got : IsBefore attempt (window_offset get.layout position.window)

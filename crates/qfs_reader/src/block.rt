@@ -1,7 +1,7 @@
 //! How a get goes from window to window and from block to block.
 #![tactic(auto, unfolding(crate::specs::Rest::rest_at, crate::specs::Rest::report_of, qfs_model_actor::specs::Get::reading_of))]
 
-ghost use Rattle.std.specs.Prelude.{◌≡◌, ◌+◌, ◌*◌, ◌<◌, ◌≤◌, ◌∷◌, length, false};
+ghost use Rattle.std.specs.Prelude.{◌≡◌, ◌*◌, ◌/◌, ◌≤◌, ◌∷◌, length, false};
 ghost use Rattle.qfs_base.specs.Layout.{block_bytes};
 ghost use Rattle.qfs_model_actor.specs.Get.{listed_in};
 ghost use Rattle.qfs_model_actor.specs.Read.{are_too_few, causes_of, sources_of};
@@ -14,6 +14,7 @@ ghost use Rattle.qfs_reader.specs.Parts.{AreBelow};
 use crate::parts::add_window;
 use crate::sources::{Sources, are_too_few, next_source, sources_of};
 use crate::stage::{Attempt, Get, GetEnding, Position, Stage};
+use crate::window::{stripe, window_offset};
 use qfs_base::layout::Window;
 use qfs_base::mask::Mask;
 use qfs_base::reply::Opened;
@@ -28,17 +29,13 @@ fn begin_window(
     windows: BlockWindows,
     sources: Sources,
 ) -> Stage
-    requires range { IsRange attempt }
-    requires block {
-        IsTouched get.now.layout.s get.now.layout.r attempt.from attempt.to block
-    }
+    requires range { IsRange attempt.from attempt.to }
+    requires block { IsTouched get.now.layout.s get.now.layout.r attempt.from attempt.to block }
     requires order { AreInOrder block window.first_row get.now.layout.r (window ∷ windows) }
     requires enough { are_too_few sources ≡ false }
     requires got { IsBefore attempt (window_offset get.now.layout window) }
-    ensures rest {
-        rest_at get.now result
-        ≡ rest_of_windows get.now attempt block (window ∷ windows) sources attempt.got
-    }
+    ensures rest { rest_at get.now result
+        ≡ rest_of_windows get.now attempt block (window ∷ windows) sources attempt.got }
     ensures at { IsAt get.now result }
 {
     let _ = get;
@@ -67,15 +64,14 @@ fn sources_in(opened: &Opened, block: u32) -> Sources
 
 /// The stage of a get that has read its file up to a block.
 pub fn next_block(get: &Get, attempt: Attempt, block: u32) -> Stage
-    requires range { IsRange attempt }
-    requires from {
-        attempt.from < block * block_bytes get.now.layout.s get.now.layout.r + block_bytes get.now.layout.s get.now.layout.r
-    }
+    requires range { IsRange attempt.from attempt.to }
+    requires first { attempt.from / block_bytes get.now.layout.s get.now.layout.r ≤ block }
     requires got { IsBefore attempt (block * block_bytes get.now.layout.s get.now.layout.r) }
     ensures rest { rest_at get.now result ≡ rest_of_blocks get.now attempt block attempt.got }
     ensures at { IsAt get.now result }
 {
-    if block >= get.layout.blocks_of(attempt.to) {
+    let blocks = get.layout.blocks_touched(attempt.from, attempt.to);
+    if block >= blocks.end {
         let Attempt { opened, got, .. } = attempt;
         let ending = GetEnding::Read {
             place: opened.place,
@@ -97,9 +93,7 @@ pub fn next_block(get: &Get, attempt: Attempt, block: u32) -> Stage
 /// The stage of a get that finds too few slots of a block: it opens its file again where an attempt
 /// is left, and nothing is kept of what it read.
 pub fn too_few(get: &Get, attempt: Attempt, block: u32, sources: Sources) -> Stage
-    ensures rest {
-        rest_at get.now result ≡ (reading_at get.now attempt block).too_few (causes_of sources)
-    }
+    ensures rest { rest_at get.now result ≡ (reading_at get.now attempt block).too_few (causes_of sources) }
     ensures at { IsAt get.now result }
 {
     let _ = get;
@@ -125,21 +119,17 @@ pub fn window_read(get: &Get, attempt: Attempt, position: Position) -> Stage
     requires have { 6 ≤ length position.have }
     requires below { AreBelow 9 position.have }
     requires room { HasRoom get.now attempt position.window }
-    ensures rest {
-        rest_at get.now result
-        ≡ behind_window get.now attempt position attempt.got position.sources (pieces_at get.now attempt position)
-    }
+    ensures rest { rest_at get.now result
+        ≡ behind_window get.now attempt position attempt.got position.sources (pieces_at get.now attempt position) }
     ensures at { IsAt get.now result }
 {
     let mut attempt = attempt;
-    let layout = &get.layout;
-    let start = position.block * layout.block_bytes()
-        + position.window.first_row * layout.row_bytes();
+    let start = window_offset(&get.layout, &position.window);
     add_window(
         attempt.nine.as_mut_slice(),
         attempt.spare.as_mut_slice(),
         position.have,
-        layout.s as usize,
+        stripe(&get.layout) as usize,
         position.window.rows as usize,
         attempt.from,
         attempt.to,

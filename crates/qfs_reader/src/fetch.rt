@@ -2,7 +2,7 @@
 #![tactic(auto, unfolding(crate::specs::Rest::rest_at, crate::specs::Rest::report_of))]
 
 ghost use Rattle.std.specs.Prelude.{◌≡◌, length};
-ghost use Rattle.qfs_machine.specs.Endings.{ending_of_chunk, report_of as common_report};
+ghost use Rattle.qfs_machine.specs.Endings.{report_of as common_report};
 ghost use Rattle.qfs_model_actor.specs.Ask.{after_fetch};
 ghost use Rattle.qfs_model_actor.specs.Shown.{kept_report};
 ghost use Rattle.qfs_model_actor.specs.Work.{goes_on};
@@ -15,26 +15,17 @@ use crate::block::{too_few, window_read};
 use crate::parts::put_part;
 use crate::sources::{are_too_few, next_source};
 use crate::stage::{Attempt, Get, GetEnding, Position, Stage};
-use qfs_base::layout::Window;
+use crate::window::window_bytes;
 use qfs_base::lists::Cause;
 use qfs_base::reply::{ChunkAnswer, ChunkReply, NodeReply};
 use qfs_base::sizes::DATA_SLOTS;
 use qfs_machine::Ending;
-use qfs_stripe::Layout;
 
 /// The stage of a get that ends at once, as any command may.
 pub fn ended(ending: Ending) -> Stage
     ensures { result ≡ At.Ended (With.Common ending) (kept_report (common_report ending)) }
 {
     Stage::Ended(GetEnding::Common(ending), ending.into_reply())
-}
-
-/// How many bytes a slot gives in a window.
-pub fn window_bytes(layout: &Layout, window: &Window) -> usize
-    requires { window.now.rows ≤ 16 }
-    ensures { result ≡ window_bytes layout.now window.now }
-{
-    window.rows as usize * layout.s as usize
 }
 
 /// The stage of a get whose slot failed.
@@ -64,7 +55,12 @@ fn given(get: &Get, attempt: Attempt, position: Position, bytes: &[u8]) -> Stage
 {
     let mut attempt = attempt;
     let mut position = position;
-    put_part(attempt.nine.as_mut_slice(), bytes.len(), position.slot, bytes);
+    put_part(
+        attempt.nine.as_mut_slice(),
+        bytes.len(),
+        position.slot,
+        bytes,
+    );
     position.have = position.have.with(position.slot);
     if position.have.count() >= DATA_SLOTS as usize {
         return window_read(get, attempt, position);
@@ -93,10 +89,8 @@ fn taken(get: &Get, attempt: Attempt, position: Position, room: &[u8]) -> Stage
 fn answered(get: &Get, attempt: Attempt, position: Position, reply: &ChunkReply) -> Stage
     requires at { IsPosition get.now attempt position }
     requires room { HasRoom get.now attempt position.window }
-    ensures rest {
-        rest_at get.now result
-        ≡ after_fetch (window_bytes get.now.layout position.window) (rest_with_piece get.now attempt position) (rest_without get.now attempt position) reply.now.room reply.now.answer
-    }
+    ensures rest { rest_at get.now result
+        ≡ after_fetch (window_bytes get.now.layout position.window) (rest_with_piece get.now attempt position) (rest_without get.now attempt position) reply.now.room reply.now.answer }
     ensures at { IsAt get.now result }
 {
     match &reply.answer {
@@ -119,16 +113,12 @@ fn answered(get: &Get, attempt: Attempt, position: Position, reply: &ChunkReply)
 pub fn fetched(get: &Get, attempt: Attempt, position: Position, reply: &ChunkReply) -> Stage
     requires at { IsPosition get.now attempt position }
     requires room { HasRoom get.now attempt position.window }
-    ensures rest {
-        rest_at get.now result
-        ≡ goes_on (rest_of_position get.now attempt position) (NodeReply.Chunk reply.now)
-    }
+    ensures rest { rest_at get.now result
+        ≡ goes_on (rest_of_position get.now attempt position) (NodeReply.Chunk reply.now) }
     ensures at { IsAt get.now result }
 {
     match Ending::of_chunk(&reply.answer) {
-        Some(ending) => {
-            Stage::Releasing(attempt.opened.lease, GetEnding::Common(ending), None)
-        }
+        Some(ending) => { Stage::Releasing(attempt.opened.lease, GetEnding::Common(ending), None) }
         None => answered(get, attempt, position, reply),
     }
 }

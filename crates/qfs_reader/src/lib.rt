@@ -2,15 +2,16 @@
 #![tactic(auto)]
 
 mod block;
+mod cut;
 mod fetch;
-mod cutting;
 mod meta;
 mod parts;
+mod read_so_far;
 mod reader;
 mod request;
-mod read_so_far;
 mod sources;
 mod stage;
 mod supply;
+mod window;
 
 pub use reader::Reader;

@@ -30,9 +30,7 @@ fn is_whole(layout: &Layout, opened: &Opened) -> bool
 /// The stage of a get whose file is open and whole.
 fn read(alloc: Global, get: &Get, more: u32, opened: Opened) -> Stage
     requires { opened.len ≤ MOST_FILE_BYTES }
-    ensures rest {
-        rest_at get.now result ≡ read_range get.now.layout (again get.now more) opened get.now.range
-    }
+    ensures rest { rest_at get.now result ≡ read_range get.now.layout (again get.now more) opened get.now.range }
     ensures at { IsAt get.now result }
 {
     let from = get.range.from;
@@ -59,10 +57,8 @@ fn read(alloc: Global, get: &Get, more: u32, opened: Opened) -> Stage
 
 /// The stage of a get at an answer that opens its file.
 fn open(alloc: Global, get: &Get, more: u32, opened: Opened) -> Stage
-    ensures rest {
-        rest_at get.now result
-        ≡ read_if_whole get.now.layout (again get.now more) get.now.range opened (is_whole get.now.layout opened)
-    }
+    ensures rest { rest_at get.now result
+        ≡ read_if_whole get.now.layout (again get.now more) get.now.range opened (is_whole get.now.layout opened) }
     ensures at { IsAt get.now result }
 {
     if is_whole(&get.layout, &opened) {
@@ -74,9 +70,7 @@ fn open(alloc: Global, get: &Get, more: u32, opened: Opened) -> Stage
 
 /// The stage of a get at an answer to its request for the file that doesn't end every command.
 fn opened_or_refused(alloc: Global, get: &Get, more: u32, answer: MetaReply) -> Stage
-    ensures rest {
-        rest_at get.now result ≡ was_opened get.now.layout (again get.now more) get.now.range answer
-    }
+    ensures rest { rest_at get.now result ≡ was_opened get.now.layout (again get.now more) get.now.range answer }
     ensures at { IsAt get.now result }
 {
     match answer {
@@ -91,10 +85,8 @@ fn opened_or_refused(alloc: Global, get: &Get, more: u32, answer: MetaReply) -> 
 
 /// The stage of a get at the answer to its request for the file, where so many attempts may follow.
 pub fn opened(alloc: Global, get: &Get, more: u32, answer: MetaReply) -> Stage
-    ensures rest {
-        rest_at get.now result
-        ≡ on_answer (end_with nothing) (was_opened get.now.layout (again get.now more) get.now.range) answer
-    }
+    ensures rest { rest_at get.now result
+        ≡ on_answer (end_with nothing) (was_opened get.now.layout (again get.now more) get.now.range) answer }
     ensures at { IsAt get.now result }
 {
     match Ending::of_meta(&answer) {
@@ -122,9 +114,7 @@ fn given_back(get: &Get, next: Stage, answer: &MetaReply) -> Stage
 /// to `next`.
 pub fn released(get: &Get, next: Stage, answer: &MetaReply) -> Stage
     requires { IsAt get.now next }
-    ensures rest {
-        rest_at get.now result ≡ on_answer ends (was_released (rest_at get.now next)) answer.now
-    }
+    ensures rest { rest_at get.now result ≡ on_answer ends (was_released (rest_at get.now next)) answer.now }
     ensures at { IsAt get.now result }
 {
     match Ending::of_meta(answer) {

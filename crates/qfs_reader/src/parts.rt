@@ -10,8 +10,8 @@ ghost use Rattle.qfs_model_actor.specs.Pieces.{data_of, row_of, rows_of_file};
 ghost use Rattle.qfs_model_actor.specs.Windows.{cut_to_range};
 ghost use Rattle.qfs_reader.specs.Parts.{part_at, pieces_of, AreBelow};
 
+use crate::cut::cut_to_range;
 use crate::read_so_far::ReadSoFar;
-use crate::cutting::cut_to_range;
 use qfs_base::mask::Mask;
 use qfs_base::numbers::Slot;
 use qfs_base::sizes::DATA_SLOTS;

@@ -46,12 +46,10 @@ impl Model for Reader {
 
     ghost view = { λ it. record { get = it.get; stage = it.stage; readiness = it.pending.readiness } };
 
-    ghost invariant = {
-        λ it.
+    ghost invariant = { λ it.
         IsAt it.get it.stage
         × IsPending (rest_at it.get it.stage) it.pending.readiness it.pending.request
-        × IsSuppliedWhile it.pending.readiness it.get it.stage
-    };
+        × IsSuppliedWhile it.pending.readiness it.get it.stage };
 }
 
 impl Reader {
@@ -132,9 +130,7 @@ fn after_meta(alloc: Global, get: &Get, stage: Stage, answer: MetaReply) -> Stag
 fn after_chunk(get: &Get, stage: Stage, reply: &ChunkReply) -> Stage
     requires at { IsAt get.now stage }
     requires supplied { IsSupplied get.now stage }
-    ensures rest {
-        rest_at get.now result ≡ goes_on (rest_at get.now stage) (NodeReply.Chunk reply.now)
-    }
+    ensures rest { rest_at get.now result ≡ goes_on (rest_at get.now stage) (NodeReply.Chunk reply.now) }
     ensures at { IsAt get.now result }
 {
     match stage {

@@ -9,8 +9,8 @@ ghost use Rattle.qfs_model_actor.specs.Work.{node_of_request, request_in};
 ghost use Rattle.qfs_reader.specs.Rest.{rest_at, rest_of_position};
 ghost use Rattle.qfs_reader.specs.Standing.{IsAt, IsPosition};
 
-use crate::fetch::window_bytes;
 use crate::stage::{Attempt, Get, Position, Stage};
+use crate::window::{first_byte, window_bytes};
 use qfs_base::chunk::{BlockId, ChunkKey};
 use qfs_base::listing::Listing;
 use qfs_base::lists::Bytes;
@@ -50,9 +50,7 @@ fn fetch_request(
     position: &Position,
 ) -> Result<NodeRequest, AllocError>
     requires { IsPosition get.now attempt.now position.now }
-    ensures request {
-        IfOk result (λ request. request_in (rest_of_position get.now attempt.now position.now) ≡ Some request)
-    }
+    ensures request { IfOk result (λ request. request_in (rest_of_position get.now attempt.now position.now) ≡ Some request) }
     ensures askable { IfOk result IsAskable }
 {
     let copy = position.copy;
@@ -69,7 +67,7 @@ fn fetch_request(
     let fetch = ChunkRequest::Fetch {
         key,
         life: copy.life,
-        from: position.window.first_row * get.layout.s,
+        from: first_byte(&get.layout, &position.window),
         room,
     };
     Ok(NodeRequest::Chunk(copy.server, fetch))

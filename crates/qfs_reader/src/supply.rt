@@ -6,9 +6,9 @@ ghost use Rattle.qfs_base.specs.Sizes.{WINDOW_ROWS};
 ghost use Rattle.qfs_reader.specs.Rest.{rest_at};
 ghost use Rattle.qfs_reader.specs.Standing.{IsAt, IsKeptOf, IsOtherRoom, IsSupplied, HasRoom};
 
-use crate::fetch::window_bytes;
 use crate::sources::causes_of;
 use crate::stage::{Attempt, Get, GetEnding, Stage};
+use crate::window::window_bytes;
 use qfs_base::command::{Excerpt, Reply};
 use qfs_base::layout::Window;
 use qfs_base::sizes::SLOTS;

@@ -147,11 +147,11 @@ rest_within input head rest are read =
     omega (arith, ap length t.parts ∙ length-append (head_text head) rest)
 
 -- what spells a chunk begins with its head
-pub chunk_head : (input : List ℕ) (stripe : ℕ) (key : ChunkKey) (chunk : Chunk) (rest : List ℕ) → IsChunk stripe key chunk
+pub chunk_head : (input : List ℕ) (stripe : ℕ) (key : ChunkKey) (chunk : Chunk) (rest : List ℕ) → IsHead (head_of stripe key chunk)
     → input ≡ chunk_record stripe key chunk ++ rest → head_at input ≡ Some (head_of stripe key chunk, chunk.bytes ++ rest)
 chunk_head input stripe key chunk rest is parts =
     ap head_at (parts ∙ append_assoc (head_text (head_of stripe key chunk)) chunk.bytes rest)
-    ∙ head-is_part.again (head_of stripe key chunk) (chunk.bytes ++ rest) is.head
+    ∙ head-is_part.again (head_of stripe key chunk) (chunk.bytes ++ rest) is
 
 abbrev reading : Head → List ℕ → Option (Head × List ℕ)
 reading head rest = Some (head, rest)
@@ -171,7 +171,7 @@ pub chunk_read_is : (input : List ℕ) (head : Head) (rest : List ℕ) → Some 
     × (some_chunk head (length input - length rest + head.len) ≡ some_chunk (head_of stripe key chunk) (length (chunk_record stripe key chunk)))
 chunk_read_is input head rest read stripe key chunk after is parts =
     let text = head_text (head_of stripe key chunk) in
-    let same = same_parts head (head_of stripe key chunk) rest (chunk.bytes ++ after) (read ∙ chunk_head input stripe key chunk after is parts) in
+    let same = same_parts head (head_of stripe key chunk) rest (chunk.bytes ++ after) (read ∙ chunk_head input stripe key chunk after is.head parts) in
     let len_is : head.len ≡ length chunk.bytes = ap (λ (h : Head). h.len) same.0 in
     let rest_is : length rest ≡ length chunk.bytes + length after = ap length same.1 ∙ length-append chunk.bytes after in
     let long : length input ≡ length (chunk_record stripe key chunk) + length after = ap length parts ∙ length-append (chunk_record stripe key chunk) after in
@@ -183,14 +183,14 @@ chunk_read_is input head rest read stripe key chunk after is parts =
 pub no_chunk : {A : Type 0} (input : List ℕ) → None ≡ head_at input → (stripe : ℕ) (key : ChunkKey) (chunk : Chunk) (after : List ℕ)
     → IsChunk stripe key chunk → input ≡ chunk_record stripe key chunk ++ after → A
 no_chunk input read stripe key chunk after is parts =
-    let impossible : None ≡ reading (head_of stripe key chunk) (chunk.bytes ++ after) = read ∙ chunk_head input stripe key chunk after is parts in
+    let impossible : None ≡ reading (head_of stripe key chunk) (chunk.bytes ++ after) = read ∙ chunk_head input stripe key chunk after is.head parts in
     absurd cc
 
 -- no record is a front of another
-pub apart : (stripe named : ℕ) (key other : ChunkKey) (chunk more : Chunk) (rest after : List ℕ) → IsChunk stripe key chunk → IsChunk named other more
+pub apart_heads : (stripe named : ℕ) (key other : ChunkKey) (chunk more : Chunk) (rest after : List ℕ) → IsHead (head_of stripe key chunk) → IsHead (head_of named other more)
     → chunk_record stripe key chunk ++ rest ≡ chunk_record named other more ++ after
     → (key ≡ other) × (chunk ≡ more) × (named_stripe chunk.form stripe ≡ named_stripe more.form named) × (rest ≡ after)
-apart stripe named key other chunk more rest after one two same =
+apart_heads stripe named key other chunk more rest after one two same =
     let both = same_parts (head_of stripe key chunk) (head_of named other more) (chunk.bytes ++ rest) (more.bytes ++ after)
     (sym (chunk_head _ stripe key chunk rest one refl) ∙ chunk_head (chunk_record stripe key chunk ++ rest) named other more after two same) in
     let long : length chunk.bytes ≡ length more.bytes = ap (λ (h : Head). h.len) both.0 in
@@ -203,3 +203,8 @@ apart stripe named key other chunk more rest after one two same =
       ap (λ (h : Head). h.stripe) both.0,
       behind,
     )
+
+pub apart : (stripe named : ℕ) (key other : ChunkKey) (chunk more : Chunk) (rest after : List ℕ) → IsChunk stripe key chunk → IsChunk named other more
+    → chunk_record stripe key chunk ++ rest ≡ chunk_record named other more ++ after
+    → (key ≡ other) × (chunk ≡ more) × (named_stripe chunk.form stripe ≡ named_stripe more.form named) × (rest ≡ after)
+apart stripe named key other chunk more rest after one two same = apart_heads stripe named key other chunk more rest after one.head two.head same

@@ -2,6 +2,7 @@
 
 ghost use Rattle.std.specs.Prelude.{◌≡◌, ℕ, List, ◌++◌, OnOk, OnErr};
 ghost use Rattle.std.specs.Option.{option_map};
+ghost use Rattle.qfs_record.specs.Part.{AreBytes};
 ghost use Rattle.qfs_record.specs.ChunkRecord.{block, slot, chunk_key, chunk_len, fields, is_stripe, stripe_part, first_head, second_head, begins_second, head_text, head_at, head_in};
 
 use crate::reading::{u8_at, u32_at};
@@ -36,9 +37,11 @@ pub fn is_second(bytes: &[u8]) -> bool
     bytes.starts_with(&SECOND_MARK)
 }
 
-/// The head at the front of the bytes. None says that no front of them is one.
+/// The head at the front of the bytes. None says that no front of them is one. Who knows of these
+/// bytes as numbers alone learns that they are bytes.
 pub fn read_head(bytes: &[u8]) -> Option<Head>
-    ensures { result ≡ head_in bytes.now }
+    ensures head { result ≡ head_in bytes.now }
+    ensures bytes { AreBytes bytes.now }
 {
     let (head, _) = head_at(bytes)?;
     Some(head)

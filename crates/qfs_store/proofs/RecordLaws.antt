@@ -7,9 +7,9 @@ use Rattle.qfs_base.specs.declared.chunk.ChunkKey.{ChunkKey}
 use Rattle.qfs_device.specs.Held.{Held, IsTorn, chunk_at, bytes_at}
 use Rattle.qfs_model_server.specs.Chunk.{Chunk, head_bytes}
 use Rattle.qfs_model_store.specs.Stands.{IsRecordOf}
-use Rattle.qfs_record.specs.ChunkRecord.{IsNamed, IsHead, IsChunk, first_head, second_head, head_text, head_of, chunk_record}
+use Rattle.qfs_record.specs.ChunkRecord.{IsNamed, IsHead, first_head, second_head, head_text, head_of, chunk_record}
 use Rattle.qfs_record.specs.declared.head.Head.{Head}
-use Rattle.qfs_record.proofs.ChunkLaws.{apart}
+use Rattle.qfs_record.proofs.ChunkLaws.{apart_heads}
 
 first_long : (key : ChunkKey) (len : ℕ) → length (first_head.text (key, len)) ≡ 21
 first_long key len = refl
@@ -26,27 +26,27 @@ head_long head named =
       | inr two ↦ subst (λ (form : ℕ). length (head_text (record head { form = form })) ≡ head_bytes form) (sym two.0) (second_long head.key head.len head.stripe)
     ]
 
-pub record_long : (stripe : ℕ) (key : ChunkKey) (copy : Chunk) → IsChunk stripe key copy → length (chunk_record stripe key copy) ≡ head_bytes copy.form + length copy.bytes
+pub record_long : (stripe : ℕ) (key : ChunkKey) (copy : Chunk) → IsHead (head_of stripe key copy) → length (chunk_record stripe key copy) ≡ head_bytes copy.form + length copy.bytes
 record_long stripe key copy fits =
     length-append (head_text (head_of stripe key copy)) copy.bytes
-    ∙ ap (λ (n : ℕ). n + length copy.bytes) (head_long (head_of stripe key copy) fits.head.named)
+    ∙ ap (λ (n : ℕ). n + length copy.bytes) (head_long (head_of stripe key copy) fits.named)
 
-pub behind_head : (stripe : ℕ) (key : ChunkKey) (copy : Chunk) (from : ℕ) → IsChunk stripe key copy → drop (head_bytes copy.form + from) (chunk_record stripe key copy) ≡ drop from copy.bytes
+pub behind_head : (stripe : ℕ) (key : ChunkKey) (copy : Chunk) (from : ℕ) → IsHead (head_of stripe key copy) → drop (head_bytes copy.form + from) (chunk_record stripe key copy) ≡ drop from copy.bytes
 behind_head stripe key copy from fits =
-    ap (λ (n : ℕ). drop (n + from) (chunk_record stripe key copy)) (sym (head_long (head_of stripe key copy) fits.head.named))
+    ap (λ (n : ℕ). drop (n + from) (chunk_record stripe key copy)) (sym (head_long (head_of stripe key copy) fits.named))
     ∙ drop-append-add (head_text (head_of stripe key copy)) copy.bytes from
 
 -- no proper front of a record is a record
-front_is_none : (stripe : ℕ) (key : ChunkKey) (copy other : Chunk) (count : ℕ) → IsChunk stripe key copy → IsChunk stripe key other
+front_is_none : (stripe : ℕ) (key : ChunkKey) (copy other : Chunk) (count : ℕ) → IsHead (head_of stripe key copy) → IsHead (head_of stripe key other)
     → count < length (chunk_record stripe key copy) → take count (chunk_record stripe key copy) ≡ chunk_record stripe key other → ⊥
 front_is_none stripe key copy other count one two less same =
     let whole = chunk_record stripe key copy in
     let left : drop count whole ≡ [] =
-    sym (apart stripe stripe key key copy other [] (drop count whole) one two
+    sym (apart_heads stripe stripe key key copy other [] (drop count whole) one two
     (append-nil whole ∙ sym (take-append-drop count whole) ∙ ap (λ (front : List ℕ). front ++ drop count whole) same)).3 in
     omega (arith, length-drop count whole, ap length left)
 
-pub torn_is_none : (stripe : ℕ) (key : ChunkKey) (copy : Chunk) (left : Option (List ℕ)) → IsChunk stripe key copy → IsTorn (chunk_record stripe key copy) left
+pub torn_is_none : (stripe : ℕ) (key : ChunkKey) (copy : Chunk) (left : Option (List ℕ)) → IsHead (head_of stripe key copy) → IsTorn (chunk_record stripe key copy) left
     → (other : Chunk) → IsRecordOf stripe key left other → ⊥
 torn_is_none stripe key copy None fits torn other is = let no : None ≡ Some (chunk_record stripe key other) = is.spelled in absurd cc
 torn_is_none stripe key copy (Some part) fits torn other is =

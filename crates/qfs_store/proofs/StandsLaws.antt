@@ -144,7 +144,7 @@ stored_stands stripe held known server key copy fits stands = record {
         (sym (value_at-with_entry key_cmp_total held.contents key (chunk_record stripe key copy) q))
         (sym (value_at-with_entry key_cmp_total server.copies key copy q))
         (holds_one stripe key q (Some (chunk_record stripe key copy)) _ (Some copy) _ (same_key q key) (same_key-is q key)
-        (record { fits = fits; spelled = refl }) (stands.stands.keys q));
+        (record { fits = fits.head; spelled = refl }) (stands.stands.keys q));
   };
 }
 
@@ -162,7 +162,7 @@ torn_stands stripe held known server key copy left fits apart torn stands = reco
         holds_along stripe q _ _ _ _
         (sym (left_at held key left q))
         (absent_again server.copies key q (absent_key server.copies key (sym (known_there known.copies server.copies key stands.copies) ∙ apart)))
-        (holds_one stripe key q left _ None _ (same_key q key) (same_key-is q key) (torn_is_none stripe key copy left fits torn) (stands.stands.keys q));
+        (holds_one stripe key q left _ None _ (same_key q key) (same_key-is q key) (torn_is_none stripe key copy left fits.head torn) (stands.stands.keys q));
   };
 }
 

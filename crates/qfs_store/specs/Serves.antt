@@ -2,7 +2,6 @@
 use Rattle.std.specs.Prelude.{ℕ, ◌≡◌, ◌+◌, ◌-◌, ◌^◌, ◌<◌, ◌≤◌, not, Bool, true, false, List, [], length, take, drop, replicate, Option, Some, None, IfSome, is_some, ⊤}
 use Rattle.std.specs.Option.{option_map}
 use Rattle.std.specs.List.{list_any}
-use Rattle.std.specs.List.Sorted.{IsStrictlySortedBy}
 use Rattle.std.specs.Map.{keys_of}
 use Rattle.qfs_base.specs.Key.{key_cmp}
 use Rattle.qfs_base.specs.KeyMap.{has_key, value_at, with_entry, without_key}
@@ -23,7 +22,7 @@ use Rattle.qfs_model_server.specs.Server.{Server, Answered, server_step, room_of
 use Rattle.qfs_model_store.specs.Stands.{HandsOut}
 use Rattle.qfs_record.specs.ChunkRecord.{IsChunk, chunk_record}
 use Rattle.qfs_store.specs.Known.{Known, Sizes, size_of, refusal}
-use Rattle.qfs_store.specs.Start.{copies_in, fronts, Reads}
+use Rattle.qfs_store.specs.Start.{Reads, Found}
 use Rattle.qfs_store.specs.Stored.{Stored, StandsOn}
 use Rattle.qfs_store.specs.declared.copies.CopySize.{CopySize}
 
@@ -86,9 +85,7 @@ InventoryIs _ copies told = ⊥
 abbrev pub FindsCopies : ℕ → Bool → Sizes → Sizes → Option Held → Option Held → Type 0
 FindsCopies stripe true copies copies' told told' = (copies' ≡ copies) × (told' ≡ told)
 FindsCopies stripe false copies copies' told told' =
-    (held : Held) → told ≡ Some held
-    → (copies' ≡ copies_in stripe held.contents) × IsStrictlySortedBy key_cmp (keys_of held.contents)
-    × Reads held told' (fronts held.contents)
+    (held : Held) → told ≡ Some held → Found stripe held copies' told'
 
 -- a Start that failed may have read; one that found no memory has read nothing
 abbrev pub StartLeaves : ℕ → Bool → ChunkAnswer → Sizes → Sizes → Option Held → Option Held → Type 0

@@ -1,5 +1,5 @@
 -- What a start finds on a device: the keys under which a chunk record stands that names the key.
-use Rattle.std.specs.Prelude.{ℕ, ◌≡◌, ◌+◌, ◌==◌, ◌&&◌, ◌||◌, ◌≤◌, nat_le, Bool, true, false, if◌then◌else◌, List, length, take, map, sum, filter_map, IsTrue, Option, Some, None, Result, Ok, Err}
+use Rattle.std.specs.Prelude.{ℕ, ◌≡◌, ◌+◌, ◌==◌, ◌&&◌, ◌||◌, ◌≤◌, nat_le, Bool, true, false, if◌then◌else◌, List, length, take, sum_by, filter_map, IsTrue, Option, Some, None, Result, Ok, Err}
 use Rattle.std.specs.List.{fold, AllByRecursion}
 use Rattle.std.specs.List.Sorted.{IsStrictlySortedBy}
 use Rattle.std.specs.Map.{keys_of}
@@ -16,6 +16,7 @@ use Rattle.qfs_device.specs.declared.errors.DeviceError.TheVariants.{Failed, NoM
 use Rattle.qfs_model_server.specs.Chunk.{head_bytes}
 use Rattle.qfs_model_store.specs.Stands.{kept}
 use Rattle.qfs_record.specs.ChunkRecord.{begins_second, head_in}
+use Rattle.qfs_record.specs.Part.{AreBytes}
 use Rattle.qfs_record.specs.declared.head.Head.{Head}
 use Rattle.qfs_store.specs.Known.{Sizes, resized}
 use Rattle.qfs_store.specs.declared.copies.CopySize.{CopySize}
@@ -47,6 +48,10 @@ copy_in stripe key size (Some head) = if is_head_of stripe key size head then So
 abbrev pub copy_under : ℕ → ChunkKey → List ℕ → Option CopySize
 copy_under stripe key bytes = copy_in stripe key (length bytes) (head_in (take (front_bytes bytes) bytes))
 
+-- the head of a chunk under each key was read: all that was read are bytes
+abbrev pub AreFronts : Contents → Type 0
+AreFronts contents = AllByRecursion (λ (chunk : ChunkKey × List ℕ). AreBytes (take (front_bytes chunk.1) chunk.1)) contents
+
 -- ---- all keys
 
 abbrev pub entry_of : ChunkKey → CopySize → ChunkKey × CopySize
@@ -59,7 +64,7 @@ copies_in stripe contents =
 
 -- how many bytes are read to know all heads
 abbrev pub fronts : Contents → ℕ
-fronts contents = sum (map (λ (chunk : ChunkKey × List ℕ). front_bytes chunk.1) contents)
+fronts contents = sum_by (λ (chunk : ChunkKey × List ℕ). front_bytes chunk.1) contents
 
 -- ---- one key after another
 
@@ -86,7 +91,11 @@ abbrev pub front_under : Held → KeySize → ℕ
 front_under held chunk = front_bytes (bytes_at held chunk.key)
 
 abbrev pub front_sum : Held → List KeySize → ℕ
-front_sum held sizes = sum (map (front_under held) sizes)
+front_sum held sizes = sum_by (front_under held) sizes
+
+-- what is read of the head under a key are bytes
+abbrev pub HasBytes : Held → KeySize → Type 0
+HasBytes held chunk = AreBytes (take (front_under held chunk) (bytes_at held chunk.key))
 
 -- a device has so many bytes under a key as it told
 pub record IsSized (held : Held) (chunk : KeySize) : Type 0 where
@@ -101,6 +110,13 @@ pub record Reads (held : Held) (told : Option Held) (count : ℕ) : Type 0 where
   pub life : after.life ≡ held.life
   pub handed : kept after.handed_out ≡ kept (held.handed_out + count)
 
+-- the copies that stand on a device were found, and all heads read
+pub record Found (stripe : ℕ) (held : Held) (known : Sizes) (told : Option Held) : Type 0 where
+  pub copies : known ≡ copies_in stripe held.contents
+  pub rising : IsStrictlySortedBy key_cmp (keys_of held.contents)
+  pub bytes : AreFronts held.contents
+  pub reads : Reads held told (fronts held.contents)
+
 -- the checks of the keys up to those that are left
 pub record Checked (stripe : ℕ) (held : Held) (told : Option Held) (begun now : Sizes) (sizes rest : List KeySize) : Type 0 where
   pub count : ℕ
@@ -108,23 +124,24 @@ pub record Checked (stripe : ℕ) (held : Held) (told : Option Held) (begun now 
   pub leads : fold (checking stripe held) now rest ≡ fold (checking stripe held) begun sizes
   pub counts : count + front_sum held rest ≡ front_sum held sizes
   pub readable : AllByRecursion (IsSized held) rest
+  pub fronts_are : AllByRecursion (HasBytes held) rest → AllByRecursion (HasBytes held) sizes
 
 -- a key's front was read and its copy found, or not all of it was read
 abbrev pub HeadRead : {E : Type 0} → Held → Option Held → KeySize → Result (Option Head) E → Type 0
 HeadRead held told chunk (Ok head) =
-    (head ≡ head_in (take (front_bytes (bytes_at held chunk.key)) (bytes_at held chunk.key))) × Reads held told (front_under held chunk)
+    (head ≡ head_in (take (front_under held chunk) (bytes_at held chunk.key))) × HasBytes held chunk
+    × Reads held told (front_under held chunk)
 HeadRead held told chunk (Err error) = (count : ℕ) × Reads held told count
 
 abbrev pub KeyChecked : {E : Type 0} → ℕ → Held → Option Held → KeySize → Sizes → Sizes → Result (Unit {0}) E → Type 0
 KeyChecked stripe held told chunk copies copies' (Ok done) =
-    (copies' ≡ checking stripe held copies chunk) × Reads held told (front_under held chunk)
+    (copies' ≡ checking stripe held copies chunk) × HasBytes held chunk × Reads held told (front_under held chunk)
 KeyChecked stripe held told chunk copies copies' (Err error) = (count : ℕ) × Reads held told count
 
 -- the copies on a device were found, and all fronts read; or it failed after some; or no memory was found and nothing read
 abbrev pub FindsOn : ℕ → Result Sizes DeviceError → Option Held → Option Held → Type 0
 FindsOn stripe (Ok copies) told told' =
     (held : Held) → told ≡ Some held
-    → (copies ≡ copies_in stripe held.contents) × IsStrictlySortedBy key_cmp (keys_of held.contents)
-    × Reads held told' (fronts held.contents)
+    → Found stripe held copies told'
 FindsOn stripe (Err Failed) told told' = (held : Held) → told ≡ Some held → (count : ℕ) × Reads held told' count
 FindsOn stripe (Err NoMemory) told told' = told' ≡ told

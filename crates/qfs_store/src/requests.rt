@@ -80,15 +80,15 @@ fn store<D: ChunkDevice>(
     ensures tells { is_some (D.told device.new) ≡ is_some (D.told device.old) }
     ensures counted { Counted result (D.faults device.old) (D.faults device.new) }
 {
-    if copies.insert(key, size).is_err() {
-        return ChunkAnswer::NoMemory;
-    }
-    match device.write(key, spelled) {
-        Ok(()) => ChunkAnswer::Stored,
-        Err(error) => {
-            copies.remove(&key);
-            failed(error)
-        }
+    match copies.insert(key, size) {
+        Ok(()) => match device.write(key, spelled) {
+            Ok(()) => ChunkAnswer::Stored,
+            Err(error) => {
+                copies.remove(&key);
+                failed(error)
+            }
+        },
+        Err(_) => ChunkAnswer::NoMemory,
     }
 }
 

@@ -1,90 +1,78 @@
-use Rattle.std.proofs.Common.{◌≡◌, ◌∙◌, ap, sym, arith, ℕ, ◌+◌, ◌-◌, ◌*◌, ◌<◌, ◌≤◌, ◌^◌, List, ◌++◌, length}
-use Rattle.qfs_base.specs.Layout.{block_bytes, row_bytes}
-use Rattle.qfs_base.specs.Shape.{Shape}
+use Rattle.std.proofs.Common.{◌≡◌, ◌∙◌, ap, sym, subst, arith, ℕ, ◌+◌, ◌<◌, ◌^◌, List, ◌∷◌, ◌++◌, length}
+use Rattle.qfs_base.specs.Layout.{block_bytes}
+use Rattle.qfs_base.specs.declared.layout.Window.{Window}
+use Rattle.qfs_stripe.specs.Touched.{AreInOrder}
 use Rattle.qfs_reader.specs.Rest.{rest_of_windows, reading_at, pieces_at}
-use Rattle.qfs_reader.proofs.Blocks.{window_at-inside, window_kept, window_offset-spot}
-use Rattle.qfs_reader.proofs.Touched.{window_end, window_end-group}
+use Rattle.qfs_reader.proofs.Blocks.{from_first_row, window_kept, starts_early, before_next, before_end, first_before, few_blocks, no_windows}
 use Rattle.qfs_reader.proofs.block.window_read.Goals as goal
 
--- where the window ends
-ends_inside : (b f n w r start : ℕ) → b * w + f * r + n * r ≤ b * w + w → b * w < start → start ≤ 2 ^ 28 → w ≤ 402653184 → b * w + f * r + n * r < 2 ^ 32
-ends_inside b f n w r start inside starts most large = omega (arith, inside, starts, most, large)
+pub window_offset-start-requires-clause-start : goal.window_offset-start-requires-clause-start
+window_offset-start-requires-clause-start c =
+    let window = c.requires.window in
+    starts_early c.args.get.now.layout c.args.position.block c.args.position.window c.args.attempt.to window.order.0.index window.block.starts window.range.most
 
-starts_inside : (b f n w r : ℕ) → b * w + f * r + n * r < 2 ^ 32 → b * w + f * r < 2 ^ 32
-starts_inside b f n w r fits = omega (arith, fits)
+pub window_offset-start-requires-clause-within : goal.window_offset-start-requires-clause-within
+window_offset-start-requires-clause-within c = c.requires.window.order.0.within
 
-first_inside : (b f n w r : ℕ) → b * w + f * r + n * r < 2 ^ 32 → f * r < 2 ^ 32
-first_inside b f n w r fits = omega (arith, fits)
-
-before_more : (len start first rows from next : ℕ) → len ≤ start + first + rows - from → first + rows ≤ next → len ≤ start + next - from
-before_more len start first rows from next bound inside = omega (arith, bound, inside)
-
-before_end : (len start first rows from whole : ℕ) → len ≤ start + first + rows - from → start + first + rows ≤ start + whole → len ≤ start + whole - from
-before_end len start first rows from whole bound inside = omega (arith, bound, inside)
-
-pub overflow_mul-start-2 : goal.overflow_mul-start-2
-overflow_mul-start-2 c =
-    let layout = c.args.layout.now in let spot = c.args.spot in
-    let inside = window_at-inside layout c.args.file spot c.requires.range c.requires.block c.requires.group c.requires.window c.requires.reached in
-    let large : block_bytes layout.s layout.r ≤ 402653184 = rw (← c.block_bytes.ensures.value) c.block_bytes.ensures.largest in
-    let fits = ends_inside spot.block spot.window.first_row spot.window.rows (block_bytes layout.s layout.r) (row_bytes layout.s) c.args.file.to
-    (window_end layout.s layout.r spot.block spot.group spot.window inside) c.requires.block.starts c.requires.range.most large in
-    let first : spot.window.first_row * c.row_bytes.result < 2 ^ 32 =
-    rw c.row_bytes.ensures.value (first_inside spot.block spot.window.first_row spot.window.rows (block_bytes layout.s layout.r) (row_bytes layout.s) fits) in
-    omega (arith, first)
-
-pub overflow_add-start : goal.overflow_add-start
-overflow_add-start c =
-    let layout = c.args.layout.now in let spot = c.args.spot in
-    let inside = window_at-inside layout c.args.file spot c.requires.range c.requires.block c.requires.group c.requires.window c.requires.reached in
-    let large : block_bytes layout.s layout.r ≤ 402653184 = rw (← c.block_bytes.ensures.value) c.block_bytes.ensures.largest in
-    let fits = ends_inside spot.block spot.window.first_row spot.window.rows (block_bytes layout.s layout.r) (row_bytes layout.s) c.args.file.to
-    (window_end layout.s layout.r spot.block spot.group spot.window inside) c.requires.block.starts c.requires.range.most large in
-    let start : spot.block * c.block_bytes.result + spot.window.first_row * c.row_bytes.result < 2 ^ 32 =
-    rw (c.block_bytes.ensures.value, c.row_bytes.ensures.value) (starts_inside spot.block spot.window.first_row spot.window.rows (block_bytes layout.s layout.r) (row_bytes layout.s) fits) in
-    omega (arith, start)
+pub add_window-requires-clause-rows : goal.add_window-requires-clause-rows
+add_window-requires-clause-rows c = omega (arith, c.requires.window.order.0.few)
 
 pub add_window-requires-clause-fits : goal.add_window-requires-clause-fits
-add_window-requires-clause-fits c =
-    let layout = c.args.layout.now in let spot = c.args.spot in
-    let es : c.layout.inside.s ≡ layout.s = ap (λ (shape : Shape). shape.s) c.layout.view_is in
-    let inside = window_at-inside layout c.args.file spot c.requires.range c.requires.block c.requires.group c.requires.window c.requires.reached in
-    let large : block_bytes layout.s layout.r ≤ 402653184 = rw (← c.block_bytes.ensures.value) c.block_bytes.ensures.largest in
-    rw (c.block_bytes.ensures.value, c.row_bytes.ensures.value, es)
-    (ends_inside spot.block spot.window.first_row spot.window.rows (block_bytes layout.s layout.r) (row_bytes layout.s) c.args.file.to
-    (window_end layout.s layout.r spot.block spot.group spot.window inside) c.requires.block.starts c.requires.range.most large)
+add_window-requires-clause-fits c = rw c.stripe.ensures.value c.window_offset-start.ensures.fits
 
 pub add_window-requires-clause-got : goal.add_window-requires-clause-got
-add_window-requires-clause-got c =
-    let start = window_offset-spot c.args.layout.now c.args.file c.args.spot c.requires.window in
-    rw (c.block_bytes.ensures.value, c.row_bytes.ensures.value, ← start) c.requires.got
+add_window-requires-clause-got c = rw c.window_offset-start.ensures.value c.requires.window.got
 
-pub next_window-requires-clause-got : goal.next_window-requires-clause-got
-next_window-requires-clause-got c =
-    let layout = c.args.layout.now in let spot = c.args.spot in
-    let es : c.layout.inside.s ≡ layout.s = ap (λ (shape : Shape). shape.s) c.layout.view_is in
-    let inside = window_at-inside layout c.args.file spot c.requires.range c.requires.block c.requires.group c.requires.window c.requires.reached in
-    let bound = rw (c.block_bytes.ensures.value, c.row_bytes.ensures.value, es) at c.add_window.ensures.bound in
-    before_more (length c.add_window.new.got) (spot.block * block_bytes layout.s layout.r) (spot.window.first_row * row_bytes layout.s) (spot.window.rows * row_bytes layout.s) c.args.file.from
-    ((spot.group + 1) * 16 * row_bytes layout.s) bound (window_end-group layout.s layout.r spot.group spot.window inside)
+pub begin_window-requires-clause-order : goal.begin_window-requires-clause-order
+begin_window-requires-clause-order c =
+    let layout = c.args.get.now.layout in let position = c.args.position in let w = position.window in
+    let order : AreInOrder position.block (w.first_row + w.rows) layout.r (c.in-Some.window ∷ c.next.new.self) =
+    subst (AreInOrder position.block (w.first_row + w.rows) layout.r) c.in-Some.ensures.steps c.requires.window.order.1 in
+    from_first_row position.block (w.first_row + w.rows) layout.r c.in-Some.window c.next.new.self order
 
-pub next_window-requires-clause-end : goal.next_window-requires-clause-end
-next_window-requires-clause-end c =
-    let layout = c.args.layout.now in let spot = c.args.spot in
-    let es : c.layout.inside.s ≡ layout.s = ap (λ (shape : Shape). shape.s) c.layout.view_is in
-    let inside = window_at-inside layout c.args.file spot c.requires.range c.requires.block c.requires.group c.requires.window c.requires.reached in
-    let bound = rw (c.block_bytes.ensures.value, c.row_bytes.ensures.value, es) at c.add_window.ensures.bound in
-    before_end (length c.add_window.new.got) (spot.block * block_bytes layout.s layout.r) (spot.window.first_row * row_bytes layout.s) (spot.window.rows * row_bytes layout.s) c.args.file.from
-    (block_bytes layout.s layout.r) bound (window_end layout.s layout.r spot.block spot.group spot.window inside)
+pub begin_window-requires-clause-got : goal.begin_window-requires-clause-got
+begin_window-requires-clause-got c =
+    let layout = c.args.get.now.layout in let position = c.args.position in let w = position.window in
+    let order : AreInOrder position.block (w.first_row + w.rows) layout.r (c.in-Some.window ∷ c.next.new.self) =
+    subst (AreInOrder position.block (w.first_row + w.rows) layout.r) c.in-Some.ensures.steps c.requires.window.order.1 in
+    let bound = rw (c.window_offset-start.ensures.value, c.stripe.ensures.value) at c.add_window.ensures.bound in
+    before_next layout position.block c.args.attempt.from (length c.add_window.new.got) w c.in-Some.window c.requires.window.order.0.index order.0 bound
 
-pub next_window-requires-clause-reached : goal.next_window-requires-clause-reached
-next_window-requires-clause-reached c = omega (arith, c.requires.reached)
+pub overflow_add-block : goal.overflow_add-block
+overflow_add-block c =
+    let layout = c.args.get.now.layout in let window = c.requires.window in
+    let few : c.args.position.block + 1 < 2 ^ 32 =
+    few_blocks c.args.attempt.from c.args.attempt.to c.args.position.block (block_bytes layout.s layout.r) window.block.ends window.block.starts window.range.most in
+    omega (arith, few)
 
-pub returns-clause-rest : goal.returns-clause-rest
-returns-clause-rest c =
-    let layout = c.args.layout.now in let spot = c.args.spot in
-    let es : c.layout.inside.s ≡ layout.s = ap (λ (shape : Shape). shape.s) c.layout.view_is in
-    let added = rw (c.block_bytes.ensures.value, c.row_bytes.ensures.value, es, c.as_mut_slice.ensures.value) at c.add_window.ensures.got in
-    let got : c.add_window.new.got ≡ c.args.file.got ++ (reading_at layout c.args.file spot.block).kept spot.window (pieces_at layout c.args.file spot) =
-    added ∙ ap (λ (bytes : List ℕ). c.args.file.got ++ bytes) (sym (window_kept layout c.args.file spot (pieces_at layout c.args.file spot) c.requires.window)) in
-    λ path range. c.next_window.ensures.rest path range ∙ ap (rest_of_windows layout c.args.file spot.block (spot.group + 1) spot.sources) got
+pub next_block-requires-clause-first : goal.next_block-requires-clause-first
+next_block-requires-clause-first c =
+    let layout = c.args.get.now.layout in
+    first_before c.args.attempt.from c.args.position.block (block_bytes layout.s layout.r) c.requires.window.block.ends
+
+pub next_block-requires-clause-got : goal.next_block-requires-clause-got
+next_block-requires-clause-got c =
+    let layout = c.args.get.now.layout in let position = c.args.position in let w = position.window in
+    let bound = rw (c.window_offset-start.ensures.value, c.stripe.ensures.value) at c.add_window.ensures.bound in
+    before_end layout position.block c.args.attempt.from (length c.add_window.new.got) w c.requires.window.order.0.index c.requires.window.order.0.within bound
+
+pub returns-in-Some-clause-rest : goal.returns-in-Some-clause-rest
+returns-in-Some-clause-rest c =
+    let get = c.args.get.now in let attempt = c.args.attempt in let position = c.args.position in
+    let added = rw (c.window_offset-start.ensures.value, c.stripe.ensures.value, c.as_mut_slice.ensures.value) at c.add_window.ensures.got in
+    let got : c.add_window.new.got ≡ attempt.got ++ (reading_at get attempt position.block).kept position.window (pieces_at get attempt position) =
+    added ∙ ap (λ (bytes : List ℕ). attempt.got ++ bytes) (sym (window_kept get attempt position.block position.window (pieces_at get attempt position))) in
+    c.begin_window.ensures.rest
+    ∙ ap (λ (windows : List Window). rest_of_windows get attempt position.block windows position.sources c.add_window.new.got) (sym c.in-Some.ensures.steps)
+    ∙ ap (rest_of_windows get attempt position.block position.windows position.sources) got
+
+pub returns-in-None-clause-rest : goal.returns-in-None-clause-rest
+returns-in-None-clause-rest c =
+    let get = c.args.get.now in let attempt = c.args.attempt in let position = c.args.position in
+    let added = rw (c.window_offset-start.ensures.value, c.stripe.ensures.value, c.as_mut_slice.ensures.value) at c.add_window.ensures.got in
+    let got : c.add_window.new.got ≡ attempt.got ++ (reading_at get attempt position.block).kept position.window (pieces_at get attempt position) =
+    added ∙ ap (λ (bytes : List ℕ). attempt.got ++ bytes) (sym (window_kept get attempt position.block position.window (pieces_at get attempt position))) in
+    c.next_block.ensures.rest
+    ∙ no_windows get attempt position.block position.sources c.add_window.new.got
+    ∙ ap (λ (windows : List Window). rest_of_windows get attempt position.block windows position.sources c.add_window.new.got) (sym c.in-None.ensures.steps.0)
+    ∙ ap (rest_of_windows get attempt position.block position.windows position.sources) got

@@ -9,46 +9,39 @@ use Rattle.qfs_reader.proofs.fetch.failed.Goals as goal
 
 pub next_source-slot-requires : goal.next_source-slot-requires
 next_source-slot-requires c =
-    let enough : are_too_few (slice_set c.args.spot.sources c.args.spot.slot (Err c.args.cause)) ≡ false = sym c.if-are_too_few.ensures in
-    let six = enough_left (slice_set c.args.spot.sources c.args.spot.slot (Err c.args.cause)) enough in
-    let count = count-failed c.args.spot.sources c.args.spot.slot c.args.cause (omega (arith, c.requires.slot, c.requires.nine)) in
-    omega (arith, six, count, c.requires.before, c.requires.few)
+    let readable = c.requires.readable in
+    let enough : are_too_few (slice_set c.args.position.sources c.args.position.slot (Err c.args.cause)) ≡ false = sym c.if-are_too_few.ensures in
+    let six = enough_left (slice_set c.args.position.sources c.args.position.slot (Err c.args.cause)) enough in
+    let count = count-failed c.args.position.sources c.args.position.slot c.args.cause (omega (arith, readable.slot, readable.nine)) in
+    omega (arith, six, count, readable.before, readable.few)
 
 pub returns-then-are_too_few-clause-rest : goal.returns-then-are_too_few-clause-rest
 returns-then-are_too_few-clause-rest c =
-    λ path layout range.
-    c.too_few.ensures.rest path range layout ∙ without-stops layout c.args.file c.args.spot c.args.cause (sym c.if-are_too_few.ensures)
-
-pub returns-then-are_too_few-clause-at : goal.returns-then-are_too_few-clause-at
-returns-then-are_too_few-clause-at c = λ layout at. c.too_few.ensures.at layout
+    c.too_few.ensures.rest ∙ without-stops c.args.get.now c.args.attempt c.args.position c.args.cause (sym c.if-are_too_few.ensures)
 
 pub returns-clause-rest : goal.returns-clause-rest
 unfolding rest_at
 returns-clause-rest c =
-    λ path layout range.
-    without-goes_on layout c.args.file c.args.spot c.args.cause c.next_source-slot.result.0 c.next_source-slot.result.1 c.requires.few (sym c.if-are_too_few.ensures) c.next_source-slot.ensures
+    without-goes_on c.args.get.now c.args.attempt c.args.position c.args.cause c.next_source-slot.result.0 c.next_source-slot.result.1 c.requires.readable.few
+    (sym c.if-are_too_few.ensures) c.next_source-slot.ensures
 
 pub returns-clause-at : goal.returns-clause-at
 returns-clause-at c =
-    let enough : are_too_few (slice_set c.args.spot.sources c.args.spot.slot (Err c.args.cause)) ≡ false = sym c.if-are_too_few.ensures in
-    let count = count-failed c.args.spot.sources c.args.spot.slot c.args.cause (omega (arith, c.requires.slot, c.requires.nine)) in
-    λ layout at.
+    let readable = c.requires.readable in
+    let window = c.requires.window in
+    let enough : are_too_few (slice_set c.args.position.sources c.args.position.slot (Err c.args.cause)) ≡ false = sym c.if-are_too_few.ensures in
+    let count = count-failed c.args.position.sources c.args.position.slot c.args.cause (omega (arith, readable.slot, readable.nine)) in
     record {
-      range = at.range;
-      block = at.block;
-      group = at.group;
-      window = at.window;
-      reached = at.reached;
+      window = record { range = window.range; block = window.block; order = window.order; got = window.got };
       readable =
           record {
             slot = c.next_source-slot.ensures.within;
             listed = c.next_source-slot.ensures.listed;
             nine = c.next_source-slot.ensures.nine;
-            before = c.next_source-slot.ensures.before ∙ count ∙ c.requires.before;
-            enough = enough_left (slice_set c.args.spot.sources c.args.spot.slot (Err c.args.cause)) enough;
-            few = c.requires.few;
-            below = AreBelow-more c.args.spot.slot c.next_source-slot.result.0 c.args.spot.have (omega (arith, c.next_source-slot.ensures.from)) c.requires.below;
+            before = c.next_source-slot.ensures.before ∙ count ∙ readable.before;
+            enough = enough_left (slice_set c.args.position.sources c.args.position.slot (Err c.args.cause)) enough;
+            few = readable.few;
+            below = AreBelow-more c.args.position.slot c.next_source-slot.result.0 c.args.position.have (omega (arith, c.next_source-slot.ensures.from)) readable.below;
           };
-      got = at.got;
-      room = at.room;
+      room = c.requires.room;
     }

@@ -1,26 +1,25 @@
-use Rattle.std.proofs.Common.{◌≡◌, ◌≢◌, ◌∙◌, ap, sym, ◌*◌, length}
-use Rattle.qfs_base.specs.Shape.{Shape}
+use Rattle.std.proofs.Common.{◌≢◌, ◌∙◌, sym, length}
 use Rattle.qfs_reader.specs.Rest.{window_bytes}
+use Rattle.qfs_reader.proofs.Answered.{unnamed-rest, ended-at}
 use Rattle.qfs_reader.proofs.Fetches.{filled-short, filled-whole}
 use Rattle.qfs_reader.proofs.fetch.taken.Goals as goal
 
-pub returns-then-room-spot-clause-rest : goal.returns-then-room-spot-clause-rest
-returns-then-room-spot-clause-rest c =
-    let es : c.layout.inside.s ≡ c.args.layout.now.s = ap (λ (shape : Shape). shape.s) c.layout.view_is in
-    let short : length c.args.room.now ≢ window_bytes c.args.layout.now c.args.spot.window = λ e. c.if-room-spot.true (e ∙ ap (λ s. c.args.spot.window.rows * s) (sym es)) in
-    λ path range. c.unnamed.ensures.rest path c.args.layout.now range ∙ filled-short c.args.layout.now c.args.file c.args.spot c.args.room.now short
+pub window_bytes-requires : goal.window_bytes-requires
+window_bytes-requires c = c.requires.at.window.order.0.few
+
+pub returns-then-room-window_bytes-clause-rest : goal.returns-then-room-window_bytes-clause-rest
+returns-then-room-window_bytes-clause-rest c =
+    let short : length c.args.room.now ≢ window_bytes c.args.get.now.layout c.args.position.window =
+    λ e. c.if-room-window_bytes.true (e ∙ sym c.window_bytes.ensures.value) in
+    unnamed-rest c.args.get.now _ c.ended.ensures ∙ filled-short c.args.get.now c.args.attempt c.args.position c.args.room.now short
+
+pub returns-then-room-window_bytes-clause-at : goal.returns-then-room-window_bytes-clause-at
+returns-then-room-window_bytes-clause-at c = ended-at c.args.get.now _ _ c.ended.ensures
 
 pub given-requires-clause-bytes : goal.given-requires-clause-bytes
-given-requires-clause-bytes c =
-    let es : c.layout.inside.s ≡ c.args.layout.now.s = ap (λ (shape : Shape). shape.s) c.layout.view_is in
-    c.if-room-spot.false ∙ ap (λ s. c.args.spot.window.rows * s) es
+given-requires-clause-bytes c = c.if-room-window_bytes.false ∙ c.window_bytes.ensures.value
 
 pub returns-clause-rest : goal.returns-clause-rest
 returns-clause-rest c =
-    let es : c.layout.inside.s ≡ c.args.layout.now.s = ap (λ (shape : Shape). shape.s) c.layout.view_is in
-    λ path range.
-    c.given.ensures.rest path range
-    ∙ filled-whole c.args.layout.now c.args.file c.args.spot c.args.room.now (c.if-room-spot.false ∙ ap (λ s. c.args.spot.window.rows * s) es)
-
-pub returns-then-room-spot-clause-at : goal.returns-then-room-spot-clause-at
-returns-then-room-spot-clause-at c = c.unnamed.ensures.at c.args.layout.now
+    c.given.ensures.rest
+    ∙ filled-whole c.args.get.now c.args.attempt c.args.position c.args.room.now (c.if-room-window_bytes.false ∙ c.window_bytes.ensures.value)

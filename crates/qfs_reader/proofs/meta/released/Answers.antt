@@ -1,20 +1,20 @@
-use Rattle.std.proofs.Common.{◌∙◌, refl, sym}
+use Rattle.std.proofs.Common.{◌∙◌, sym}
+use Rattle.qfs_machine.proofs.Endings.{on_answer-some, on_answer-none}
 use Rattle.qfs_model_actor.specs.Hold.{was_released}
 use Rattle.qfs_model_actor.specs.Work.{ends}
-use Rattle.qfs_reader.specs.Rest.{rest_at, report_of, ends_or}
+use Rattle.qfs_reader.specs.Rest.{rest_at}
+use Rattle.qfs_reader.proofs.Answered.{ended-rest, ended-at}
 use Rattle.qfs_reader.proofs.meta.released.Goals as goal
 
 pub returns-in-Some-clause-rest : goal.returns-in-Some-clause-rest
-unfolding rest_at ends_or
 returns-in-Some-clause-rest c =
-    λ path layout range. sym (c.common_end.ensures ends (was_released (ends (report_of c.args.ending))) (λ report. refl) ∙ rw c.in-Some.is refl)
+    ended-rest c.args.get.now _ _ c.ended.ensures
+    ∙ sym (on_answer-some (was_released (rest_at c.args.get.now c.args.next)) c.args.answer.now c.in-Some.ending (sym c.of_meta.ensures ∙ c.in-Some.is))
+
+pub returns-in-Some-clause-at : goal.returns-in-Some-clause-at
+returns-in-Some-clause-at c = ended-at c.args.get.now _ _ c.ended.ensures
 
 pub returns-in-None-clause-rest : goal.returns-in-None-clause-rest
-unfolding ends_or
 returns-in-None-clause-rest c =
-    λ path layout range.
-    c.given_back.ensures.rest path layout range
-    ∙ sym (c.common_end.ensures ends (was_released (ends (report_of c.args.ending))) (λ report. refl) ∙ rw c.in-None.is refl)
-
-pub returns-in-None-clause-at : goal.returns-in-None-clause-at
-returns-in-None-clause-at c = c.given_back.ensures.at
+    c.given_back.ensures.rest
+    ∙ sym (on_answer-none ends (was_released (rest_at c.args.get.now c.args.next)) c.args.answer.now (sym c.of_meta.ensures ∙ c.in-None.is))

@@ -1,35 +1,32 @@
 use Rattle.std.proofs.Common.{◌∙◌, refl}
-use Rattle.qfs_reader.specs.Rest.{rest_at}
+use Rattle.qfs_model_actor.specs.Hold.{end_with}
 use Rattle.qfs_model_actor.specs.Work.{goes_on}
-use Rattle.qfs_reader.proofs.Asked.{spot-meta, opening-meta, releasing-meta}
+use Rattle.qfs_reader.specs.Rest.{rest_at}
+use Rattle.qfs_reader.proofs.Answered.{unnamed-rest, ended-at}
+use Rattle.qfs_reader.proofs.Asked.{position-meta, opening-meta, releasing-meta}
 use Rattle.qfs_reader.proofs.reader.after_meta.Goals as goal
 
 pub returns-in-Opening-clause-rest : goal.returns-in-Opening-clause-rest
 unfolding rest_at
-returns-in-Opening-clause-rest c =
-    λ path. rw c.in-Opening.is (c.opened.ensures.rest path c.args.range ∙ opening-meta path c.args.layout.now c.args.range c.args.answer)
+returns-in-Opening-clause-rest c = rw c.in-Opening.is (c.opened.ensures.rest ∙ opening-meta c.args.get.now c.in-Opening.more c.args.answer)
 
-pub returns-in-Fetching-clause-rest : goal.returns-in-Fetching-clause-rest
+pub returns-in-Reading-clause-rest : goal.returns-in-Reading-clause-rest
 unfolding rest_at
-returns-in-Fetching-clause-rest c =
-    let at = rw c.in-Fetching.is at c.requires.at in
-    λ path. rw c.in-Fetching.is (c.unnamed.ensures.rest path c.args.layout.now c.args.range ∙ spot-meta c.args.layout.now _ _ c.args.answer at.readable)
+returns-in-Reading-clause-rest c =
+    let at = rw c.in-Reading.is at c.requires.at in
+    rw c.in-Reading.is (unnamed-rest c.args.get.now _ c.ended.ensures ∙ position-meta c.args.get.now _ _ c.args.answer at.readable)
 
-pub returns-in-Fetching-clause-at : goal.returns-in-Fetching-clause-at
-returns-in-Fetching-clause-at c = c.unnamed.ensures.at c.args.layout.now
+pub returns-in-Reading-clause-at : goal.returns-in-Reading-clause-at
+returns-in-Reading-clause-at c = ended-at c.args.get.now _ _ c.ended.ensures
 
 pub returns-in-Some-clause-rest : goal.returns-in-Some-clause-rest
+unfolding rest_at end_with
+returns-in-Some-clause-rest c = rw c.in-Releasing.is (c.released.ensures.rest ∙ releasing-meta _ _ c.args.answer)
+
+pub returns-in-Retrying-clause-rest : goal.returns-in-Retrying-clause-rest
 unfolding rest_at
-returns-in-Some-clause-rest c =
-    λ path. rw c.in-Releasing.is (c.released.ensures.rest path c.args.layout.now c.args.range ∙ releasing-meta _ _ c.args.answer)
-
-pub returns-in-Some-clause-at : goal.returns-in-Some-clause-at
-returns-in-Some-clause-at c = c.released.ensures.at c.args.layout.now
-
-pub returns-in-Ended-clause-rest : goal.returns-in-Ended-clause-rest
-unfolding rest_at goes_on
-returns-in-Ended-clause-rest c = λ path. rw c.in-Ended.is refl
+returns-in-Retrying-clause-rest c = rw c.in-Retrying.is (c.released-in-Retrying.ensures.rest ∙ releasing-meta _ _ c.args.answer)
 
 pub returns-clause-rest : goal.returns-clause-rest
 unfolding rest_at goes_on
-returns-clause-rest c = λ path. rw c.in-Stopped.is refl
+returns-clause-rest c = rw c.in-Ended.is refl

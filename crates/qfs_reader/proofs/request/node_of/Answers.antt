@@ -1,15 +1,10 @@
 use Rattle.qfs_reader.specs.Rest.{rest_at}
-use Rattle.qfs_reader.proofs.Asked.{spot-node, opening-node, releasing-node}
+use Rattle.qfs_reader.proofs.Asked.{position-node, other-node}
 use Rattle.qfs_reader.proofs.request.node_of.Goals as goal
 
-pub returns-in-Opening : goal.returns-in-Opening
+pub returns-in-Reading : goal.returns-in-Reading
 unfolding rest_at
-returns-in-Opening c = λ path range. rw c.in-Opening.is (opening-node path c.args.layout.now range)
+returns-in-Reading c = let at = rw c.in-Reading.is at c.requires in rw c.in-Reading.is (position-node c.args.get.now _ _ at.readable)
 
-pub returns-in-Fetching : goal.returns-in-Fetching
-unfolding rest_at
-returns-in-Fetching c = let at = rw c.in-Fetching.is at c.requires in λ path range. rw c.in-Fetching.is (spot-node c.args.layout.now _ _ at.readable)
-
-pub returns-in-Releasing : goal.returns-in-Releasing
-unfolding rest_at
-returns-in-Releasing c = λ path range. rw c.in-Releasing.is (releasing-node _ _)
+pub returns-in_default : goal.returns-in_default
+returns-in_default c = other-node c.args.get.now c.args.stage.now c.in_default.not-Reading c.in_default.not-Ended

@@ -2,9 +2,11 @@ use Rattle.qfs_reader.specs.Rest.{rest_at}
 use Rattle.qfs_reader.proofs.Supplies.{other_room-rest}
 use Rattle.qfs_reader.proofs.supply.supply.Goals as goal
 
-pub returns-in_ok-make_room-in-Fetching-clause-rest : goal.returns-in_ok-make_room-in-Fetching-clause-rest
+pub make_room-requires : goal.make_room-requires
+make_room-requires c = let at = rw c.in-Reading.is at c.requires in at.window.order.0.few
+
+pub returns-in-Reading-clause-rest : goal.returns-in-Reading-clause-rest
 unfolding rest_at
-returns-in_ok-make_room-in-Fetching-clause-rest c =
-    let at = rw c.in-Fetching.is at c.requires in
-    let made = c.in_ok-make_room-in-Fetching.ensures in
-    λ path range. rw c.in-Fetching.is (other_room-rest c.args.layout.now c.in-Fetching.file c.make_room.new.file c.in-Fetching.spot at made.other made.there)
+returns-in-Reading-clause-rest c =
+    let at = rw c.in-Reading.is at c.requires in
+    rw c.in-Reading.is (other_room-rest c.args.get.now c.in-Reading.attempt c.make_room.new.attempt c.in-Reading.position at c.make_room.ensures.other c.make_room.ensures.there)

@@ -1,7 +1,7 @@
-use Rattle.qfs_actor.proofs.Courses.{ok-can_ask}
+use Rattle.qfs_actor.proofs.States.{ok-can_ask}
 use Rattle.qfs_actor.proofs.actor.Actor.ready.Goals as goal
 
 pub returns-clause-ok : goal.returns-clause-ok
 returns-clause-ok c =
-    let actor = c.self.inside.told.value in
+    let actor = c.self.inside.model.value in
     ok-can_ask c.ready.result actor c.ready.new.self (c.ready.ensures.of actor c.self.invariant) c.ready.ensures.ok

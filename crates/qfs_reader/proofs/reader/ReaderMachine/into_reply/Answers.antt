@@ -6,5 +6,5 @@ use Rattle.qfs_reader.proofs.reader.ReaderMachine.into_reply.Goals as goal
 
 pub into_kept-requires-clause-ended : goal.into_kept-requires-clause-ended
 into_kept-requires-clause-ended c =
-    ended-if_none c.self.inside.path c.self.inside.layout c.self.inside.range c.self.inside.stage c.self.invariant.0
+    ended-if_none c.self.inside.get c.self.inside.stage c.self.invariant.0
     (ap (λ (standing : Standing). request_in (rest_of standing)) c.self.view_is ∙ c.requires)

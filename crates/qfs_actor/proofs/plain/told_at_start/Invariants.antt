@@ -1,5 +1,0 @@
-use Rattle.qfs_model_actor.specs.Actor.{starting}
-use Rattle.qfs_actor.proofs.plain.told_at_start.Given as goal
-
-abbrev pub ghost-of : goal.ghost-of
-ghost-of a = starting a.first.now.layout a.first.now.number a.second.now

@@ -1,0 +1,9 @@
+use Rattle.std.proofs.Common.{refl}
+use Rattle.qfs_actor.proofs.States.{node_of-state}
+use Rattle.qfs_actor.proofs.state.ActorState.goes_to.Goals as goal
+
+pub returns-in-Some : goal.returns-in-Some
+returns-in-Some c = λ actor of. rw (c.goes_to.ensures, node_of-state actor c.args.self.now of, c.in-Some.is) refl
+
+pub returns-in-None : goal.returns-in-None
+returns-in-None c = λ actor of. rw (node_of-state actor c.args.self.now of, c.in-None.is) refl

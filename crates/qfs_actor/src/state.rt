@@ -1,0 +1,170 @@
+//! What an actor keeps: the commands that haven't begun, the machine of the present one, and what
+//! those reported that have ended.
+#![tactic(auto)]
+
+ghost use Rattle.std.specs.Prelude.{◌≡◌, ℕ, ◌+◌, ◌<◌, ◌≤◌, ◌^◌, None, IfSome, IsSome, All, OnOk, OnErr, length, drop, slice_get, option_map, vec_len, vec_capacity, List, [], ◌∷◌, ◌++◌};
+ghost use Rattle.std.specs.Vec.Iter.{into_iter_items};
+ghost use Rattle.qfs_model_actor.specs.Actor.{Actor, starting, after_reply, request_of, node_of};
+ghost use Rattle.qfs_model_actor.specs.Command.{work_of};
+ghost use Rattle.qfs_model_actor.specs.Work.{Report, ends, request_in};
+ghost use Rattle.qfs_machine.specs.Askable.{IsAskable};
+ghost use Rattle.qfs_machine.specs.Asking.{IsOut, MayAsk, after_asking};
+ghost use Rattle.qfs_model_actor.specs.Shown.{kept_report};
+ghost use Rattle.qfs_machine.specs.declared.machine.Readiness.{Readiness};
+ghost use Rattle.qfs_actor.specs.State.{IsOf, readiness_in};
+ghost use Rattle.qfs_actor.specs.CommandMachine.{rest_of, readiness_of};
+ghost use Rattle.qfs_actor.specs.Forms.{IsBuilt};
+
+use crate::command_machine::CommandMachine;
+use crate::actor_model::Setting;
+use qfs_base::command::{Command, ReplyLine};
+use qfs_base::numbers::NodeId;
+use qfs_base::reply::NodeReply;
+use qfs_base::request::NodeRequest;
+use qfs_machine::Machine;
+use std::alloc::{AllocError, Global};
+use std::vec;
+
+/// What an actor keeps.
+#[derive(Drop)]
+pub struct ActorState {
+    pub alloc: Global,
+    pub setting: Setting,
+    /// The commands that haven't begun.
+    pub ahead: vec::IntoIter<Command>,
+    /// The present command; None where all have ended.
+    pub machine: Option<CommandMachine>,
+    /// The reports of the commands that have ended.
+    pub replies: Vec<ReplyLine>,
+}
+
+/// Begins the next command behind so many that have ended, if there is one.
+fn begin_next(
+    alloc: Global,
+    setting: &Setting,
+    ended: usize,
+    ahead: &mut vec::IntoIter<Command>,
+) -> Option<CommandMachine>
+    requires tries { 1 ≤ setting.now.rules.tries }
+    requires few { ended + length (into_iter_items ahead.old) < 2 ^ 16 }
+    requires built { All IsBuilt (into_iter_items ahead.old) }
+    ensures rest { option_map rest_of result ≡ option_map (λ command. work_of setting.now.rules (ended + 1) command) (slice_get (into_iter_items ahead.old) 0) }
+    ensures asks { IfSome result (λ machine. IsSome (request_in (rest_of machine))) }
+    ensures ahead { into_iter_items ahead.new ≡ drop 1 (into_iter_items ahead.old) }
+    ensures unready { readiness_in result ≡ Readiness.Unready }
+{
+    match ahead.next() {
+        Some(command) => {
+            let number = (ended + 1) as u16;
+            Some(CommandMachine::begin(alloc, setting.rules, number, command))
+        }
+        None => None,
+    }
+}
+
+impl ActorState {
+    /// At the first command. Takes no memory.
+    pub fn new(alloc: Global, setting: Setting, commands: Vec<Command>) -> ActorState
+        requires tries { 1 ≤ setting.rules.tries }
+        requires few { length commands.items < 2 ^ 16 }
+        requires built { All IsBuilt commands.items }
+        ensures of { IsOf (starting setting.rules setting.number commands.items) result }
+        ensures unready { readiness_in result.machine ≡ Readiness.Unready }
+    {
+        let mut ahead = commands.into_iter();
+        let machine = begin_next(alloc, &setting, 0, &mut ahead);
+        ActorState {
+            alloc,
+            setting,
+            ahead,
+            machine,
+            replies: Vec::new(alloc),
+        }
+    }
+
+    /// Takes the memory for the next request, for its reply and for the line of the command's report.
+    pub fn ready(&mut self) -> Result<(), AllocError>
+        requires { IsOut (readiness_in self.old.machine) → ⊥ }
+        ensures of { (actor : Actor) → IsOf actor self.old → IsOf actor self.new }
+        ensures ok { OnOk result (IfSome self.new.machine (λ machine. readiness_of machine ≡ Readiness.Ready)) }
+        ensures err { OnErr result (readiness_in self.new.machine ≡ readiness_in self.old.machine) }
+    {
+        match &mut self.machine {
+            Some(machine) => {
+                self.replies.reserve(1)?;
+                machine.ready()
+            }
+            None => Ok(()),
+        }
+    }
+
+    /// The node of the next request, or of the one that is out.
+    pub fn goes_to(&self) -> Option<NodeId>
+        ensures { (actor : Actor) → IsOf actor self.now → result ≡ node_of actor }
+    {
+        match &self.machine {
+            Some(machine) => machine.goes_to(),
+            None => None,
+        }
+    }
+
+    /// Hands the next request out.
+    pub fn next(&mut self) -> Option<NodeRequest>
+        requires { IfSome self.old.machine (λ machine. MayAsk (readiness_of machine) (rest_of machine)) }
+        ensures of { (actor : Actor) → IsOf actor self.old → IsOf actor self.new }
+        ensures request { (actor : Actor) → IsOf actor self.old → result ≡ request_of actor }
+        ensures out { readiness_in self.new.machine ≡ after_asking result (readiness_in self.old.machine) }
+        ensures askable { IfSome result IsAskable }
+    {
+        match &mut self.machine {
+            Some(machine) => machine.next(),
+            None => None,
+        }
+    }
+
+    /// Goes on with a node's reply.
+    pub fn took(&mut self, reply: NodeReply)
+        requires out { IsOut (readiness_in self.old.machine) }
+        requires of { (actor : Actor) × IsOf actor self.old }
+        ensures of { (actor : Actor) → IsOf actor self.old → IsOf (after_reply actor reply) self.new }
+        ensures unready { readiness_in self.new.machine ≡ Readiness.Unready }
+    {
+        match self.machine.take() {
+            Some(mut machine) => {
+                machine.took(reply);
+                if machine.goes_to().is_some() {
+                    self.machine = Some(machine);
+                } else {
+                    self.end(machine);
+                }
+            }
+            None => unreachable!(),
+        }
+    }
+
+    /// Keeps the report of the present command, which has ended, and begins the next one.
+    fn end(&mut self, machine: CommandMachine)
+        requires ended { request_in (rest_of machine) ≡ None }
+        requires room { vec_len self.old.replies < vec_capacity self.old.replies }
+        requires tries { 1 ≤ self.old.setting.rules.tries }
+        requires few { length self.old.replies.items + 1 + length (into_iter_items self.old.ahead) < 2 ^ 16 }
+        requires built { All IsBuilt (into_iter_items self.old.ahead) }
+        ensures setting { self.new.setting ≡ self.old.setting }
+        ensures line { (report : Report) → rest_of machine ≡ ends report → self.new.replies.items ≡ self.old.replies.items ++ record { actor = self.old.setting.number; command = length self.old.replies.items + 1; reply = kept_report report } ∷ [] }
+        ensures rest { option_map rest_of self.new.machine ≡ option_map (λ command. work_of self.old.setting.rules (length self.old.replies.items + 2) command) (slice_get (into_iter_items self.old.ahead) 0) }
+        ensures asks { IfSome self.new.machine (λ machine. IsSome (request_in (rest_of machine))) }
+        ensures ahead { into_iter_items self.new.ahead ≡ drop 1 (into_iter_items self.old.ahead) }
+        ensures unready { readiness_in self.new.machine ≡ Readiness.Unready }
+    {
+        let ended = self.replies.len() + 1;
+        let line = ReplyLine {
+            actor: self.setting.number,
+            command: ended as u16,
+            reply: machine.into_reply(),
+        };
+        if self.replies.push(line).is_err() {
+            unreachable!()
+        }
+        self.machine = begin_next(self.alloc, &self.setting, ended, &mut self.ahead);
+    }
+}
