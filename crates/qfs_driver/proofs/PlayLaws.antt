@@ -24,6 +24,7 @@ use Rattle.qfs_model_actor.specs.Actor.{Actor, node_of, request_of}
 use Rattle.qfs_model_actor.specs.Work.{node_of_request}
 use Rattle.qfs_model_world.specs.Events.{Event, events}
 use Rattle.qfs_driver.proofs.DrawnOrders.{is_drawn-snoc, generator_behind-snoc}
+use Rattle.qfs_driver.proofs.Places.{some_is}
 use Rattle.qfs_driver.specs.Draws.{generator_behind}
 use Rattle.qfs_driver.specs.Fails.{FailsLast}
 use Rattle.qfs_driver.specs.Playing.{Continues, HasRisen, IsDrawnSo, FailsAt, StopsAt, StopsAtServer, StopsStep, StopsDrawnStep, TakesDrawnStep}
@@ -97,9 +98,6 @@ record WentOnAt (before : List Stored) (server : ℕ) (new : Stored) : Type 0 wh
   pub old : Stored
   pub there : numbered before server ≡ Some old
   pub goes_on : GoesOn old new
-
-some_is : {X : Type 0} {a b : X} → Some a ≡ Some b → a ≡ b
-some_is is = cc
 
 went_on_in : (before behind : List Stored) (k : ℕ) (new : Stored) → AllZip GoesOn before behind → slice_get behind k ≡ Some new → WentOnAt before (suc k) new
 unfolding numbered
