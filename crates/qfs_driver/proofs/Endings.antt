@@ -1,5 +1,5 @@
 -- How a run ends, by why its steps stop.
-use Rattle.std.proofs.Common.{ℕ, ◌≤◌, length, Option}
+use Rattle.std.proofs.Common.{ℕ, ◌≤◌, length, Option, inr}
 use Rattle.qfs_base.specs.declared.script.Script.{Script}
 use Rattle.qfs_device.specs.Held.{Held}
 use Rattle.qfs_driver.specs.Reading.{ReadsWhole}
@@ -13,7 +13,8 @@ module _ {D : Type 0} (told : D → Option Held) (faults : D → ℕ) (number : 
     (enough : script.servers ≤ length before.devices) (places : StayInPlace script.servers before.devices after.devices) where
   pub ends_over : (status : Status) → StopsOver told faults number script before.devices after.devices status
       → EndsSo told faults number before after status
-  ends_over Ended.NoMemory stops = record { servers = script.servers; most = most; places = places }
+  ends_over Ended.NoMemory stops =
+      inr (record { script = script; read = read; most = most; enough = enough; stops = stops; places = places })
   ends_over (Ended.DeviceFault server) stops =
       record { script = script; read = read; enough = enough; fails = stops; places = places }
   ends_over Ended.Ok stops = absurd stops

@@ -1,5 +1,5 @@
 -- A run's text, and why a run stops early, from what its world was made of and came to.
-use Rattle.std.proofs.Common.{◌≡◌, ℕ, zero, suc, ◌<◌, ◌≤◌, true, IsTrue, List, [], length, take, refl, sym, ◌∙◌, ap, subst, arith, Option, Some, IsSome}
+use Rattle.std.proofs.Common.{◌≡◌, ℕ, zero, suc, ◌<◌, ◌≤◌, true, IsTrue, List, [], length, take, refl, sym, ◌∙◌, ap, subst, arith, Option, Some, IsSome, inr}
 use Rattle.std.specs.Prelude.{slice_get}
 use Rattle.std.specs.List.{list_all}
 use Rattle.std.proofs.lemmas.List.Elements.{All-map}
@@ -14,7 +14,7 @@ use Rattle.qfs_laws_first.proofs.Fitting.{fitting-done}
 use Rattle.qfs_laws_first.proofs.Laws.{one-file-history, plain-replies, every-get, no-deletion}
 use Rattle.qfs_laws_first.specs.FirstPath.{AllDone}
 use Rattle.qfs_model_world.specs.GivenOrder.{is_done}
-use Rattle.qfs_driver.specs.Run.{IsRunOf, IsRunTo, Prints, ServersTell, HasFault, StandAfter, StopsOver, counts_of}
+use Rattle.qfs_driver.specs.Run.{IsLeftAfter, IsRunOf, IsRunTo, Prints, ServersTell, HasFault, StandAfter, StopsOver, counts_of}
 use Rattle.qfs_driver.specs.declared.status.Status.{Status}
 use Rattle.qfs_driver.specs.declared.status.Status.TheVariants as Ended
 use Rattle.qfs_device.specs.Fault.{Rose}
@@ -145,6 +145,24 @@ module _ {D L : Type 0} where
         faults_show = faults_show told faults script came behind disks started ended enough starts continues are (after_own tell_end);
       })
 
+  -- the order of any run: what it leaves on the devices
+  left_after : (told : D → Option Held) (faults : D → ℕ) (script : Script) (came behind : List D) (disks : MetaDisks L)
+      → (started ended : Running D L)
+      → script.servers ≤ length came
+      → Starts told faults script came disks started → Continues started ended → AreDevicesOf told faults ended behind → IsAfter ended
+      → ServersTell told script.servers came → IsLeftAfter told faults script came behind
+  left_after told faults script came behind disks started ended enough starts continues are after_own = λ tell.
+      let script_is : ended.script ≡ script = continues.script_is ∙ starts.script_is in
+      let tell_start : AllTell started.stores = tell_first told faults script came disks started starts tell in
+      let follows = after_own (all_tell_behind started.stores ended.stores continues.stores_go_on tell_start) in
+      subst (λ s. IsLeftAfter told faults s came behind) script_is
+      (record {
+        order = ended.order;
+        fitting = follows.fits;
+        devices = devices_stand told faults script came behind disks started ended enough starts continues are follows;
+        faults_show = faults_show told faults script came behind disks started ended enough starts continues are follows;
+      })
+
   -- why the steps of a run stopped, as its devices show it
   pub run_stops : (told : D → Option Held) (faults : D → ℕ) (number : ℕ) (script : Script) (before behind : List D) (disks : MetaDisks L)
       → (started ended : Running D L) (status : Status)
@@ -152,7 +170,8 @@ module _ {D L : Type 0} where
       → Starts told faults script before disks started → Continues started ended → AreDevicesOf told faults ended behind → IsAfter ended
       → StopsAt number started ended status → StopsOver told faults number script before behind status
   unfolding numbered
-  run_stops told faults number script before behind disks started ended Ended.NoMemory enough starts continues are after_own stops = tt
+  run_stops told faults number script before behind disks started ended Ended.NoMemory enough starts continues are after_own stops =
+      inr (left_after told faults script before behind disks started ended enough starts continues are after_own)
   run_stops told faults number script before behind disks started ended (Ended.DeviceFault zero) enough starts continues are after_own stops =
       absurd (some_isnt stops.risen.before_is)
   run_stops told faults number script before behind disks started ended (Ended.DeviceFault (suc k)) enough starts continues are after_own stops =

@@ -1,5 +1,5 @@
 -- What a run of a script comes to: its order, its text, and where its devices stand.
-use Rattle.std.specs.Prelude.{ℕ, ◌≡◌, ◌≤◌, ⊤, List, length, map, take, drop, All, Option, Some, is_some, IsSome, IsTrue}
+use Rattle.std.specs.Prelude.{ℕ, ◌≡◌, ◌≤◌, ◌⊎◌, List, length, map, take, drop, All, Option, Some, is_some, IsSome, IsTrue}
 use Rattle.std.specs.List.{AllZip, list_all}
 use Rattle.qfs_base.specs.declared.history.Step.{Step}
 use Rattle.qfs_base.specs.declared.script.Script.{Script}
@@ -93,8 +93,22 @@ module _ {D : Type 0} where
     pub fault : HasFault faults server came behind
     pub run : ServersTell told script.servers came → IsRunTo told faults number script server came behind
 
+  -- the devices of a run are left standing for the servers after an order that fits the script, and their faults show it,
+  -- whatever the counts of the disks
+  pub record IsLeftAfter (told : D → Option Held) (faults : D → ℕ) (script : Script) (came behind : List D) : Type 0 where
+    pub order : List Step
+    pub fitting : IsTrue (fits script order)
+    pub devices : StandAfter told script order came behind
+    pub faults_show : (left right : ℕ) → FaultsShow script order (counts_of faults came left right) (counts_of faults behind left right)
+
+  -- memory was wanting in a run of a script: all devices are as they came, or as far as they told what they held, they are
+  -- left standing after some order
+  abbrev pub StopsForMemory : (D → Option Held) → (D → ℕ) → Script → List D → List D → Type 0
+  StopsForMemory told faults script came behind =
+      (behind ≡ came) ⊎ (ServersTell told script.servers came → IsLeftAfter told faults script came behind)
+
   -- why a run of a script stops early: memory is wanting, or the device of a server failed
   abbrev pub StopsOver : (D → Option Held) → (D → ℕ) → ℕ → Script → List D → List D → Status → Type 0
-  StopsOver told faults number script came behind Ended.NoMemory = ⊤
+  StopsOver told faults number script came behind Ended.NoMemory = StopsForMemory told faults script came behind
   StopsOver told faults number script came behind (Ended.DeviceFault server) = FailsAtServer told faults number script server came behind
   StopsOver told faults number script came behind status = ⊥

@@ -1,12 +1,12 @@
 -- How a run ends, by its status.
-use Rattle.std.specs.Prelude.{ℕ, ◌≡◌, ◌<◌, ◌≤◌, ⊤, List, length, take, Option}
+use Rattle.std.specs.Prelude.{ℕ, ◌≡◌, ◌<◌, ◌≤◌, ◌⊎◌, ⊤, List, length, take, Option}
 use Rattle.qfs_base.specs.Sizes.{MOST_SERVERS}
 use Rattle.qfs_base.specs.declared.script.Script.{Script}
 use Rattle.qfs_device.specs.Fault.{Rose}
 use Rattle.qfs_device.specs.Held.{Held}
 use Rattle.qfs_device.specs.Stream.{Appends}
 use Rattle.qfs_driver.specs.Reading.{ReadsWhole, IsRefused}
-use Rattle.qfs_driver.specs.Run.{Prints, StayInPlace, FailsAtServer}
+use Rattle.qfs_driver.specs.Run.{Prints, StayInPlace, FailsAtServer, StopsForMemory}
 use Rattle.qfs_driver.specs.declared.one_thread.Plan.{Plan}
 use Rattle.qfs_driver.specs.declared.one_thread.Plan.TheVariants as By
 use Rattle.qfs_driver.specs.declared.status.Status.{Status}
@@ -77,11 +77,18 @@ module _ {D : Type 0} where
     pub fails : FailsAtServer told faults number script server before.devices after.devices
     pub places : StayInPlace script.servers before.devices after.devices
 
-  -- memory was wanting: the devices above some number of servers, one that a script may have, are as they came
-  pub record LacksMemory (came behind : List D) : Type 0 where
-    pub servers : ℕ
-    pub most : servers ≤ MOST_SERVERS
-    pub places : StayInPlace servers came behind
+  -- memory was wanting in the run of a script that was read whole
+  pub record StopsInRun (told : D → Option Held) (faults : D → ℕ) (before after : Outside D) : Type 0 where
+    pub script : Script
+    pub read : ReadsWhole before.left after.left script
+    pub most : script.servers ≤ MOST_SERVERS
+    pub enough : script.servers ≤ length before.devices
+    pub stops : StopsForMemory told faults script before.devices after.devices
+    pub places : StayInPlace script.servers before.devices after.devices
+
+  -- memory was wanting: all devices are as they came, or it was so in a run
+  abbrev pub LacksMemory : (D → Option Held) → (D → ℕ) → Outside D → Outside D → Type 0
+  LacksMemory told faults before after = (after.devices ≡ before.devices) ⊎ StopsInRun told faults before after
 
   -- each status has its cause; want of memory may come at any time
   abbrev pub EndsSo : (D → Option Held) → (D → ℕ) → ℕ → Outside D → Outside D → Status → Type 0
@@ -91,7 +98,7 @@ module _ {D : Type 0} where
   EndsSo told faults number before after (Ended.TooFewDevices servers devices) = LacksDevices servers devices before after
   EndsSo told faults number before after Ended.ReadFault = Rose before.source_faults after.source_faults
   EndsSo told faults number before after Ended.WriteFault = WritesPart told faults number before after
-  EndsSo told faults number before after Ended.NoMemory = LacksMemory before.devices after.devices
+  EndsSo told faults number before after Ended.NoMemory = LacksMemory told faults before after
   EndsSo told faults number before after (Ended.DeviceFault server) = StopsAtFault told faults number server before after
 
 -- nothing is written but with the statuses Ok and WriteFault

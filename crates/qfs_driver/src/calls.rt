@@ -31,9 +31,9 @@ pub fn top<S: Source, K: Sink, D: ChunkDevice, L: LogDisk, G: Gate>(
     ensures unread { result ≡ Status.Usage → script.new ≡ script.old }
     ensures ends { (number : ℕ) → seed_of (map string_bytes words.now) ≡ Some number
         → EndsSo D.told D.faults number
-            (outside_of S.left S.faults K.written K.faults script.old out.old devices.old.items)
-            (outside_of S.left S.faults K.written K.faults script.new out.new devices.new.items)
-            result }
+        (outside_of S.left S.faults K.written K.faults script.old out.old devices.old.items)
+        (outside_of S.left S.faults K.written K.faults script.new out.new devices.new.items)
+        result }
     ensures unwritten { OnUnwritten result (out.new ≡ out.old) }
     ensures untouched { OnUntouched result (devices.new ≡ devices.old) }
     ensures places { length devices.new.items ≡ length devices.old.items }

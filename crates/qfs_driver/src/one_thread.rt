@@ -30,13 +30,14 @@ pub enum Plan {
 /// - BadScript: the source was read to its end, and this line is the first that isn't of the forms
 ///   built so far; or, at line 0, it gave more than 16,777,216 bytes.
 /// - ReadFault: the count of the source's faults rose.
-/// - NoMemory: memory was wanting. It may stand in place of each of the others.
+/// - NoMemory: memory was wanting. It may stand in place of each of the others. All devices are as
+///   they came; or, as far as the servers' devices tell, they stand after an order that fits the
+///   script that was read.
 ///
 /// Nothing is written but with Ok and WriteFault. With each status every device stands in its
 /// place: it tells what it holds exactly where it told it before, and its count of faults hasn't
-/// fallen. Those above the script's servers are as they came; with NoMemory, those above a number
-/// of servers that is at most 64; with ReadFault, BadScript and TooFewDevices, all. The disks are
-/// always as they came.
+/// fallen. Those above the script's servers are as they came; with ReadFault, BadScript and
+/// TooFewDevices, all. The disks are always as they came.
 pub fn serial<S: Source, K: Sink, D: ChunkDevice, L: LogDisk>(
     alloc: Global,
     plan: Plan,

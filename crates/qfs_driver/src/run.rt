@@ -61,12 +61,7 @@ pub fn run<D: ChunkDevice, L: LogDisk>(
             *devices = given_back;
             *disks = disks_back;
             played?;
-            match text_of(
-                alloc,
-                replies.as_slice(),
-                image.history.as_slice(),
-                &order,
-            ) {
+            match text_of(alloc, replies.as_slice(), image.history.as_slice(), &order) {
                 Ok(text) => Ok(text),
                 Err(_) => Err(Status::NoMemory),
             }

@@ -5,6 +5,7 @@ use Rattle.qfs_base.specs.declared.image.MetaImage.{MetaImage}
 use Rattle.qfs_driver.proofs.DeviceLaws.{run_remains, run_stays}
 use Rattle.qfs_driver.proofs.RunLaws.{run_prints, run_stops}
 use Rattle.qfs_world.specs.Calls.{lines_of_actors}
+use Rattle.qfs_driver.specs.declared.status.Status.TheVariants as Ended
 use Rattle.qfs_driver.proofs.run.run.Goals as goal
 
 pub returns-in_err-played-in-Ok-into_parts-clause-err :
@@ -79,3 +80,15 @@ returns-clause-kept g c =
     let starts = rw c.replace-taken.ensures.value at c.in-Ok.ensures.ok in
     run_remains _ _ _ _ _ _ c.in-Ok.world c.play-played.new.world
     c.requires.enough starts c.play-played.ensures.continues c.in-Err-into_parts.ensures.err_devices
+
+pub returns-in-Ok-into_parts-clause-err : goal.returns-in-Ok-into_parts-clause-err
+returns-in-Ok-into_parts-clause-err g c =
+    let starts = rw c.replace-taken.ensures.value at c.in-Ok.ensures.ok in
+    run_stops _ _ c.args.number _ _ _ _ c.in-Ok.world c.play-played.new.world Ended.NoMemory
+    c.requires.enough starts c.play-played.ensures.continues c.in-Ok-into_parts.ensures.devices c.in-Ok-into_parts.ensures.after tt
+
+pub returns-clause-err : goal.returns-clause-err
+returns-clause-err g c =
+    let starts = rw c.replace-taken.ensures.value at c.in-Ok.ensures.ok in
+    run_stops _ _ c.args.number _ _ _ _ c.in-Ok.world c.play-played.new.world Ended.NoMemory
+    c.requires.enough starts c.play-played.ensures.continues c.in-Err-into_parts.ensures.err_devices c.in-Err-into_parts.ensures.after tt
