@@ -4,80 +4,70 @@ use Rattle.std.specs.Prelude.{slice_get}
 use Rattle.std.specs.List.{AllZip}
 use Rattle.std.proofs.lemmas.List.{length-map, length-take-le}
 use Rattle.std.proofs.lemmas.List.Elements.{length_all_zip}
-use Rattle.qfs_base.specs.Key.{key_cmp}
-use Rattle.qfs_base.specs.KeyMap.{value_at}
-use Rattle.qfs_base.specs.declared.chunk.ChunkKey.{ChunkKey}
+use Rattle.qfs_base.specs.Sizes.{LAST_U64}
 use Rattle.qfs_base.specs.declared.script.Script.{Script}
-use Rattle.qfs_device.specs.Fault.{last_count}
-use Rattle.qfs_device.specs.Held.{Held, chunk_at}
+use Rattle.qfs_device.specs.Held.{Held}
 use Rattle.qfs_device.specs.declared.log_disk.MetaDisks.{MetaDisks}
 use Rattle.qfs_driver.proofs.Places.{some_is, in_first, from_first, mapped_at, unmapped_at, below_length, length_past, behind_first}
 use Rattle.qfs_driver.specs.Playing.{Continues}
 use Rattle.qfs_driver.proofs.Remaining.{remain_from, same_remain, servers_remain}
-use Rattle.qfs_driver.specs.Run.{AllRemain, StayInPlace, counts_of}
+use Rattle.qfs_driver.specs.Run.{AllRemain, StandAfter, StayInPlace, counts_of}
 use Rattle.qfs_model_headline.specs.Faults.{FaultsShow}
-use Rattle.qfs_model_headline.specs.Nodes.{HoldsUnder, StandsFor, HandsOut, has_failed, is_put_or_start, IsServerDevice, IsDeviceOf, DevicesStand}
+use Rattle.qfs_model_headline.specs.Nodes.{has_failed, is_put_or_start, IsServerDevice, IsDeviceOf}
 use Rattle.qfs_model_server.specs.Server.{Server}
-use Rattle.qfs_model_world.specs.Events.{events_from, events}
+use Rattle.qfs_model_store.specs.Stands.{HandsOut, kept}
+use Rattle.qfs_model_world.specs.Events.{events}
 use Rattle.qfs_model_world.specs.Headline.{failed_at}
 use Rattle.qfs_model_world.specs.World.{World, numbered, after}
-use Rattle.qfs_store.specs.Stands.{Keeps, Known, StandsOn, kept}
 use Rattle.qfs_store.specs.Stored.{Stored}
-use Rattle.qfs_world.specs.Calls.{FaultsRise, Starts, AreDevicesOf, stored_over}
+use Rattle.qfs_world.specs.Calls.{AreDevicesOf, GoesOn, Starts, stored_over}
 use Rattle.qfs_world.specs.Follows.{Follows, IsServer, StandForAll}
 use Rattle.qfs_world.specs.Running.{Running}
-use Rattle.qfs_world.specs.Turns.{GoesOn}
 
 -- ---- the devices of a world
 
 -- a store that stands for the server at a place
-record StandsAt (stores : List Stored) (k : ℕ) (server : Server) : Type 0 where
+record StandsAt (stripe : ℕ) (stores : List Stored) (k : ℕ) (server : Server) : Type 0 where
   pub stored : Stored
   pub there : slice_get stores k ≡ Some stored
-  pub is : IsServer stored server
+  pub is : IsServer stripe stored server
 
-stands_at : (stores : List Stored) (servers : List Server) (k : ℕ) (server : Server) → StandForAll stores servers → slice_get servers k ≡ Some server → StandsAt stores k server
-stands_at stores [] k server all is = cc
-stands_at [] (y ∷ ys) k server all is = absurd all
-stands_at (x ∷ xs) (y ∷ ys) zero server all is =
-    record { stored = x; there = refl; is = subst (λ v. IsServer x v) (some_is is) all.0 }
-stands_at (x ∷ xs) (y ∷ ys) (suc k) server all is =
-    let further = stands_at xs ys k server all.1 is in
-    record { stored = further.stored; there = further.there; is = further.is }
+module _ (stripe : ℕ) where
+  stands_at : (stores : List Stored) (servers : List Server) (k : ℕ) (server : Server)
+      → StandForAll stripe stores servers → slice_get servers k ≡ Some server → StandsAt stripe stores k server
+  stands_at stores [] k server all is = cc
+  stands_at [] (y ∷ ys) k server all is = absurd all
+  stands_at (x ∷ xs) (y ∷ ys) zero server all is =
+      record { stored = x; there = refl; is = subst (λ v. IsServer stripe x v) (some_is is) all.0 }
+  stands_at (x ∷ xs) (y ∷ ys) (suc k) server all is =
+      let further = stands_at xs ys k server all.1 is in
+      record { stored = further.stored; there = further.there; is = further.is }
 
-holds_under : (key : ChunkKey) (under copy : Option (List ℕ)) → Keeps key under copy → HoldsUnder key under copy
-holds_under key under None keeps = keeps
-holds_under key under (Some bytes) keeps = keeps.1
+  -- where no server stands, no store does
+  no_store : (stores : List Stored) (servers : List Server) (k : ℕ)
+      → StandForAll stripe stores servers → slice_get servers k ≡ None → length stores ≤ k
+  no_store [] servers k all none = omega arith
+  no_store (x ∷ xs) [] k all none = absurd all
+  no_store (x ∷ xs) (y ∷ ys) zero all none = absurd (cc)
+  no_store (x ∷ xs) (y ∷ ys) (suc k) all none = let rest = no_store xs ys k all.1 none in omega (arith, rest)
 
-stands_for : (held : Held) (known : Known) (server : Server) → StandsOn held known server → StandsFor held server
-stands_for held known server on = record {
-  life = on.life;
-  keys = λ key. holds_under key (chunk_at held key) (value_at key_cmp server.copies key) (on.keys key);
-}
-
--- where no server stands, no store does
-no_store : (stores : List Stored) (servers : List Server) (k : ℕ) → StandForAll stores servers → slice_get servers k ≡ None → length stores ≤ k
-no_store [] servers k all none = omega arith
-no_store (x ∷ xs) [] k all none = absurd all
-no_store (x ∷ xs) (y ∷ ys) zero all none = absurd (cc)
-no_store (x ∷ xs) (y ∷ ys) (suc k) all none = let rest = no_store xs ys k all.1 none in omega (arith, rest)
-
-hands_out : (device server : ℕ) (failed : Bool) → kept device ≡ kept server → HandsOut device server failed
-hands_out device server true same = omega (arith, same)
-hands_out device server false same = same
+-- a device that handed out as much as its server did so whether or not it may have read more
+hands_out : (failed : Bool) (device server : ℕ) → kept device ≡ kept server → HandsOut failed device server
+hands_out true device server same = omega (arith, same)
+hands_out false device server same = same
 
 module _ {D L : Type 0} where
   -- a device of a world's server
   world_devices : (told : D → Option Held) (faults : D → ℕ) (world : Running D L) (devices : List D)
-      → Follows world.script world.order world.meta world.stores world.actors → AreDevicesOf told faults world devices
+      → Follows world.script world.counts world.order world.meta world.stores world.actors → AreDevicesOf told faults world devices
       → (number : ℕ) (device : D) (server : Server) → numbered devices number ≡ Some device
       → numbered (after world.script world.order).servers number ≡ Some server
-      → IsServerDevice (events world.script world.order) number (told device) server
+      → IsServerDevice world.script.layout.s (events world.script world.order) number (told device) server
   unfolding numbered
   world_devices told faults world devices follows are zero device server at_device at_server = cc
   world_devices told faults world devices follows are (suc k) device server at_device at_server =
       let there : slice_get follows.servers k ≡ Some server = sym (ap (λ (w : World). slice_get w.servers k) follows.world) ∙ at_server in
-      let at = stands_at world.stores follows.servers k server follows.stand there in
+      let at = stands_at world.script.layout.s world.stores follows.servers k server follows.stand there in
       let below : k < length world.stores = below_length world.stores k at.stored at.there in
       let same : told device ≡ at.stored.told = some_is
       (sym (mapped_at told (take (length world.stores) devices) k device (in_first (length world.stores) k devices device below at_device))
@@ -86,10 +76,10 @@ module _ {D L : Type 0} where
       record {
         held = at.is.held;
         tells = same ∙ at.is.told;
-        stands = stands_for at.is.held at.stored.known server at.is.stands;
+        stands = at.is.stands.stands;
         others = follows.others (suc k) at.stored server at.is.held at.there there at.is.told;
-        handed_out = hands_out at.is.held.handed_out server.handed_out
-            (has_failed is_put_or_start (suc k) (events world.script world.order)) at.is.handed_out;
+        handed_out = hands_out (has_failed is_put_or_start (suc k) (events world.script world.order))
+            at.is.held.handed_out server.handed_out at.is.handed_out;
       }
 
 module _ {D L : Type 0} (told : D → Option Held) (faults : D → ℕ) (script : Script) (came behind : List D) (disks : MetaDisks L)
@@ -101,7 +91,7 @@ module _ {D L : Type 0} (told : D → Option Held) (faults : D → ℕ) (script 
   -- as many stores as the script has servers
   pub count_first : length started.stores ≡ script.servers
   count_first =
-      ap length starts.stores_are ∙ length-map (take script.servers came) (stored_over told faults) ∙ length-take-le script.servers came enough
+      ap length starts.stores_are ∙ length-map (take script.servers came) (stored_over told faults script.layout.s) ∙ length-take-le script.servers came enough
 
   pub count_last : length ended.stores ≡ script.servers
   count_last = sym (length_all_zip GoesOn started.stores ended.stores continues.stores_go_on) ∙ count_first
@@ -121,7 +111,7 @@ module _ {D L : Type 0} (told : D → Option Held) (faults : D → ℕ) (script 
   run_remains =
       let n = script.servers in
       let first : AllRemain told faults (take n came) (take n behind) =
-      servers_remain told faults (take n came) (take n behind) ended.stores
+      servers_remain told faults script.layout.s (take n came) (take n behind) ended.stores
       (subst (λ stores. AllZip GoesOn stores ended.stores) starts.stores_are continues.stores_go_on)
       (ap (λ k. map told (take k behind)) (sym count_last) ∙ are.told_are)
       (ap (λ k. map faults (take k behind)) (sym count_last) ∙ are.faults_are) in
@@ -136,38 +126,41 @@ module _ {D L : Type 0} (told : D → Option Held) (faults : D → ℕ) (script 
       ∙ ap (λ (devices : List D). slice_get devices (k - script.servers)) run_stays.spare
       ∙ sym (behind_first script.servers k came past) ∙ was)
 
-  -- the counts of a server's device are those of its stores
-  count_came : (k : ℕ) (old : Stored) (device : D) → slice_get started.stores k ≡ Some old → slice_get came k ≡ Some device → faults device ≡ old.faults
-  count_came k old device at_start at =
-      let of = unmapped_at (stored_over told faults) (take script.servers came) k old
-      (ap (λ (stores : List Stored). slice_get stores k) (sym starts.stores_are) ∙ at_start) in
-      let same : of.of ≡ device = some_is (sym (from_first script.servers k came of.of of.there) ∙ at) in
-      ap faults (sym same) ∙ ap (λ (s : Stored). s.faults) of.is
+  -- how often a server's device had failed at the start, and how often it has at the end
+  count_came : (k old : ℕ) → k < script.servers → slice_get (map faults came) k ≡ Some old → slice_get ended.counts k ≡ Some old
+  count_came k old below was =
+      let first = unmapped_at faults came k old was in
+      ap (λ (counts : List ℕ). slice_get counts k) (continues.counts_are ∙ starts.counts_are)
+      ∙ mapped_at faults (take script.servers came) k first.of (in_first script.servers k came first.of below first.there)
+      ∙ ap Some first.is
 
-  count_left : (k : ℕ) (new : Stored) (device : D) → slice_get ended.stores k ≡ Some new → slice_get behind k ≡ Some device → faults device ≡ new.faults
-  count_left k new device at_end at =
-      let of = unmapped_at faults (take (length ended.stores) behind) k new.faults
-      (ap (λ (counts : List ℕ). slice_get counts k) are.faults_are ∙ mapped_at (λ (stored : Stored). stored.faults) ended.stores k new at_end) in
-      let same : of.of ≡ device = some_is (sym (from_first (length ended.stores) k behind of.of of.there) ∙ at) in
-      ap faults (sym same) ∙ of.is
+  count_left : (k new : ℕ) (stored : Stored) → slice_get ended.stores k ≡ Some stored → slice_get (map faults behind) k ≡ Some new → new ≡ stored.faults
+  count_left k new stored there is =
+      let last = unmapped_at faults behind k new is in
+      let below = below_length ended.stores k stored there in
+      sym last.is
+      ∙ some_is
+      (sym (mapped_at faults (take (length ended.stores) behind) k last.of (in_first (length ended.stores) k behind last.of below last.there))
+      ∙ ap (λ (counts : List ℕ). slice_get counts k) are.faults_are
+      ∙ mapped_at (λ (stored : Stored). stored.faults) ended.stores k stored there)
 
   -- ---- what they hold
 
-  device_of : (follows : Follows ended.script ended.order ended.meta ended.stores ended.actors) (number : ℕ) (before after_run : D)
+  device_of : (follows : Follows ended.script ended.counts ended.order ended.meta ended.stores ended.actors) (number : ℕ) (before after_run : D)
       → numbered came number ≡ Some before → numbered behind number ≡ Some after_run
       → (found : Option Server) → numbered (after ended.script ended.order).servers number ≡ found
-      → IsDeviceOf told (events ended.script ended.order) number before after_run found
+      → IsDeviceOf ended.script.layout.s told (events ended.script ended.order) number before after_run found
   unfolding numbered
   device_of follows number before after_run was is (Some server) at =
       world_devices told faults ended behind follows are number after_run server is at
   device_of follows zero before after_run was is None at = absurd (cc)
   device_of follows (suc k) before after_run was is None at =
       let none : slice_get follows.servers k ≡ None = sym (ap (λ (w : World). slice_get w.servers k) follows.world) ∙ at in
-      let past = no_store ended.stores follows.servers k follows.stand none in
+      let past = no_store ended.script.layout.s ended.stores follows.servers k follows.stand none in
       spare_same k before after_run (omega (arith, past, count_last)) was is
 
-  pub devices_stand : Follows ended.script ended.order ended.meta ended.stores ended.actors
-      → DevicesStand told ended.script ended.order came behind
+  pub devices_stand : Follows ended.script ended.counts ended.order ended.meta ended.stores ended.actors
+      → StandAfter told ended.script ended.order came behind
   devices_stand follows = record {
     as_many = run_stays.as_many;
     each = λ number before after_run was is.
@@ -176,52 +169,41 @@ module _ {D L : Type 0} (told : D → Option Held) (faults : D → ℕ) (script 
 
   -- ---- their faults
 
-  none_failed : (number : ℕ) → failed_at number (events started.script started.order) ≡ 0
-  unfolding events events_from failed_at
-  none_failed number = rw starts.order_is refl
-
   same_count : (k : ℕ) (old new : ℕ) → script.servers ≤ k → slice_get (map faults came) k ≡ Some old → slice_get (map faults behind) k ≡ Some new → old ≡ new
   same_count k old new past was is =
       let first = unmapped_at faults came k old was in
       let last = unmapped_at faults behind k new is in
       sym first.is ∙ ap faults (sym (spare_same k first.of last.of past first.there last.there)) ∙ last.is
 
-  fault_shows : FaultsRise started ended → (k : ℕ) (old new : ℕ)
-      → slice_get (map faults came) k ≡ Some old → slice_get (map faults behind) k ≡ Some new → new < last_count
-      → (found found' : Option Stored) → slice_get started.stores k ≡ found → slice_get ended.stores k ≡ found'
-      → old + failed_at (suc k) (events ended.script ended.order) ≤ new
-  unfolding numbered
-  fault_shows rise k old new was is below (Some first) (Some last) at_start at_end =
-      let before = unmapped_at faults came k old was in
-      let after_run = unmapped_at faults behind k new is in
-      let old_is : old ≡ first.faults = sym before.is ∙ count_came k first before.of at_start before.there in
-      let new_is : new ≡ last.faults = sym after_run.is ∙ count_left k last after_run.of at_end after_run.there in
-      let grown = rise.at_servers (suc k) first last at_start at_end (omega (arith, new_is, below)) in
-      omega (arith, grown, none_failed (suc k), old_is, new_is)
-  fault_shows rise k old new was is below None found' at_start at_end =
-      let past = length_past started.stores k at_start in
-      let same = same_count k old new (omega (arith, past, count_first)) was is in
-      omega (arith, same, rise.elsewhere (suc k) at_start, none_failed (suc k))
-  fault_shows rise k old new was is below (Some first) None at_start at_end =
-      let within = below_length started.stores k first at_start in
-      let past = length_past ended.stores k at_end in
-      absurd (omega (arith, within, past, count_first, count_last))
+  module _ (follows : Follows ended.script ended.counts ended.order ended.meta ended.stores ended.actors) where
+    fault_shows : (k old new : ℕ) → slice_get (map faults came) k ≡ Some old → slice_get (map faults behind) k ≡ Some new → new < LAST_U64
+        → (found : Option Stored) → slice_get ended.stores k ≡ found
+        → new ≡ old + failed_at (suc k) (events ended.script ended.order)
+    unfolding numbered
+    fault_shows k old new was is below (Some stored) there =
+        let within = below_length ended.stores k stored there in
+        let same : new ≡ stored.faults = count_left k new stored there is in
+        let counted = count_came k old (omega (arith, within, count_last)) was in
+        same ∙ follows.faults.at_servers (suc k) old stored counted there (omega (arith, same, below))
+    fault_shows k old new was is below None none =
+        let past = length_past ended.stores k none in
+        let same = same_count k old new (omega (arith, past, count_last)) was is in
+        omega (arith, same, follows.faults.elsewhere (suc k) none)
 
-  device_faults : FaultsRise started ended → (number : ℕ) (old new : ℕ)
-      → numbered (map faults came) number ≡ Some old → numbered (map faults behind) number ≡ Some new → new < last_count
-      → old + failed_at number (events ended.script ended.order) ≤ new
-  unfolding numbered
-  device_faults rise zero old new was is below = absurd (cc)
-  device_faults rise (suc k) old new was is below =
-      fault_shows rise k old new was is below (slice_get started.stores k) (slice_get ended.stores k) refl refl
+    device_faults : (number old new : ℕ)
+        → numbered (map faults came) number ≡ Some old → numbered (map faults behind) number ≡ Some new → new < LAST_U64
+        → new ≡ old + failed_at number (events ended.script ended.order)
+    unfolding numbered
+    device_faults zero old new was is below = absurd (cc)
+    device_faults (suc k) old new was is below = fault_shows k old new was is below (slice_get ended.stores k) refl
 
-  none_at_zero : {X : Type 0} (xs : List X) → numbered xs 0 ≡ None
-  unfolding numbered
-  none_at_zero xs = refl
+    none_at_first : numbered ended.stores 0 ≡ None
+    unfolding numbered
+    none_at_first = refl
 
-  pub faults_show : FaultsRise started ended → (left right : ℕ)
-      → FaultsShow ended.script ended.order (counts_of faults came left right) (counts_of faults behind left right)
-  faults_show rise left right = record {
-    devices = λ number old new was is below. device_faults rise number old new was is below;
-    disks = λ below_left below_right. omega (arith, rise.elsewhere 0 (none_at_zero started.stores), none_failed 0);
-  }
+    pub faults_show : (left right : ℕ)
+        → FaultsShow ended.script ended.order (counts_of faults came left right) (counts_of faults behind left right)
+    faults_show left right = record {
+      devices = device_faults;
+      disks = λ below_left below_right. omega (arith, follows.faults.elsewhere 0 none_at_first);
+    }

@@ -5,13 +5,14 @@ use Rattle.std.specs.Option.{option_and_then}
 use Rattle.std.specs.List.{AllZip, list_any, list_all}
 use Rattle.qfs_model_text.specs.Order.{same_outcome}
 use Rattle.qfs_model_world.specs.GivenOrder.{is_done}
-use Rattle.qfs_device.specs.Fault.{Rose}
+use Rattle.qfs_device.specs.Fault.{Rose, RoseOnce}
 use Rattle.qfs_driver.specs.declared.status.Status.{Status}
 use Rattle.qfs_driver.specs.declared.status.Status.TheVariants as Ended
 use Rattle.std.proofs.lemmas.List.Elements.{length_all_zip, AllZip-get_or}
 use Rattle.std.proofs.lemmas.List.Folds.{list_all-append}
 use Rattle.rand_pcg.specs.Lcg.{Lcg}
 use Rattle.rand_pcg.specs.Pcg.{pcg32}
+use Rattle.qfs_base.specs.Rules.{rules_of}
 use Rattle.qfs_base.specs.declared.history.Outcome.{Outcome}
 use Rattle.qfs_base.specs.declared.history.Outcome.TheVariants as Came
 use Rattle.qfs_base.specs.declared.history.Step.{Step}
@@ -21,19 +22,18 @@ use Rattle.qfs_base.specs.declared.request.NodeRequest.TheVariants as To
 use Rattle.qfs_machine.specs.Askable.{IsAskable, IsAskedOfServer}
 use Rattle.qfs_model_actor.specs.Actor.{Actor, node_of, request_of}
 use Rattle.qfs_model_actor.specs.Work.{node_of_request}
-use Rattle.qfs_model_world.specs.Events.{events}
+use Rattle.qfs_model_world.specs.Events.{Event, events}
 use Rattle.qfs_driver.proofs.DrawnOrders.{is_drawn-snoc, generator_behind-snoc}
+use Rattle.qfs_driver.proofs.Places.{some_is}
 use Rattle.qfs_driver.specs.Draws.{generator_behind}
 use Rattle.qfs_driver.specs.Fails.{FailsLast}
-use Rattle.qfs_driver.specs.Playing.{Continues, IsDrawnSo, FailsAt, StopsAt, StopsAtServer, StopsStep, StopsDrawnStep, TakesDrawnStep}
+use Rattle.qfs_driver.specs.Playing.{Continues, HasRisen, IsDrawnSo, FailsAt, StopsAt, StopsAtServer, StopsStep, StopsDrawnStep, TakesDrawnStep}
 use Rattle.qfs_model_world.specs.Drawn.{generator_of, drawn_of, is_by, drawn_from, is_drawn}
 use Rattle.qfs_model_world.specs.Fits.{turn}
 use Rattle.qfs_model_world.specs.World.{World, numbered, node_turn, after as after_order}
 use Rattle.qfs_store.specs.Stored.{Stored}
-use Rattle.qfs_world.specs.Calls.{FaultsRise, HasRisen, Steps}
-use Rattle.qfs_world.proofs.Faults.{goes-on-at}
+use Rattle.qfs_world.specs.Calls.{GoesOn, HasFailed, Steps}
 use Rattle.qfs_world.proofs.Simulation.{event as event_of, events-after}
-use Rattle.qfs_world.specs.Turns.{GoesOn}
 use Rattle.qfs_world.specs.Follows.{Follows, IsAfter}
 use Rattle.qfs_world.specs.Running.{Running, AllTell, turn_of}
 
@@ -65,6 +65,11 @@ all_told_before before behind go_on tell = λ k d below.
     let below_too : k < length behind = omega arith in
     subst IsTrue (AllZip-get_or GoesOn before behind k d d go_on below).tells (tell k d below_too)
 
+-- a count that rose once rose
+rose_once : (old new : ℕ) → RoseOnce old new → Rose old new
+rose_once old new (inl more) = inl (omega (arith, more))
+rose_once old new (inr last) = inr (omega (arith, last.1))
+
 rose_further : (old between new : ℕ) → old ≤ between → Rose between new → Rose old new
 rose_further old between new below (inl less) = inl (omega arith)
 rose_further old between new below (inr last) = inr last
@@ -94,9 +99,6 @@ record WentOnAt (before : List Stored) (server : ℕ) (new : Stored) : Type 0 wh
   pub there : numbered before server ≡ Some old
   pub goes_on : GoesOn old new
 
-some_is : {X : Type 0} {a b : X} → Some a ≡ Some b → a ≡ b
-some_is is = cc
-
 went_on_in : (before behind : List Stored) (k : ℕ) (new : Stored) → AllZip GoesOn before behind → slice_get behind k ≡ Some new → WentOnAt before (suc k) new
 unfolding numbered
 went_on_in before [] k new go_on is = cc
@@ -111,26 +113,6 @@ went_on_at : (before behind : List Stored) (server : ℕ) (new : Stored) → All
 unfolding numbered
 went_on_at before behind zero new go_on is = cc
 went_on_at before behind (suc k) new go_on is = went_on_in before behind k new go_on is
-
--- a server that isn't there isn't there behind such steps, and one that is there is
-none_behind : (before behind : List Stored) (server : ℕ) → AllZip GoesOn before behind → numbered before server ≡ None
-    → (found : Option Stored) → numbered behind server ≡ found → found ≡ None
-none_behind before behind server go_on none None is = refl
-none_behind before behind server go_on none (Some new) is =
-    let at = went_on_at before behind server new go_on is in let there = at.there in absurd (cc)
-
-between : (before behind : List Stored) (k : ℕ) (old : Stored) → AllZip GoesOn before behind → slice_get before k ≡ Some old
-    → (new : Stored) × (slice_get behind k ≡ Some new)
-between [] behind k old go_on is = absurd (cc)
-between (x ∷ xs) [] k old go_on is = absurd go_on
-between (x ∷ xs) (y ∷ ys) zero old go_on is = (y, refl)
-between (x ∷ xs) (y ∷ ys) (suc k) old go_on is = between xs ys k old go_on.1 is
-
-stored_between : (before behind : List Stored) (server : ℕ) (old : Stored) → AllZip GoesOn before behind → numbered before server ≡ Some old
-    → (new : Stored) × (numbered behind server ≡ Some new)
-unfolding numbered
-stored_between before behind zero old go_on is = absurd (cc)
-stored_between before behind (suc k) old go_on is = between before behind k old go_on is
 
 -- ---- whose turn it is
 
@@ -176,15 +158,17 @@ not_first xs zero x is first = let none : None ≡ Some x = is in cc
 not_first xs (suc k) x is first = absurd (omega (arith, first))
 
 module _ {D L : Type 0} where
-  risen_further : (a b c : Running D L) (server : ℕ) → Continues a b → HasRisen b c server → HasRisen a c server
-  risen_further a b c server continues risen =
-      let at = went_on_at a.stores b.stores server risen.old continues.stores_go_on risen.before_is in
+  -- a step at a server whose device failed, after others
+  risen_further : (a b c : Running D L) (server : ℕ) → Continues a b → HasFailed b c server → HasRisen a c server
+  risen_further a b c server continues failed =
+      let at = went_on_at a.stores b.stores server failed.old continues.stores_go_on failed.before_is in
       record {
         old = at.old;
-        new = risen.new;
+        new = failed.new;
         before_is = at.there;
-        behind_is = risen.behind_is;
-        rose = rose_further at.old.faults risen.old.faults risen.new.faults at.goes_on.never_falls risen.rose;
+        behind_is = failed.behind_is;
+        rose = rose_further at.old.faults failed.old.faults failed.new.faults at.goes_on.never_falls
+            (rose_once failed.old.faults failed.new.faults failed.rose);
       }
 
   -- no step was taken yet
@@ -196,37 +180,14 @@ module _ {D L : Type 0} where
   unfolding generator_behind
   words_at_start generator world none = rw none refl
 
-  rises_itself : (world : Running D L) → FaultsRise world world
-  rises_itself world = record {
-    at_servers = λ number old new was now below.
-        let same : old ≡ new = some_is (sym was ∙ now) in
-        let count : old.faults ≡ new.faults = ap (λ (s : Stored). s.faults) same in
-        omega (arith, count);
-    elsewhere = λ number none. refl;
-  }
-
-  rises_further : (a b c : Running D L) → AllZip GoesOn a.stores b.stores → AllZip GoesOn b.stores c.stores
-      → FaultsRise a b → FaultsRise b c → FaultsRise a c
-  rises_further a b c on further first second = record {
-    at_servers = λ number old new was now below.
-        let mid = stored_between a.stores b.stores number old on was in
-        let grows : mid.0.faults ≤ new.faults = (goes-on-at b.stores c.stores number mid.0 new further mid.1 now).never_falls in
-        let one = first.at_servers number old mid.0 was mid.1 (omega (arith, grows, below)) in
-        let two = second.at_servers number mid.0 new mid.1 now below in
-        omega (arith, one, two);
-    elsewhere = λ number none.
-        second.elsewhere number (none_behind a.stores b.stores number on none (numbered b.stores number) refl)
-        ∙ first.elsewhere number none;
-  }
-
   pub continues_itself : (world : Running D L) → Continues world world
   continues_itself world =
       record {
         script_is = refl;
+        counts_are = refl;
         spare_is = refl;
         disks_are = refl;
         stores_go_on = all_go_on world.stores;
-        faults_rise = λ tell. rises_itself world;
       }
 
   pub continues_same : (before behind : Running D L) → behind ≡ before → Continues before behind
@@ -235,15 +196,13 @@ module _ {D L : Type 0} where
   pub continues_further : (a b c : Running D L) → Continues a b → Continues b c → Continues a c
   continues_further a b c first second = record {
     script_is = second.script_is ∙ first.script_is;
+    counts_are = second.counts_are ∙ first.counts_are;
     spare_is = second.spare_is ∙ first.spare_is;
     disks_are = second.disks_are ∙ first.disks_are;
     stores_go_on = all_go_on_further a.stores b.stores c.stores first.stores_go_on second.stores_go_on;
-    faults_rise = λ tell.
-        rises_further a b c first.stores_go_on second.stores_go_on (first.faults_rise tell)
-        (second.faults_rise (all_tell_behind a.stores b.stores first.stores_go_on tell));
   }
 
-  turn_after : (world : Running D L) → Follows world.script world.order world.meta world.stores world.actors
+  turn_after : (world : Running D L) → Follows world.script world.counts world.order world.meta world.stores world.actors
       → turn world.script (after_order world.script world.order) ≡ turn_of world.script world.actors
   unfolding turn
   turn_after world follows = ap (λ (w : World). turn world.script w) follows.world
@@ -263,7 +222,7 @@ module _ {D L : Type 0} where
       ap (λ t. is_by actor (drawn_of t word)) turns_after ∙ drawn_by actor word turns drawn in
       let grown : is_drawn number before.script (before.order ++ step ∷ []) ≡ true =
       is_drawn-snoc number before.script before.order step ∙ and_true _ _ (is.drawn told) by in
-      rw (steps.script_is, steps.order) grown
+      rw (steps.others.script, steps.moves.order) grown
 
   -- the loop of a run: a drawn step more
   pub drawn_further : (number actor : ℕ) (before behind : Running D L) (turns : List ℕ)
@@ -272,7 +231,7 @@ module _ {D L : Type 0} where
       → Steps before actor Came.Done behind → IsDrawnSo number before → IsDrawnSo number behind
   drawn_further number actor before behind turns after turns_are drawn steps is = record {
     drawn = drawn_more number actor Came.Done before behind turns after turns_are drawn steps is;
-    done = rw steps.order (done-snoc before.order actor is.done);
+    done = rw steps.moves.order (done-snoc before.order actor is.done);
   }
 
   pub drawn_step_further : (number : ℕ) (generator : Lcg) (before behind : Running D L) (turns : List ℕ)
@@ -290,7 +249,7 @@ module _ {D L : Type 0} where
   words_further number generator before behind turns words taken =
       ap (λ g. (pcg32 g).1) words
       ∙ sym (generator_behind-snoc (generator_of number) before.order (record { actor = taken.actor; outcome = Came.Done }))
-      ∙ ap (λ order. generator_behind (generator_of number) order) (sym taken.steps.order)
+      ∙ ap (λ order. generator_behind (generator_of number) order) (sym taken.steps.moves.order)
 
   -- ---- a step that failed
 
@@ -298,31 +257,33 @@ module _ {D L : Type 0} where
   pub goes_there : (before behind : Running D L) (actor server : ℕ) (outcome : Outcome) (steps : Steps before actor outcome behind)
       → Some server ≡ option_and_then node_of (numbered before.actors actor) → steps.node ≡ server
   goes_there before behind actor server outcome steps goes =
-      let there : option_and_then node_of (numbered before.actors actor) ≡ Some steps.node = ap (option_and_then node_of) steps.of ∙ steps.to in
+      let there : option_and_then node_of (numbered before.actors actor) ≡ Some steps.node =
+      ap (option_and_then node_of) steps.moves.of ∙ steps.moves.to in
       some_is (sym there ∙ sym goes)
 
   fails_last : (actor server : ℕ) (before behind : Running D L)
-      → Follows before.script before.order before.meta before.stores before.actors
-      → FailsAt before actor server behind → HasRisen before behind server → IsTrue (list_all is_done before.order)
+      → Follows before.script before.counts before.order before.meta before.stores before.actors
+      → FailsAt before actor server behind → HasFailed before behind server → IsTrue (list_all is_done before.order)
       → FailsLast behind.script behind.order server
-  fails_last actor server before behind follows fails risen done =
-      let steps = fails.steps in
-      let turn = steps.turns.turns in
-      let world : World = record { layout = before.script.layout; meta = before.meta; servers = follows.servers; actors = before.actors } in
+  fails_last actor server before behind follows fails failed done =
+      let moves = fails.steps.moves in
+      let turn = moves.turns.turns in
+      let world : World = record { rules = rules_of before.script; meta = before.meta; servers = follows.servers; actors = before.actors } in
       let turned = node_turn world actor Came.Failed turn.request in
-      let asks = asks_server turn.request server (node_of_asked steps.actor turn.request steps.node turn.asked steps.to ∙ fails.at)
-      (not_first before.stores server risen.old risen.before_is) turn.askable in
+      let asks = asks_server turn.request server (node_of_asked moves.actor turn.request fails.steps.node turn.asked moves.to ∙ fails.at)
+      (not_first before.stores server failed.old failed.before_is) turn.askable in
+      let event : Event =
+      event_of before.script before.order world actor moves.actor turn.request follows.world moves.of turn.asked Came.Failed turned.world turned.reply refl in
       let more : events before.script (before.order ++ record { actor = actor; outcome = Came.Failed } ∷ [])
-      ≡ events before.script before.order
-      ++ event_of before.script before.order world actor steps.actor turn.request follows.world steps.of turn.asked Came.Failed turned.world turned.reply refl ∷ [] =
-      events-after before.script before.order world actor steps.actor turn.request follows.world steps.of turn.asked Came.Failed turned.world turned.reply refl in
+      ≡ events before.script before.order ++ event ∷ [] =
+      events-after before.script before.order world actor moves.actor turn.request follows.world moves.of turn.asked Came.Failed turned.world turned.reply refl in
       record {
         done = before.order;
         actor = actor;
-        order_is = steps.order;
+        order_is = moves.order;
         all_done = done;
-        event = event_of before.script before.order world actor steps.actor turn.request follows.world steps.of turn.asked Came.Failed turned.world turned.reply refl;
-        events_are = rw (steps.script_is, steps.order) more;
+        event = event;
+        events_are = rw (fails.steps.others.script, moves.order) more;
         request = asks.chunk;
         asked = asks.is;
         put_or_fetch = asks.askable;
@@ -334,12 +295,12 @@ module _ {D L : Type 0} where
       → FailsAt before actor server behind → IsDrawnSo number before → StopsAtServer number server start behind
   stops_at_server number actor server start before behind turns continues after turns_are drawn fails is =
       let steps = fails.steps in
-      let risen : HasRisen before behind server = subst (HasRisen before behind) fails.at (steps.cause refl) in
+      let failed : HasFailed before behind server = subst (HasFailed before behind) fails.at (steps.cause refl) in
       record {
-        risen = risen_further start before behind server continues risen;
+        risen = risen_further start before behind server continues failed;
         drawn = λ tell. record {
           drawn = drawn_more number actor Came.Failed before behind turns after turns_are drawn steps is tell;
-          fails = fails_last actor server before behind (after (all_told_before before.stores behind.stores steps.goes_on tell)) fails risen is.done;
+          fails = fails_last actor server before behind (after (all_told_before before.stores behind.stores steps.goes_on tell)) fails failed is.done;
         };
       }
 

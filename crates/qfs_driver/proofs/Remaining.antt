@@ -5,8 +5,7 @@ use Rattle.std.specs.List.{AllZip}
 use Rattle.qfs_device.specs.Held.{Held}
 use Rattle.qfs_driver.specs.Run.{AllRemain}
 use Rattle.qfs_store.specs.Stored.{Stored}
-use Rattle.qfs_world.specs.Calls.{stored_over}
-use Rattle.qfs_world.specs.Turns.{GoesOn}
+use Rattle.qfs_world.specs.Calls.{GoesOn, stored_over}
 
 first_is : {X : Type 0} {x y : X} {xs ys : List X} → x ∷ xs ≡ y ∷ ys → x ≡ y
 first_is same = cc
@@ -30,19 +29,20 @@ module _ {D : Type 0} (told : D → Option Held) (faults : D → ℕ) where
   same_remain came behind same = subst (AllRemain told faults came) (sym same) (all_remain came)
 
   -- devices of servers whose stores went on
-  pub servers_remain : (came behind : List D) (stores : List Stored) → AllZip GoesOn (map (stored_over told faults) came) stores
+  pub servers_remain : (stripe : ℕ) (came behind : List D) (stores : List Stored)
+      → AllZip GoesOn (map (stored_over told faults stripe) came) stores
       → map told behind ≡ map (λ (stored : Stored). stored.told) stores
       → map faults behind ≡ map (λ (stored : Stored). stored.faults) stores → AllRemain told faults came behind
-  servers_remain [] [] stores go_on tell counts = tt
-  servers_remain [] (y ∷ ys) [] go_on tell counts = absurd (none_is tell)
-  servers_remain [] (y ∷ ys) (stored ∷ stores) go_on tell counts = absurd go_on
-  servers_remain (x ∷ xs) behind [] go_on tell counts = absurd go_on
-  servers_remain (x ∷ xs) [] (stored ∷ stores) go_on tell counts = absurd (some_is tell)
-  servers_remain (x ∷ xs) (y ∷ ys) (stored ∷ stores) go_on tell counts =
+  servers_remain stripe [] [] stores go_on tell counts = tt
+  servers_remain stripe [] (y ∷ ys) [] go_on tell counts = absurd (none_is tell)
+  servers_remain stripe [] (y ∷ ys) (stored ∷ stores) go_on tell counts = absurd go_on
+  servers_remain stripe (x ∷ xs) behind [] go_on tell counts = absurd go_on
+  servers_remain stripe (x ∷ xs) [] (stored ∷ stores) go_on tell counts = absurd (some_is tell)
+  servers_remain stripe (x ∷ xs) (y ∷ ys) (stored ∷ stores) go_on tell counts =
       let count : faults y ≡ stored.faults = first_is counts in
       let risen : faults x ≤ stored.faults = go_on.0.never_falls in (
         record { tells = ap is_some (first_is tell) ∙ go_on.0.tells; never_falls = omega (arith, count, risen) },
-        servers_remain xs ys stores go_on.1 (rest_is tell) (rest_is counts),
+        servers_remain stripe xs ys stores go_on.1 (rest_is tell) (rest_is counts),
       )
 
   -- all remain where the first do and the others do

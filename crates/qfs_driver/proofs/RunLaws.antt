@@ -1,5 +1,5 @@
 -- A run's text, and why a run stops early, from what its world was made of and came to.
-use Rattle.std.proofs.Common.{◌≡◌, ℕ, zero, suc, ◌<◌, ◌≤◌, true, IsTrue, List, [], length, take, refl, sym, ◌∙◌, ap, subst, arith, Option, Some, IsSome}
+use Rattle.std.proofs.Common.{◌≡◌, ℕ, zero, suc, ◌<◌, ◌≤◌, true, IsTrue, List, [], length, take, refl, sym, ◌∙◌, ap, subst, arith, Option, Some, IsSome, inr}
 use Rattle.std.specs.Prelude.{slice_get}
 use Rattle.std.specs.List.{list_all}
 use Rattle.std.proofs.lemmas.List.Elements.{All-map}
@@ -14,7 +14,7 @@ use Rattle.qfs_laws_first.proofs.Fitting.{fitting-done}
 use Rattle.qfs_laws_first.proofs.Laws.{one-file-history, plain-replies, every-get, no-deletion}
 use Rattle.qfs_laws_first.specs.FirstPath.{AllDone}
 use Rattle.qfs_model_world.specs.GivenOrder.{is_done}
-use Rattle.qfs_driver.specs.Run.{IsRunOf, IsRunTo, Prints, ServersTell, HasFault, StopsOver, counts_of}
+use Rattle.qfs_driver.specs.Run.{IsLeftAfter, IsRunOf, IsRunTo, Prints, ServersTell, HasFault, StandAfter, StopsOver, counts_of}
 use Rattle.qfs_driver.specs.declared.status.Status.{Status}
 use Rattle.qfs_driver.specs.declared.status.Status.TheVariants as Ended
 use Rattle.qfs_device.specs.Fault.{Rose}
@@ -28,7 +28,6 @@ use Rattle.qfs_store.specs.Stored.{Stored}
 use Rattle.qfs_world.specs.Calls.{Starts, AreDevicesOf, stored_over, lines_of_actors}
 use Rattle.qfs_world.specs.Follows.{Follows, IsAfter}
 use Rattle.qfs_model_headline.specs.Faults.{FaultsShow}
-use Rattle.qfs_model_headline.specs.Nodes.{DevicesStand}
 use Rattle.qfs_driver.proofs.DeviceLaws.{count_first, devices_stand, faults_show}
 use Rattle.qfs_driver.proofs.Places.{some_isnt, from_first, mapped_at, unmapped_at, below_length}
 use Rattle.qfs_world.specs.Running.{Running, AllTell, turn_of}
@@ -42,8 +41,8 @@ ended_whole script order turns is none = rw (is, none) refl
 module _ {D L : Type 0} where
   -- the text of a world whose actors have finished, and which was drawn from a number
   world_text : (told : D → Option Held) (faults : D → ℕ) (number : ℕ) (world : Running D L) (came behind : List D) (written : List ℕ)
-      → Follows world.script world.order world.meta world.stores world.actors
-      → DevicesStand told world.script world.order came behind
+      → Follows world.script world.counts world.order world.meta world.stores world.actors
+      → StandAfter told world.script world.order came behind
       → ((left right : ℕ) → FaultsShow world.script world.order (counts_of faults came left right) (counts_of faults behind left right))
       → IsTrue (is_drawn number world.script world.order) → IsTrue (list_all is_done world.order) → HasEnded world
       → IsReadScript world.script
@@ -78,7 +77,7 @@ module _ {D L : Type 0} where
       → Starts told faults script came disks started → ServersTell told script.servers came → AllTell started.stores
   tell_first told faults script came disks started starts tell =
       subst AllTell (sym starts.stores_are)
-      (All-map (λ (stored : Stored). IsSome stored.told) (stored_over told faults) (take script.servers came) tell)
+      (All-map (λ (stored : Stored). IsSome stored.told) (stored_over told faults script.layout.s) (take script.servers came) tell)
 
   -- the text of a run: its world was made of the script over these devices, was drawn to its end, and was taken apart
   pub run_prints : (told : D → Option Held) (faults : D → ℕ) (number : ℕ) (script : Script) (came behind : List D) (disks : MetaDisks L)
@@ -95,7 +94,7 @@ module _ {D L : Type 0} where
       subst (λ s. IsRunOf told faults number s came behind written) script_is
       (world_text told faults number ended came behind written (after_own tell_end)
       (devices_stand told faults script came behind disks started ended enough starts continues are (after_own tell_end))
-      (faults_show told faults script came behind disks started ended enough starts continues are (continues.faults_rise tell_start))
+      (faults_show told faults script came behind disks started ended enough starts continues are (after_own tell_end))
       (drawn.drawn tell_end) drawn.done over (subst IsReadScript (sym script_is) read) is)
 
 module _ {D L : Type 0} where
@@ -111,7 +110,7 @@ module _ {D L : Type 0} where
       let n = script.servers in
       let count : length started.stores ≡ n = count_first told faults script before behind disks started ended enough starts continues are in
       let below : k < length started.stores = below_length started.stores k old at_start in
-      let first = unmapped_at (stored_over told faults) (take n before) k old
+      let first = unmapped_at (stored_over told faults script.layout.s) (take n before) k old
       (ap (λ (stores : List Stored). slice_get stores k) (sym starts.stores_are) ∙ at_start) in
       let last = unmapped_at faults (take (length ended.stores) behind) k new.faults
       (ap (λ (counts : List ℕ). slice_get counts k) are.faults_are ∙ mapped_at (λ (stored : Stored). stored.faults) ended.stores k new at_end) in (
@@ -143,7 +142,25 @@ module _ {D L : Type 0} where
         drawn = (drawn tell_end).drawn;
         fails = (drawn tell_end).fails;
         devices = devices_stand told faults script came behind disks started ended enough starts continues are (after_own tell_end);
-        faults_show = faults_show told faults script came behind disks started ended enough starts continues are (continues.faults_rise tell_start);
+        faults_show = faults_show told faults script came behind disks started ended enough starts continues are (after_own tell_end);
+      })
+
+  -- the order of any run: what it leaves on the devices
+  left_after : (told : D → Option Held) (faults : D → ℕ) (script : Script) (came behind : List D) (disks : MetaDisks L)
+      → (started ended : Running D L)
+      → script.servers ≤ length came
+      → Starts told faults script came disks started → Continues started ended → AreDevicesOf told faults ended behind → IsAfter ended
+      → ServersTell told script.servers came → IsLeftAfter told faults script came behind
+  left_after told faults script came behind disks started ended enough starts continues are after_own = λ tell.
+      let script_is : ended.script ≡ script = continues.script_is ∙ starts.script_is in
+      let tell_start : AllTell started.stores = tell_first told faults script came disks started starts tell in
+      let follows = after_own (all_tell_behind started.stores ended.stores continues.stores_go_on tell_start) in
+      subst (λ s. IsLeftAfter told faults s came behind) script_is
+      (record {
+        order = ended.order;
+        fitting = follows.fits;
+        devices = devices_stand told faults script came behind disks started ended enough starts continues are follows;
+        faults_show = faults_show told faults script came behind disks started ended enough starts continues are follows;
       })
 
   -- why the steps of a run stopped, as its devices show it
@@ -153,7 +170,8 @@ module _ {D L : Type 0} where
       → Starts told faults script before disks started → Continues started ended → AreDevicesOf told faults ended behind → IsAfter ended
       → StopsAt number started ended status → StopsOver told faults number script before behind status
   unfolding numbered
-  run_stops told faults number script before behind disks started ended Ended.NoMemory enough starts continues are after_own stops = tt
+  run_stops told faults number script before behind disks started ended Ended.NoMemory enough starts continues are after_own stops =
+      inr (left_after told faults script before behind disks started ended enough starts continues are after_own)
   run_stops told faults number script before behind disks started ended (Ended.DeviceFault zero) enough starts continues are after_own stops =
       absurd (some_isnt stops.risen.before_is)
   run_stops told faults number script before behind disks started ended (Ended.DeviceFault (suc k)) enough starts continues are after_own stops =

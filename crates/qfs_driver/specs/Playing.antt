@@ -6,20 +6,22 @@ use Rattle.qfs_driver.specs.Fails.{FailsLast}
 use Rattle.qfs_driver.specs.declared.status.Status.{Status}
 use Rattle.qfs_driver.specs.declared.status.Status.TheVariants as Ended
 use Rattle.qfs_model_world.specs.Drawn.{drawn_of, is_drawn}
+use Rattle.qfs_device.specs.Fault.{Rose}
 use Rattle.qfs_model_world.specs.GivenOrder.{is_done}
-use Rattle.qfs_world.specs.Calls.{FaultsRise, HasRisen, Steps}
-use Rattle.qfs_world.specs.Turns.{GoesOn}
+use Rattle.qfs_model_world.specs.World.{numbered}
+use Rattle.qfs_store.specs.Stored.{Stored}
+use Rattle.qfs_world.specs.Calls.{GoesOn, Steps}
 use Rattle.qfs_world.specs.Running.{Running, AllTell, turn_of}
 
 module _ {D L : Type 0} where
-  -- a world at work came of another by steps: what it is made of and only keeps is the same, its devices tell what they hold
-  -- as they did, have failed no less often, and where they tell at least as often as steps failed
+  -- a world at work came of another by steps: what it was made of and only keeps is the same, and its devices tell what they
+  -- hold as they did and have failed no less often
   pub record Continues (before behind : Running D L) : Type 0 where
     pub script_is : behind.script ≡ before.script
+    pub counts_are : behind.counts ≡ before.counts
     pub spare_is : behind.spare ≡ before.spare
     pub disks_are : behind.disks ≡ before.disks
     pub stores_go_on : AllZip GoesOn before.stores behind.stores
-    pub faults_rise : AllTell before.stores → FaultsRise before behind
 
   -- its steps were drawn from a number, as far as its devices tell what they hold, and all came out done
   pub record IsDrawnSo (number : ℕ) (world : Running D L) : Type 0 where
@@ -57,6 +59,14 @@ module _ {D L : Type 0} where
   pub record IsDrawnToFault (number server : ℕ) (world : Running D L) : Type 0 where
     pub drawn : IsTrue (is_drawn number world.script world.order)
     pub fails : FailsLast world.script world.order server
+
+  -- the count of faults of a server's device rose between these
+  pub record HasRisen (before behind : Running D L) (server : ℕ) : Type 0 where
+    pub old : Stored
+    pub new : Stored
+    pub before_is : numbered before.stores server ≡ Some old
+    pub behind_is : numbered behind.stores server ≡ Some new
+    pub rose : Rose old.faults new.faults
 
   -- the device of a server failed, and as far as the devices tell what they hold, in the last of the steps that were drawn
   pub record StopsAtServer (number server : ℕ) (before behind : Running D L) : Type 0 where

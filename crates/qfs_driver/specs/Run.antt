@@ -1,5 +1,5 @@
 -- What a run of a script comes to: its order, its text, and where its devices stand.
-use Rattle.std.specs.Prelude.{ℕ, ◌≡◌, ◌≤◌, ⊤, List, length, map, take, drop, All, Option, Some, is_some, IsSome, IsTrue}
+use Rattle.std.specs.Prelude.{ℕ, ◌≡◌, ◌≤◌, ◌⊎◌, List, length, map, take, drop, All, Option, Some, is_some, IsSome, IsTrue}
 use Rattle.std.specs.List.{AllZip, list_all}
 use Rattle.qfs_base.specs.declared.history.Step.{Step}
 use Rattle.qfs_base.specs.declared.script.Script.{Script}
@@ -13,14 +13,20 @@ use Rattle.qfs_driver.specs.declared.status.Status.TheVariants as Ended
 use Rattle.qfs_laws_first.specs.Replies.{PlainReplies}
 use Rattle.qfs_model_world.specs.Deletion.{NoDeletion}
 use Rattle.qfs_model_world.specs.Drawn.{is_drawn}
+use Rattle.qfs_model_world.specs.Events.{events}
 use Rattle.qfs_model_world.specs.EveryGet.{EveryGet}
 use Rattle.qfs_model_world.specs.Fits.{fits}
 use Rattle.qfs_model_world.specs.GivenOrder.{is_done}
 use Rattle.qfs_model_world.specs.Headline.{IsPrintedDrawn}
 use Rattle.qfs_model_world.specs.Reports.{OneFileHistory}
-use Rattle.qfs_model_world.specs.World.{numbered}
+use Rattle.qfs_model_world.specs.World.{numbered, after}
 
 module _ {D : Type 0} where
+  -- devices that came are left standing for the servers that an order of a script leads to
+  abbrev pub StandAfter : (D → Option Held) → Script → List Step → List D → List D → Type 0
+  StandAfter told script order came left =
+      DevicesStand script.layout.s told (events script order) (after script order).servers came left
+
   -- the devices of so many servers tell what they hold
   abbrev pub ServersTell : (D → Option Held) → ℕ → List D → Type 0
   ServersTell told servers devices = All (λ device. IsSome (told device)) (take servers devices)
@@ -37,7 +43,7 @@ module _ {D : Type 0} where
     pub order : List Step
     pub printed : IsPrintedDrawn number script order text
     pub done : IsTrue (list_all is_done order)
-    pub devices : DevicesStand told script order came behind
+    pub devices : StandAfter told script order came behind
     pub faults_show : (left right : ℕ) → FaultsShow script order (counts_of faults came left right) (counts_of faults behind left right)
     pub one_history : OneFileHistory script order
     pub plain : PlainReplies script order
@@ -78,7 +84,7 @@ module _ {D : Type 0} where
     pub fitting : IsTrue (fits script order)
     pub drawn : IsTrue (is_drawn number script order)
     pub fails : FailsLast script order server
-    pub devices : DevicesStand told script order came behind
+    pub devices : StandAfter told script order came behind
     pub faults_show : (left right : ℕ) → FaultsShow script order (counts_of faults came left right) (counts_of faults behind left right)
 
   -- the device of a server of a script failed, and as far as the devices told what they held, in a Put or Fetch that ended a run
@@ -87,8 +93,22 @@ module _ {D : Type 0} where
     pub fault : HasFault faults server came behind
     pub run : ServersTell told script.servers came → IsRunTo told faults number script server came behind
 
+  -- the devices of a run are left standing for the servers after an order that fits the script, and their faults show it,
+  -- whatever the counts of the disks
+  pub record IsLeftAfter (told : D → Option Held) (faults : D → ℕ) (script : Script) (came behind : List D) : Type 0 where
+    pub order : List Step
+    pub fitting : IsTrue (fits script order)
+    pub devices : StandAfter told script order came behind
+    pub faults_show : (left right : ℕ) → FaultsShow script order (counts_of faults came left right) (counts_of faults behind left right)
+
+  -- memory was wanting in a run of a script: all devices are as they came, or as far as they told what they held, they are
+  -- left standing after some order
+  abbrev pub StopsForMemory : (D → Option Held) → (D → ℕ) → Script → List D → List D → Type 0
+  StopsForMemory told faults script came behind =
+      (behind ≡ came) ⊎ (ServersTell told script.servers came → IsLeftAfter told faults script came behind)
+
   -- why a run of a script stops early: memory is wanting, or the device of a server failed
   abbrev pub StopsOver : (D → Option Held) → (D → ℕ) → ℕ → Script → List D → List D → Status → Type 0
-  StopsOver told faults number script came behind Ended.NoMemory = ⊤
+  StopsOver told faults number script came behind Ended.NoMemory = StopsForMemory told faults script came behind
   StopsOver told faults number script came behind (Ended.DeviceFault server) = FailsAtServer told faults number script server came behind
   StopsOver told faults number script came behind status = ⊥

@@ -1,7 +1,7 @@
 //! The call that the program makes.
 ghost use Rattle.std.specs.Prelude.{◌≡◌, ◌↔◌, ℕ, All, None, Some, length, map, string_bytes};
 ghost use Rattle.qfs_driver.specs.Run.{AllRemain};
-ghost use Rattle.qfs_driver.specs.Serial.{EndsSo, OnUntouched, OnUnwritten};
+ghost use Rattle.qfs_driver.specs.Serial.{EndsSo, OnUntouched, OnUnwritten, outside_of};
 ghost use Rattle.qfs_driver.specs.Words.{seed_of};
 ghost use Rattle.qfs_world.specs.Calls.{IsNew};
 
@@ -29,7 +29,11 @@ pub fn top<S: Source, K: Sink, D: ChunkDevice, L: LogDisk, G: Gate>(
     requires { All (IsNew D.told) devices.old.items }
     ensures usage { (result ≡ Status.Usage) ↔ (seed_of (map string_bytes words.now) ≡ None) }
     ensures unread { result ≡ Status.Usage → script.new ≡ script.old }
-    ensures ends { (number : ℕ) → seed_of (map string_bytes words.now) ≡ Some number → EndsSo D.told D.faults number devices.old.items devices.new.items (record { left = S.left script.old; source_faults = S.faults script.old; written = K.written out.old; sink_faults = K.faults out.old }) (record { left = S.left script.new; source_faults = S.faults script.new; written = K.written out.new; sink_faults = K.faults out.new }) result }
+    ensures ends { (number : ℕ) → seed_of (map string_bytes words.now) ≡ Some number
+        → EndsSo D.told D.faults number
+        (outside_of S.left S.faults K.written K.faults script.old out.old devices.old.items)
+        (outside_of S.left S.faults K.written K.faults script.new out.new devices.new.items)
+        result }
     ensures unwritten { OnUnwritten result (out.new ≡ out.old) }
     ensures untouched { OnUntouched result (devices.new ≡ devices.old) }
     ensures places { length devices.new.items ≡ length devices.old.items }

@@ -1,7 +1,7 @@
 //! A run on one thread, from the script's bytes to the text that is written.
 ghost use Rattle.std.specs.Prelude.{◌≡◌, All, length};
 ghost use Rattle.qfs_driver.specs.Run.{AllRemain};
-ghost use Rattle.qfs_driver.specs.Serial.{EndsSo, OnUntouched, OnUnwritten, number_of};
+ghost use Rattle.qfs_driver.specs.Serial.{EndsSo, OnUntouched, OnUnwritten, number_of, outside_of};
 ghost use Rattle.qfs_world.specs.Calls.{IsNew};
 
 use crate::reading::read_script;
@@ -30,13 +30,14 @@ pub enum Plan {
 /// - BadScript: the source was read to its end, and this line is the first that isn't of the forms
 ///   built so far; or, at line 0, it gave more than 16,777,216 bytes.
 /// - ReadFault: the count of the source's faults rose.
-/// - NoMemory: memory was wanting. It may stand in place of each of the others.
+/// - NoMemory: memory was wanting. It may stand in place of each of the others. All devices are as
+///   they came; or, as far as the servers' devices tell, they stand after an order that fits the
+///   script that was read.
 ///
 /// Nothing is written but with Ok and WriteFault. With each status every device stands in its
 /// place: it tells what it holds exactly where it told it before, and its count of faults hasn't
-/// fallen. Those above the script's servers are as they came; with NoMemory, those above a number
-/// of servers that is at most 64; with ReadFault, BadScript and TooFewDevices, all. The disks are
-/// always as they came.
+/// fallen. Those above the script's servers are as they came; with ReadFault, BadScript and
+/// TooFewDevices, all. The disks are always as they came.
 pub fn serial<S: Source, K: Sink, D: ChunkDevice, L: LogDisk>(
     alloc: Global,
     plan: Plan,
@@ -46,7 +47,10 @@ pub fn serial<S: Source, K: Sink, D: ChunkDevice, L: LogDisk>(
     disks: &mut MetaDisks<L>,
 ) -> Status
     requires { All (IsNew D.told) devices.old.items }
-    ensures ends { EndsSo D.told D.faults (number_of plan) devices.old.items devices.new.items (record { left = S.left script.old; source_faults = S.faults script.old; written = K.written out.old; sink_faults = K.faults out.old }) (record { left = S.left script.new; source_faults = S.faults script.new; written = K.written out.new; sink_faults = K.faults out.new }) result }
+    ensures ends { EndsSo D.told D.faults (number_of plan)
+        (outside_of S.left S.faults K.written K.faults script.old out.old devices.old.items)
+        (outside_of S.left S.faults K.written K.faults script.new out.new devices.new.items)
+        result }
     ensures unwritten { OnUnwritten result (out.new ≡ out.old) }
     ensures untouched { OnUntouched result (devices.new ≡ devices.old) }
     ensures places { length devices.new.items ≡ length devices.old.items }
@@ -69,7 +73,10 @@ fn drawn<S: Source, K: Sink, D: ChunkDevice, L: LogDisk>(
     disks: &mut MetaDisks<L>,
 ) -> Status
     requires { All (IsNew D.told) devices.old.items }
-    ensures ends { EndsSo D.told D.faults number devices.old.items devices.new.items (record { left = S.left script.old; source_faults = S.faults script.old; written = K.written out.old; sink_faults = K.faults out.old }) (record { left = S.left script.new; source_faults = S.faults script.new; written = K.written out.new; sink_faults = K.faults out.new }) result }
+    ensures ends { EndsSo D.told D.faults number
+        (outside_of S.left S.faults K.written K.faults script.old out.old devices.old.items)
+        (outside_of S.left S.faults K.written K.faults script.new out.new devices.new.items)
+        result }
     ensures unwritten { OnUnwritten result (out.new ≡ out.old) }
     ensures untouched { OnUntouched result (devices.new ≡ devices.old) }
     ensures places { length devices.new.items ≡ length devices.old.items }

@@ -3,7 +3,8 @@ ghost use Rattle.std.specs.Prelude.{◌≡◌, IfOk};
 ghost use Rattle.qfs_model_text.specs.Output.{plain_output};
 
 use qfs_base::command::ReplyLine;
-use qfs_base::history::{Entry, Step};
+use qfs_base::history::Entry;
+use qfs_base::order::Order;
 use qfs_report::{push_history, push_order, push_replies};
 use std::alloc::{AllocError, Global};
 
@@ -13,7 +14,7 @@ pub fn text_of(
     alloc: Global,
     replies: &[ReplyLine],
     history: &[Entry],
-    order: &[Step],
+    order: &Order,
 ) -> Result<Vec<u8>, AllocError>
     ensures { IfOk result (λ text. text.items ≡ plain_output replies.now history.now order.now) }
 {

@@ -42,10 +42,12 @@ fn take_drawn_step<D: ChunkDevice, L: LogDisk>(
 ) -> Result<(), Status>
     requires some { 0 < length turns.now }
     requires turns { turns.now ≡ turn_of world.old.script world.old.actors }
-    ensures done { OnOk result (TakesDrawnStep turns.now (pcg32 generator.old).0 world.old world.new) }
+    ensures done { OnOk result
+        (TakesDrawnStep turns.now (pcg32 generator.old).0 world.old world.new) }
     ensures next { generator.new ≡ (pcg32 generator.old).1 }
     ensures continues { Continues world.old world.new }
-    ensures err { IfErr result (StopsDrawnStep turns.now (pcg32 generator.old).0 world.old world.new) }
+    ensures err { IfErr result
+        (StopsDrawnStep turns.now (pcg32 generator.old).0 world.old world.new) }
 {
     let actor = draw(generator, turns);
     take_step(world, actor)

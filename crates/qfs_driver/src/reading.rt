@@ -16,7 +16,8 @@ const MOST_SCRIPT_BYTES: usize = 16_777_216;
 /// at line 0.
 pub fn read_script<S: Source>(alloc: Global, source: &mut S) -> Result<Script, Status>
     ensures ok { IfOk result (ReadsWhole (S.left source.old) (S.left source.new)) }
-    ensures err { IfErr result (ReadEnds (S.left source.old) (S.left source.new) (S.faults source.old) (S.faults source.new)) }
+    ensures err { IfErr result (ReadEnds (S.left source.old) (S.left source.new)
+        (S.faults source.old) (S.faults source.new)) }
 {
     let bytes = match read_all(alloc, source, MOST_SCRIPT_BYTES) {
         Ok(bytes) => bytes,

@@ -26,8 +26,10 @@ pub fn run<D: ChunkDevice, L: LogDisk>(
     requires read { IsReadScript script.now }
     requires enough { script.now.servers ≤ length devices.old.items }
     requires fresh { All (IsNew D.told) devices.old.items }
-    ensures text { IfOk result (λ text. Prints D.told D.faults number script.now devices.old.items devices.new.items text.items) }
-    ensures err { IfErr result (StopsOver D.told D.faults number script.now devices.old.items devices.new.items) }
+    ensures text { IfOk result (λ text. Prints D.told D.faults number script.now
+        devices.old.items devices.new.items text.items) }
+    ensures err { IfErr result (StopsOver D.told D.faults number script.now
+        devices.old.items devices.new.items) }
     ensures places { StayInPlace script.now.servers devices.old.items devices.new.items }
     ensures kept { AllRemain D.told D.faults devices.old.items devices.new.items }
     ensures disks { disks.new ≡ disks.old }
@@ -59,12 +61,7 @@ pub fn run<D: ChunkDevice, L: LogDisk>(
             *devices = given_back;
             *disks = disks_back;
             played?;
-            match text_of(
-                alloc,
-                replies.as_slice(),
-                image.history.as_slice(),
-                order.as_slice(),
-            ) {
+            match text_of(alloc, replies.as_slice(), image.history.as_slice(), &order) {
                 Ok(text) => Ok(text),
                 Err(_) => Err(Status::NoMemory),
             }

@@ -1,6 +1,6 @@
 -- What the lines of the first forms say keeps all ranges and limits of scripts.
 use Rattle.std.proofs.Common.{◌≡◌, ◌≢◌, ℕ, zero, suc, ◌+◌, ◌*◌, ◌-◌, ◌%◌, ◌<◌, ◌≤◌, Bool, true, false, not, cond, List, [], ◌∷◌, length, get_or, refl, sym, ap, subst, arith, Option, Some, None, Result, Ok, Err, inl, inr, All}
-use Rattle.std.specs.Prelude.{◌&&◌, ◌==◌, nat_le, nat_lt, codes, decimal, ◌⊎◌, flat_map, min}
+use Rattle.std.specs.Prelude.{⊤, ◌&&◌, ◌==◌, nat_le, nat_lt, codes, decimal, ◌⊎◌, flat_map, min}
 use Rattle.std.specs.Int.{div_ceil}
 use Rattle.std.specs.List.{list_all, range_with_len}
 use Rattle.std.specs.Str.Parse.{digits_value}
@@ -22,6 +22,9 @@ use Rattle.qfs_base.specs.Path.{IsName, IsNameByte, IsPath, slash}
 use Rattle.qfs_base.specs.Shape.{Shape, IsStripe, IsRowCount}
 use Rattle.qfs_base.specs.Table.{Each}
 use Rattle.qfs_base.specs.declared.command.Command.{Command}
+use Rattle.qfs_base.specs.declared.command.Command.TheVariants as Does
+use Rattle.qfs_base.specs.declared.command.FileCommand.TheVariants as File
+use Rattle.qfs_base.specs.declared.recipe.Form.TheVariants as Told
 use Rattle.qfs_base.specs.declared.script.Script.{Script}
 use Rattle.qfs_model_script.specs.InScript.{IsByte, IsCommand, IsScript, len_put, lens_put, actors_of, blocks_in, chunk_bytes_of_block, chunk_bytes_in}
 use Rattle.qfs_model_script.proofs.SmallPuts.{each_all, each_then, IsSmall, lens_small, length-lens}
@@ -103,7 +106,7 @@ line_read number form (line ∷ lines) pair is =
 
 -- ---- the head
 
-record IsHead (layout : Shape) (servers : ℕ) : Type 0 where
+pub record IsHead (layout : Shape) (servers : ℕ) : Type 0 where
   pub stripe : IsStripe layout.s
   pub rows : IsRowCount layout.r
   pub enough : 9 ≤ servers
@@ -203,10 +206,17 @@ even_or_not false digits bytes is = decoded (decode_pairs 0 digits) bytes (pairs
 
 -- ---- the commands
 
+-- a put of 1 to 32 bytes that are spelled out, or a get of a whole file
+abbrev pub IsPlain : Command → Type 0
+IsPlain (Does.File (File.Put path (Told.Hex bytes))) = (1 ≤ length bytes) × (length bytes ≤ 32)
+IsPlain (Does.File (File.Get path None)) = ⊤
+IsPlain command = ⊥
+
 -- a command of a script with any number of servers, which puts few bytes
-record IsFew (command : Command) : Type 0 where
+pub record IsFew (command : Command) : Type 0 where
   pub in_range : (servers : ℕ) → IsCommand servers command
   pub small : IsSmall 32 command
+  pub plain : IsPlain command
 
 -- 1 to 32 bytes
 record AreHex (bytes : List ℕ) : Type 0 where
@@ -235,6 +245,7 @@ put_said (Some path) (Some bytes) command is_path are_hex is =
     subst IsFew (some-is is) (record {
       in_range = λ servers. (is_path path refl, (hex.some, hex.few), hex.each);
       small = hex.few;
+      plain = (hex.some, hex.few);
     })
 put_said (Some path) None command is_path are_hex is = cc
 put_said None bytes command is_path are_hex is = cc
@@ -243,7 +254,7 @@ get_said : (path : Option (List (List ℕ))) (command : Command)
     → ((p : List (List ℕ)) → path ≡ Some p → IsPath p) → get_of path ≡ Some command → IsFew command
 unfolding len_put
 get_said (Some path) command is_path is =
-    subst IsFew (some-is is) (record { in_range = λ servers. (is_path path refl, tt); small = tt })
+    subst IsFew (some-is is) (record { in_range = λ servers. (is_path path refl, tt); small = tt; plain = tt })
 get_said None command is_path is = cc
 
 put_words_said : (words : List (List ℕ)) (command : Command) → put_words words ≡ Some command → IsFew command
@@ -278,7 +289,7 @@ unfolding command_form
 form_said line command is = command_said (words_of line) command is
 
 -- so many commands are read at most
-record AreFew (number : ℕ) (commands : List Command) : Type 0 where
+pub record AreFew (number : ℕ) (commands : List Command) : Type 0 where
   pub room : (length commands ≤ 0) ⊎ (number + length commands ≤ first_command + most_commands)
   pub each : Each IsFew commands
 
@@ -307,7 +318,7 @@ commands_said number (line ∷ lines) commands is =
 
 -- ---- the whole script
 
-few_enough : (count : ℕ) → (count ≤ 0) ⊎ (first_command + count ≤ first_command + most_commands) → count ≤ 4096
+pub few_enough : (count : ℕ) → (count ≤ 0) ⊎ (first_command + count ≤ first_command + most_commands) → count ≤ 4096
 few_enough count (inl none) = omega arith
 few_enough count (inr some) = omega arith
 
@@ -315,7 +326,7 @@ few_enough count (inr some) = omega arith
 abbrev Read : Type 0 → Type 0
 Read A = A × List (List ℕ)
 
-abbrev Head : Type 0
+abbrev pub Head : Type 0
 Head = (Shape × ℕ) × List (List ℕ)
 
 behind_servers : Read Shape → Read ℕ → Result Head ℕ
@@ -417,12 +428,30 @@ module _ (head : Head) (commands : List Command) (is : IsHead head.0.0 head.0.1)
         order = tt;
       }
 
--- what is read is a script
-pub read_script_is : (lines : List (List ℕ)) (script : Script) → read_lines lines ≡ Ok script → IsScript script
+-- what lines say: a head and commands
+pub record IsSaidScript (script : Script) : Type 0 where
+  pub head : Head
+  pub commands : List Command
+  pub head_is : IsHead head.0.0 head.0.1
+  pub are : AreFew first_command commands
+  pub script_is : script_of head.0.0 head.0.1 commands ≡ script
+
+pub read_script_says : (lines : List (List ℕ)) (script : Script) → read_lines lines ≡ Ok script → IsSaidScript script
 unfolding read_lines
-read_script_is lines script is =
+read_script_says lines script is =
     let head = passed (read_head lines) (λ head. read_commands first_command head.1 >>= (λ commands. Ok (script_of head.0.0 head.0.1 commands))) script is in
     let commands = passed (read_commands first_command head.given.1) (λ commands. Ok (script_of head.given.0.0 head.given.0.1 commands)) script head.next_is in
     let made = script_of head.given.0.0 head.given.0.1 commands.given in
-    subst IsScript (ok-is made script (Ok made) refl commands.next_is)
-    (script_said head.given commands.given (head_said lines head.given head.first_is) (commands_said first_command head.given.1 commands.given commands.first_is))
+    record {
+      head = head.given;
+      commands = commands.given;
+      head_is = head_said lines head.given head.first_is;
+      are = commands_said first_command head.given.1 commands.given commands.first_is;
+      script_is = ok-is made script (Ok made) refl commands.next_is;
+    }
+
+-- what is read is a script
+pub read_script_is : (lines : List (List ℕ)) (script : Script) → read_lines lines ≡ Ok script → IsScript script
+read_script_is lines script is =
+    let said = read_script_says lines script is in
+    subst IsScript said.script_is (script_said said.head said.commands said.head_is said.are)

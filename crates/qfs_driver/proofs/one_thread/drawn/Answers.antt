@@ -2,6 +2,7 @@
 use Rattle.std.proofs.Common.{rules}
 use Rattle.qfs_script.specs.Lines.{text_lines}
 use Rattle.qfs_driver.proofs.Endings.{ends_over}
+use Rattle.qfs_driver.specs.Serial.{outside_of}
 use Rattle.qfs_driver.proofs.ReadScripts.{read_script_is_first}
 use Rattle.qfs_driver.proofs.one_thread.drawn.Goals as goal
 
@@ -41,5 +42,7 @@ returns-in-Ok-run-clause-ends g c = record {
 pub returns-clause-ends : goal.returns-clause-ends
 returns-clause-ends g c =
     let is = read_script_is_first (text_lines c.in-Ok.ensures.ok.bytes) c.in-Ok.script c.in-Ok.ensures.ok.says in
-    ends_over g.D.ChunkDevice.told g.D.ChunkDevice.faults c.args.number c.args.devices.now.items c.run.new.devices.items _ _
+    ends_over g.D.ChunkDevice.told g.D.ChunkDevice.faults c.args.number
+    (outside_of g.S.Source.left g.S.Source.faults g.K.Sink.written g.K.Sink.faults c.args.script.now c.args.out.now c.args.devices.now.items)
+    (outside_of g.S.Source.left g.S.Source.faults g.K.Sink.written g.K.Sink.faults c.read_script.new.source c.args.out.now c.run.new.devices.items)
     c.in-Ok.script c.in-Ok.ensures.ok is.first_path.most (search rules) c.run.ensures.places c.in-Err-run.status c.in-Err-run.ensures.err

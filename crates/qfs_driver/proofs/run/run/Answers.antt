@@ -5,6 +5,7 @@ use Rattle.qfs_base.specs.declared.image.MetaImage.{MetaImage}
 use Rattle.qfs_driver.proofs.DeviceLaws.{run_remains, run_stays}
 use Rattle.qfs_driver.proofs.RunLaws.{run_prints, run_stops}
 use Rattle.qfs_world.specs.Calls.{lines_of_actors}
+use Rattle.qfs_driver.specs.declared.status.Status.TheVariants as Ended
 use Rattle.qfs_driver.proofs.run.run.Goals as goal
 
 pub returns-in_err-played-in-Ok-into_parts-clause-err :
@@ -31,8 +32,7 @@ returns-in-Ok-text_of-clause-text g c =
     c.as_slice.ensures ∙ c.in-Ok-into_parts.ensures.replies in
     let history : c.as_slice-in-Ok-into_parts.result.now ≡ c.play-played.new.world.meta.history =
     c.as_slice-in-Ok-into_parts.ensures ∙ ap (λ (m : MetaImage). m.history) c.in-Ok-into_parts.ensures.image in
-    let order : c.as_slice-in-Ok-into_parts-2.result.now ≡ c.play-played.new.world.order =
-    c.as_slice-in-Ok-into_parts-2.ensures ∙ c.in-Ok-into_parts.ensures.order in
+    let order = c.in-Ok-into_parts.ensures.order in
     run_prints _ _ _ _ _ _ _ c.in-Ok.world c.play-played.new.world _ c.requires.enough starts c.play-played.ensures.continues
     c.in-Ok-into_parts.ensures.devices
     c.in_ok-played-in-Ok-into_parts.ensures.drawn c.in_ok-played-in-Ok-into_parts.ensures.ended
@@ -80,3 +80,15 @@ returns-clause-kept g c =
     let starts = rw c.replace-taken.ensures.value at c.in-Ok.ensures.ok in
     run_remains _ _ _ _ _ _ c.in-Ok.world c.play-played.new.world
     c.requires.enough starts c.play-played.ensures.continues c.in-Err-into_parts.ensures.err_devices
+
+pub returns-in-Ok-into_parts-clause-err : goal.returns-in-Ok-into_parts-clause-err
+returns-in-Ok-into_parts-clause-err g c =
+    let starts = rw c.replace-taken.ensures.value at c.in-Ok.ensures.ok in
+    run_stops _ _ c.args.number _ _ _ _ c.in-Ok.world c.play-played.new.world Ended.NoMemory
+    c.requires.enough starts c.play-played.ensures.continues c.in-Ok-into_parts.ensures.devices c.in-Ok-into_parts.ensures.after tt
+
+pub returns-clause-err : goal.returns-clause-err
+returns-clause-err g c =
+    let starts = rw c.replace-taken.ensures.value at c.in-Ok.ensures.ok in
+    run_stops _ _ c.args.number _ _ _ _ c.in-Ok.world c.play-played.new.world Ended.NoMemory
+    c.requires.enough starts c.play-played.ensures.continues c.in-Err-into_parts.ensures.err_devices c.in-Err-into_parts.ensures.after tt
