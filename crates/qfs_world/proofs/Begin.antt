@@ -13,7 +13,7 @@ use Rattle.qfs_device.specs.Held.{Held, chunk_at, new_device}
 use Rattle.qfs_meta.specs.Metaserver.{Metaserver}
 use Rattle.qfs_model_meta.specs.Step.{opening}
 use Rattle.qfs_model_server.specs.Server.{Server, fresh_server}
-use Rattle.qfs_model_world.specs.Events.{Event, events}
+use Rattle.qfs_model_world.specs.Events.{Event, events, events_from}
 use Rattle.qfs_model_world.specs.Fits.{fits, fits_from}
 use Rattle.qfs_model_world.specs.Headline.{failed_at}
 use Rattle.qfs_model_world.specs.World.{numbered, start, after}
@@ -130,13 +130,14 @@ module _ {D : Type 0} (told : D → Option Held) (faults : D → ℕ) where
     many = omega (arith, length-take script.servers devices, enough)
 
     pub stores-many : length (stores_of nodes) ≡ script.servers
-    stores-many = ap length stores-are ∙ length-map (take script.servers devices) (stored_over told faults stripe) ∙ many
+    stores-many = ap length stores-are ∙ length-map (take script.servers devices) (stored_over told faults script.layout.s) ∙ many
 
     long : length actors ≡ length (commands_by_actor script)
     long = ap length actors_are ∙ length_starts (rules_of script) 1 (commands_by_actor script)
 
     at-start : AllTell (first_stores script devices)
         → Follows script (first_counts script devices) [] (opening script.servers) (first_stores script devices) (actors_of actors)
+    unfolding events events_from
     at-start tell =
         let new = recursion_from_All (IsNew told) (take script.servers devices) (All-take (IsNew told) script.servers devices fresh) in
         let stand =

@@ -35,6 +35,7 @@ use Rattle.qfs_model_world.specs.Fits.{chunk_may_fail, chunk_may_want, may_fail,
 use Rattle.qfs_model_world.specs.World.{World, numbered, renumbered, node_turn, meta_turned, chunk_turn, chunk_turned}
 use Rattle.qfs_store.specs.Serves.{Answers, FetchLeaves, Serves}
 use Rattle.qfs_store.specs.Stored.{Stored}
+use Rattle.qfs_store.specs.declared.copies.CopySize.{CopySize}
 use Rattle.qfs_world.specs.Follows.{CountFaults, Follows, HoldNoOthers, StandForAll}
 use Rattle.qfs_world.specs.Running.{AllTell, turn_of}
 use Rattle.qfs_world.specs.Turns.{no_server}
@@ -68,25 +69,27 @@ fetch-may server request Ended.Failed f w = f
 fetch-may server request Ended.NoMemory f w = absurd (w refl)
 
 -- what a Fetch is answered isn't want of memory
+-- a Fetch is answered Fetched or Fault where it isn't refused
+no-want-filled : (key : ChunkKey) (size : CopySize) (from count : ℕ) (answer : ChunkAnswer) (room : List ℕ) (told told' : Option Held)
+    → FetchLeaves key size from count answer room told told' → chunk_outcome answer ≡ Ended.NoMemory → ⊥
+unfolding chunk_outcome
+no-want-filled key size from count Did.Fetched room told told' leaves want = cc
+no-want-filled key size from count Did.Fault room told told' leaves want = cc
+no-want-filled key size from count answer room told told' leaves want = leaves
+
 no-want : (key : ChunkKey) (life from : ℕ) (room : List ℕ) (reply : ChunkReply) (before after : Stored) (due : Option ChunkAnswer) → IsDone due
     → Answers (Serve.Fetch key life from room) reply before after due → chunk_outcome reply.answer ≡ Ended.NoMemory → ⊥
 no-want key life from room reply before after (Some answer) done answers want =
     let same = ap (λ (r : ChunkReply). chunk_outcome r.answer) answers.0 ∙ done in cc
-no-want key life from room reply before after None done answers want = by reply.answer answers.does.1.2 want
-  where
-    by : (answer : ChunkAnswer) → FetchLeaves key answers.does.1.0 from (length room) answer reply.room before.told after.told
-        → chunk_outcome answer ≡ Ended.NoMemory → ⊥
-    unfolding chunk_outcome
-    by Did.Fetched leaves want = cc
-    by Did.Fault leaves want = cc
-    by answer leaves want = leaves
+no-want key life from room reply before after None done answers want =
+    no-want-filled key answers.does.1.0 from (length room) reply.answer reply.room before.told after.told answers.does.1.2 want
 
 chunk-may : (server : ℕ) (request : ChunkRequest) (reply : ChunkReply) (before after : Stored) → IsAskedOfServer request → Serves request reply before after
     → may_end (chunk_outcome reply.answer) (To.Chunk server request) ≡ true
 unfolding chunk_may_fail chunk_may_want
 chunk-may server (Serve.Put key life bytes) reply before after asked serves = put-may server _ _ refl refl
 chunk-may server (Serve.Fetch key life from room) reply before after asked serves =
-    fetch-may server _ _ refl (no-want key life from room reply before after _ (refusal-done before.known serves.now _) serves.answers)
+    fetch-may server _ _ refl (no-want key life from room reply before after _ (refusal-done before.known serves.now (Serve.Fetch key life from room)) serves.answers)
 chunk-may server (Serve.Erase key life) reply before after asked serves = absurd asked
 chunk-may server Serve.Stop reply before after asked serves = absurd asked
 chunk-may server Serve.Start reply before after asked serves = absurd asked

@@ -17,9 +17,10 @@ use Rattle.qfs_meta.specs.Metaserver.{Metaserver}
 use Rattle.qfs_model_actor.specs.Actor.{Actor, request_of, node_of, after_reply}
 use Rattle.qfs_model_actor.specs.Work.{node_of_request}
 use Rattle.qfs_model_world.specs.World.{numbered}
+use Rattle.qfs_store.specs.Serves.{Serves}
 use Rattle.qfs_store.specs.Stored.{Stored}
 use Rattle.qfs_world.specs.AtWork.{stores_of, place_in, TakesTurn}
-use Rattle.qfs_world.specs.Turns.{MetaServes, MetaTurns, StoreTurns, Passes, Serves, no_server}
+use Rattle.qfs_world.specs.Turns.{MetaServes, MetaTurns, StoreTurns, Passes, Takes, no_server}
 use Rattle.qfs_world.specs.declared.node.NodeState.{NodeState}
 use Rattle.qfs_world.specs.declared.node.NodeState.TheVariants as Node
 use Rattle.qfs_world.proofs.Lists.{map-set}
@@ -70,7 +71,7 @@ module _ {D : Type 0} where
     pub answer : MetaReply
     pub next : Metaserver
     pub asked : request_of actor ≡ Some (To.Meta request)
-    pub serves : MetaTakes actor.number meta request answer next
+    pub serves : MetaServes actor.number meta request answer next
     pub took : moved ≡ after_reply actor (From.Meta answer)
     pub outcome_is : outcome ≡ outcome_of (From.Meta answer)
     pub nodes_are : behind ≡ nodes_with next stores

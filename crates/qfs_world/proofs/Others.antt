@@ -268,12 +268,12 @@ module _ (key : ChunkKey) (life : ℕ) (bytes : List ℕ) (stripe : ℕ) (known 
       (ap (λ (h : Held). chunk_at h q) now ∙ left_at held key left q ∙ ap (λ b. cond b left (chunk_at held q)) at)
 
   module _ (told told' : Option Held) (was : told ≡ Some held) (now : told' ≡ Some held') where
-    came-put : (answer : ChunkAnswer) → PutLeaves stripe key copy answer known.copies copies' told told'
+    came-put : (answer : ChunkAnswer) → PutLeaves key (size_of copy) (chunk_record stripe key copy) answer known.copies copies' told told'
         → CameSo stripe known (Serve.Put key life bytes) answer held q found
     unfolding is_wiped
-    came-put Did.Stored leaves = came-stored leaves.1 (told-now _ told told' held held' leaves.2 was now)
+    came-put Did.Stored leaves = came-stored leaves.0 (told-now _ told told' held held' leaves.1 was now)
     came-put Did.Fault leaves =
-        came-torn leaves.2.0 leaves.2.1 (told-now _ told told' held held' leaves.2.2 was now) leaves.1 (same_key q key) refl
+        came-torn leaves.1.0 leaves.1.1 (told-now _ told told' held held' leaves.1.2 was now) leaves.0 (same_key q key) refl
     came-put Did.NoMemory leaves =
         idle stripe known _ _ held held' q found refl copies' absent there leaves.0
         (ap (λ (h : Held). chunk_at h q) (same-now told told' held held' leaves.1 was now))
@@ -299,7 +299,7 @@ came-done : (request : ChunkRequest) (reply : ChunkReply) (before after : Stored
     → CameSo before.stripe before.known request reply.answer held q found
 came-done (Serve.Put key life bytes) reply before after held held' q found asked does was now absent there =
     came-put key life bytes before.stripe before.known after.known.copies held held' q found absent there before.told after.told was now
-    reply.answer does.2
+    reply.answer does.3
 came-done (Serve.Fetch key life from room) reply before after held held' q found asked does was now absent there =
     came-fetch key life room before.stripe before.known after.known.copies held held' q found absent there before.told after.told was now
     does.1.0 from (length room) reply.room reply.answer does.1.2 (ap (λ (k : Known). k.copies) does.0)

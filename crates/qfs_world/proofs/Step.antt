@@ -73,7 +73,7 @@ pub turn-place : {D : Type 0} (script : Script) (counts : List ℕ) (nodes : Lis
     → IsAtWork script counts nodes actors phases order → (number : ℕ)
     → IsTrue (list_any (λ n. n == number) (turn_of script (actors_of actors)))
     → (it : Standing) × AtTurn actors number (number - 1) it
-turn-place script nodes actors phases order work number turn =
+turn-place script counts nodes actors phases order work number turn =
     let has = in-turn number script.phases (actors_of actors) turn in
     let found = standing-at actors has.at has.actor has.there in
     let own = number-at 1 actors has.at found.it work.numbered found.there in
@@ -342,7 +342,7 @@ length-with {D} nodes meta stores e = ap length e ∙ ap (λ n. suc n) (length-m
 pub stores-long : {D : Type 0} (script : Script) (counts : List ℕ) (nodes behind : List (NodeState D)) (actors next : List Standing) (phases : List ℕ) (order more : List Step)
     → IsAtWork script counts nodes actors phases order → IsAtWork script counts behind next phases more → length behind ≡ length nodes
     → length (stores_of behind) ≡ length (stores_of nodes)
-stores-long script nodes behind actors next phases order more work works same =
+stores-long script counts nodes behind actors next phases order more work works same =
     omega (arith, length-with nodes _ _ work.nodes_are, length-with behind _ _ works.nodes_are, same)
 
 -- what was written behind a slice is the slice

@@ -1,15 +1,20 @@
 -- A script of puts and gets lets a get open its file once: none of its commands takes a copy away.
-use Rattle.std.proofs.Common.{◌≡◌, ℕ, ◌+◌, cond, false, List, [], ◌∷◌, ◌++◌, refl, arith}
+use Rattle.std.proofs.Common.{◌≡◌, ℕ, ◌+◌, ◌≤◌, cond, false, List, [], ◌∷◌, ◌++◌, refl, arith}
 use Rattle.std.specs.Prelude.{count_by, flat_map}
 use Rattle.std.specs.List.{AllByRecursion}
 use Rattle.std.proofs.lemmas.List.Elements.{recursion_from_All}
 use Rattle.std.proofs.lemmas.List.Sums.{sum_by-append}
 use Rattle.qfs_actor.specs.Forms.{IsBuilt}
-use Rattle.qfs_base.specs.Rules.{all_commands, may_take_away, tries_of}
+use Rattle.qfs_base.specs.Rules.{all_commands, may_take_away, rules_of, tries_of}
 use Rattle.qfs_base.specs.declared.command.Command.{Command}
 use Rattle.qfs_base.specs.declared.command.Command.TheVariants as Does
 use Rattle.qfs_base.specs.declared.script.Script.{Script}
 use Rattle.qfs_world.specs.Running.{AreBuilt, IsRunnable, commands_by_actor}
+
+-- every script lets a get open its file at least once
+pub some-try : (script : Script) → 1 ≤ (rules_of script).tries
+unfolding rules_of tries_of
+some-try script = omega arith
 
 takes-nothing : (command : Command) → IsBuilt command → may_take_away command ≡ false
 unfolding may_take_away

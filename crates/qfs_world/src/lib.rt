@@ -8,6 +8,6 @@ mod start;
 mod turns;
 mod world;
 
-pub use node::{MetaNode, NodeState, turn_on};
+pub use node::{NodeState, turn_on};
 pub use parts::{Parts, PartsError, WorldLoadError};
 pub use world::World;

@@ -104,6 +104,7 @@ fn add_phase(
     actors: &mut Vec<Actor>,
     phase: &[Commands],
 ) -> Result<(), AllocError>
+    requires tries { 1 ≤ rules.now.tries }
     requires few { length actors.old.items + length phase.now < 2 ^ 16 }
     requires built { All AreBuilt phase.now }
     ensures { OnOk result (actors.new.items
@@ -112,7 +113,7 @@ fn add_phase(
     for commands in phase {
         let number = actors.len() as u16 + 1;
         let commands = copy_commands(alloc, commands.as_slice())?;
-        actors.push(Actor::new(alloc, rules, number, commands))?;
+        actors.push(Actor::new(alloc, *rules, number, commands))?;
     }
     Ok(())
 }
