@@ -103,7 +103,7 @@ pub same-count : (before : Stored) (request : ChunkRequest) (reply : ChunkReply)
 same-count before request reply after serves sure = stays reply.answer _ _ (counted before request reply after serves) sure
 
 rose-up : (answer : ChunkAnswer) (old new : ℕ) → Counted answer old new → old ≤ new
-rose-up Did.Fault old new counts = elim counts [ | inl more ↦ omega (arith, more) | inr last ↦ omega (arith, last.0, last.1) ]
+rose-up Did.Fault old new counts = elim counts [ inl more ↦ omega (arith, more) | inr last ↦ omega (arith, last.0, last.1) ]
 rose-up answer old new counts = omega (arith, counts)
 
 pub goes-on : (before : Stored) (request : ChunkRequest) (reply : ChunkReply) (after : Stored) → Serves request reply before after
