@@ -1,10 +1,6 @@
 -- What is asked.
-use Rattle.std.proofs.Common.{◌≡◌, true, None, refl, ap}
+use Rattle.std.proofs.Common.{◌≡◌, true, None, ap}
 use Rattle.std.specs.Prelude.{is_none}
-use Rattle.qfs_base.specs.declared.request.MetaRequest.{MetaRequest}
-use Rattle.qfs_base.specs.declared.request.MetaRequest.TheVariants as Ask
-use Rattle.qfs_machine.specs.Askable.{IsAskedOfMeta}
-use Rattle.qfs_meta.specs.Metaserver.{is_built}
 use Rattle.qfs_model_actor.specs.Actor.{Actor, request_of, has_finished}
 
 -- an actor without a request has finished

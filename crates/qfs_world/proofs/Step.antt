@@ -1,6 +1,6 @@
 -- A step of a world at work, by its parts.
 use Rattle.std.proofs.Common.{◌≡◌, ℕ, suc, zero, ◌+◌, ◌-◌, false, List, [], ◌∷◌, ◌++◌, length, Some, refl, sym, ◌∙◌, ap, subst, arith, slice_get, slice_set, inl, inr, length-set}
-use Rattle.std.specs.Prelude.{map, take, drop, ◌==◌, IsTrue, Result, Ok, Err, IfOk, OnErr}
+use Rattle.std.specs.Prelude.{take, drop, ◌==◌, IsTrue, Result, Ok, Err, IfOk, OnErr}
 use Rattle.std.specs.declared.alloc.AllocError.{AllocError}
 use Rattle.std.proofs.lemmas.Grind.{common_steps}
 use Rattle.std.proofs.lemmas.List.{length-map}
@@ -336,7 +336,7 @@ module _ {D : Type 0} where
 
 length-with : {D : Type 0} (nodes : List (NodeState D)) (meta : Metaserver) (stores : List Stored) → nodes ≡ nodes_with meta stores
     → length nodes ≡ suc (length stores)
-length-with {D} nodes meta stores e = ap length e ∙ ap (λ n. suc n) (length-map {A = Stored} {B = NodeState D} stores Node.Store)
+length-with {D} nodes first stores e = ap length e ∙ ap (λ n. suc n) (length-map {A = Stored} {B = NodeState D} stores Node.Store)
 
 -- as many nodes have as many chunk servers
 pub stores-long : {D : Type 0} (script : Script) (counts : List ℕ) (nodes behind : List (NodeState D)) (actors next : List Standing) (phases : List ℕ) (order more : List Step)

@@ -1,5 +1,5 @@
 -- A node's turn with an actor.
-use Rattle.std.specs.Prelude.{ℕ, ◌≡◌, ◌≤◌, Some, is_some}
+use Rattle.std.specs.Prelude.{ℕ, ◌≡◌, Some}
 use Rattle.qfs_base.specs.Outcome.{outcome_of, meta_outcome}
 use Rattle.qfs_base.specs.declared.history.Outcome.{Outcome}
 use Rattle.qfs_base.specs.declared.history.Outcome.TheVariants as Ended

@@ -1,5 +1,5 @@
 -- Only puts and gets are built, so a get has one try.
-use Rattle.std.proofs.Common.{◌≡◌, sym}
+use Rattle.std.proofs.Common.{sym}
 use Rattle.qfs_base.specs.Rules.{rules_of}
 use Rattle.qfs_world.proofs.Tries.{one-try}
 use Rattle.qfs_world.proofs.start.rules_of.Goals as goal
