@@ -3,8 +3,8 @@ ghost use Rattle.std.specs.Prelude.{◌≡◌, ℕ, ◌<◌, ◌≤◌, ◌⊎�
 ghost use Rattle.std.specs.Option.{ForSome};
 ghost use Rattle.qfs_base.specs.Key.{key_cmp};
 ghost use Rattle.qfs_base.specs.KeyMap.{has_key};
-ghost use Rattle.qfs_base.specs.Sizes.{SLOTS, MOST_CHUNK_BYTES};
 ghost use Rattle.qfs_base.specs.Shape.{IsStripe};
+ghost use Rattle.qfs_base.specs.Sizes.{SLOTS, MOST_CHUNK_BYTES};
 ghost use Rattle.qfs_record.specs.ChunkRecord.{IsChunk, chunk_record};
 ghost use Rattle.qfs_store.specs.Serves.{PutLeaves, IsPart, FetchLeaves, EraseLeaves, WipeLeaves, InventoryIs, StartLeaves, up_after, failure, Counted};
 
@@ -139,7 +139,8 @@ fn fill<D: ChunkDevice>(
     from: u32,
     room: &mut [u8],
 ) -> ChunkAnswer
-    requires lies { ForSome (D.told device.old) (λ held. IsPart held key size from (length room.old)) }
+    requires lies { ForSome (D.told device.old)
+        (λ held. IsPart held key size from (length room.old)) }
     ensures filled { FetchLeaves key size from (length room.old) result room.new
         (D.told device.old) (D.told device.new) }
     ensures tells { is_some (D.told device.new) ≡ is_some (D.told device.old) }
