@@ -1,5 +1,5 @@
 -- What a request that isn't refused does is the step of the server that the store stood for, and leaves the store sound.
-use Rattle.std.proofs.Common.{◌≡◌, ◌⊎◌, ℕ, true, false, List, [], length, Option, Some, None, is_some, inl, inr, refl, sym, ap, subst, ◌∙◌}
+use Rattle.std.proofs.Common.{◌≡◌, ◌⊎◌, ℕ, false, List, [], length, Option, Some, is_some, inr, refl, sym, ap, subst, ◌∙◌}
 use Rattle.qfs_base.specs.Key.{key_cmp}
 use Rattle.qfs_base.specs.KeyMap.{has_key}
 use Rattle.qfs_base.specs.Outcome.{chunk_outcome}
@@ -12,7 +12,7 @@ use Rattle.qfs_base.specs.declared.request.ChunkRequest.{ChunkRequest}
 use Rattle.qfs_base.specs.declared.request.ChunkRequest.TheVariants as Ask
 use Rattle.qfs_device.specs.Held.{Held}
 use Rattle.qfs_model_server.specs.Chunk.{Chunk}
-use Rattle.qfs_model_server.specs.Server.{Server, Answered, chunk_attempted, chunk_served, without_room, written}
+use Rattle.qfs_model_server.specs.Server.{Server, Answered, chunk_attempted, chunk_served, without_room}
 use Rattle.qfs_record.specs.ChunkRecord.{IsChunk, chunk_record}
 use Rattle.qfs_store.specs.Known.{Known, Sizes, size_of}
 use Rattle.qfs_store.specs.Serves.{IsAllowed, IsDone, PutLeaves, WipeLeaves, Does}

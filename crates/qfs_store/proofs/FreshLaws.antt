@@ -1,12 +1,11 @@
 -- The server that no copies, over a device that holds nothing, stand for.
-use Rattle.std.proofs.Common.{◌≡◌, ℕ, [], Option, Some, None, true, refl, sym, subst, inl, inr}
+use Rattle.std.proofs.Common.{◌≡◌, ℕ, [], Option, None, true, refl, sym, subst, inl}
 use Rattle.std.specs.Option.{ForSome}
 use Rattle.qfs_base.specs.Shape.{IsStripe}
 use Rattle.qfs_device.specs.Held.{Held, Contents, chunk_at, new_device}
 use Rattle.qfs_model_server.specs.Server.{Server, fresh_server}
 use Rattle.qfs_model_store.specs.Stands.{HoldsUnder}
-use Rattle.qfs_store.specs.Known.{Known}
-use Rattle.qfs_store.specs.Stored.{no_copies, stopped, StandsOn, IsGrounded, IsSound}
+use Rattle.qfs_store.specs.Stored.{no_copies, StandsOn, IsSound}
 use Rattle.qfs_store.proofs.StandsLaws.{nothing_named}
 
 -- a server that is up and has no copies, in the life of this device

@@ -1,5 +1,5 @@
 -- What becomes of a server's keys, and of the sizes that are known of its copies, where a key is set or taken out.
-use Rattle.std.proofs.Common.{◌≡◌, ℕ, Bool, true, false, cond, List, [], ◌∷◌, length, Option, Some, None, is_some, refl, sym, ap, subst, ◌∙◌, true≢false}
+use Rattle.std.proofs.Common.{◌≡◌, Bool, true, false, cond, List, [], ◌∷◌, Option, Some, None, is_some, refl, sym, ap, ◌∙◌, true≢false}
 use Rattle.std.specs.Option.{option_map}
 use Rattle.std.specs.Cmp.{tied_itself}
 use Rattle.std.specs.Ordering.{is_eq, eq_by_cmp, match_ordering}
@@ -11,9 +11,8 @@ use Rattle.qfs_base.specs.KeyLaws.{key_cmp_total, key_cmp-Equal}
 use Rattle.qfs_base.specs.KeyMap.{value_at, has_key, with_entry, without_key, unless}
 use Rattle.qfs_base.specs.declared.chunk.ChunkKey.{ChunkKey}
 use Rattle.qfs_model_server.specs.Chunk.{Chunk}
-use Rattle.qfs_model_server.specs.Server.{Server, Copies}
+use Rattle.qfs_model_server.specs.Server.{Copies}
 use Rattle.qfs_store.specs.Known.{Sizes, size_of, sizes_in}
-use Rattle.qfs_store.specs.declared.copies.CopySize.{CopySize}
 
 -- ---- one key
 

@@ -1,5 +1,5 @@
 -- The range of a Fetch that isn't refused lies in the record of its copy.
-use Rattle.std.proofs.Common.{◌≡◌, ℕ, ◌+◌, ◌≤◌, true, List, [], length, Option, Some, None, is_some, unwrap_or, inl, inr, refl, sym, ap, subst, ◌∙◌, arith}
+use Rattle.std.proofs.Common.{◌≡◌, ℕ, ◌+◌, ◌≤◌, true, List, [], length, Option, Some, None, is_some, unwrap_or, inl, inr, sym, ap, subst, ◌∙◌, arith}
 use Rattle.std.specs.Prelude.{nat_le}
 use Rattle.std.specs.Option.{ForSome, option_map}
 use Rattle.std.proofs.lemmas.Bool.Decides.{nat_tests}
@@ -9,12 +9,11 @@ use Rattle.qfs_base.specs.declared.chunk.ChunkKey.{ChunkKey}
 use Rattle.qfs_base.specs.declared.request.ChunkRequest.TheVariants as Ask
 use Rattle.qfs_device.specs.Held.{Held, chunk_at, bytes_at}
 use Rattle.qfs_model_server.specs.Chunk.{Chunk, head_bytes}
-use Rattle.qfs_model_server.specs.Server.{Server}
 use Rattle.qfs_model_store.specs.Stands.{IsRecordOf, HoldsUnder}
-use Rattle.qfs_record.specs.ChunkRecord.{IsNamed, head_of, chunk_record}
+use Rattle.qfs_record.specs.ChunkRecord.{IsNamed, head_of}
 use Rattle.qfs_store.specs.Known.{Sizes, size_of, reaches}
 use Rattle.qfs_store.specs.Serves.{IsAllowed, IsPart}
-use Rattle.qfs_store.specs.Stored.{Stored, StandsOn, IsSound}
+use Rattle.qfs_store.specs.Stored.{Stored, IsSound}
 use Rattle.qfs_store.specs.declared.copies.CopySize.{CopySize}
 use Rattle.qfs_store.proofs.KeyLaws.{size_at}
 use Rattle.qfs_store.proofs.RecordLaws.{record_long}
@@ -59,7 +58,7 @@ range_lies key life from room before size due sound there held told_is =
     let reached : reaches (from + length room) (Some size) ≡ true = ap (reaches (from + length room)) (sym there) ∙ passed.1 in
     elim (sound.grounded held told_is) [
       | inl stood ↦
-        copy_part_of before.stripe held key size from (length room) (value_at key_cmp stood.0.copies key) (stood.1.stands.keys key)
-        (sym (size_at stood.0.copies key) ∙ ap (λ (sizes : Sizes). value_at key_cmp sizes key) (sym stood.1.copies) ∙ there) reached
+          copy_part_of before.stripe held key size from (length room) (value_at key_cmp stood.0.copies key) (stood.1.stands.keys key)
+          (sym (size_at stood.0.copies key) ∙ ap (λ (sizes : Sizes). value_at key_cmp sizes key) (sym stood.1.copies) ∙ there) reached
       | inr waits ↦ not_unread before.known passed.0 waits
     ]

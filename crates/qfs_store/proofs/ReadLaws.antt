@@ -1,8 +1,8 @@
 -- The checks of noted keys, one after another, and what they read and leave.
 use Rattle.std.proofs.Common.{◌≡◌, ℕ, ◌+◌, ◌≤◌, Bool, true, false, cond, List, [], ◌∷◌, ◌++◌, length, map, Option, Some, None, is_some, unwrap_or, IfSome, ◌<◌, ◌⊎◌, inl, inr, drop, refl, sym, ap, subst, ◌∙◌, true≢false, arith, append_assoc}
-use Rattle.std.specs.Prelude.{nat_le, take, sum_by, ◌&&◌}
+use Rattle.std.specs.Prelude.{nat_le, take, ◌&&◌}
 use Rattle.std.proofs.lemmas.List.Sums.{sum_by-cons}
-use Rattle.std.specs.List.{fold, AllByRecursion, filter_map, cons_option}
+use Rattle.std.specs.List.{fold, AllByRecursion, cons_option}
 use Rattle.std.specs.List.Sorted.{IsStrictlySortedBy}
 use Rattle.std.specs.Map.{keys_of}
 use Rattle.std.specs.Option.{option_map}
@@ -11,7 +11,7 @@ use Rattle.std.specs.Ordering.{is_eq, ordering_reverse, match_ordering}
 use Rattle.std.proofs.lemmas.List.{append-nil}
 use Rattle.std.proofs.Math.Seq.{take-add}
 use Rattle.std.specs.declared.cmp.Ordering.{Ordering}
-use Rattle.std.specs.declared.cmp.Ordering.TheVariants.{Less, Equal, Greater}
+use Rattle.std.specs.declared.cmp.Ordering.TheVariants.{Less, Greater}
 use Rattle.std.proofs.lemmas.Map.Keys.{sorted_head, sorted_tail}
 use Rattle.std.proofs.lemmas.Option.{same_Some}
 use Rattle.qfs_base.specs.Key.{key_cmp}
@@ -27,10 +27,10 @@ use Rattle.qfs_device.specs.declared.errors.DeviceError.{DeviceError}
 use Rattle.qfs_device.specs.declared.errors.DeviceError.TheVariants as Error
 use Rattle.qfs_record.specs.Part.{AreBytes}
 use Rattle.qfs_record.specs.ChunkRecord.{begins_second, head_in}
-use Rattle.qfs_store.specs.Known.{Sizes, resized}
-use Rattle.qfs_store.specs.Start.{front_bytes, copy_in, copy_under, entry_of, copies_in, fronts, unread, noting, settled, checking, front_under, front_sum, HasBytes, AreFronts, IsSized, Reads, Found, Checked, KeyChecked, FindsOn}
+use Rattle.qfs_store.specs.Known.{Sizes}
+use Rattle.qfs_store.specs.Start.{front_bytes, copy_in, copy_under, entry_of, copies_in, fronts, unread, noting, settled, checking, front_under, front_sum, HasBytes, AreFronts, IsSized, Reads, Found, Checked, FindsOn}
 use Rattle.qfs_store.specs.declared.copies.CopySize.{CopySize}
-use Rattle.qfs_store.proofs.KeyLaws.{same_key, same_key-is, same_itself}
+use Rattle.qfs_store.proofs.KeyLaws.{same_key, same_itself}
 
 -- ---- what a device tells
 
@@ -215,9 +215,9 @@ noted_all entries [] below rising = sym (append-nil entries)
 noted_all entries (e ∷ es) below rising =
     elim (nat_le 21 (length e.1)) as (λ (b : Bool). fold noting (cond b (with_entry key_cmp entries e.0 unread) entries) (sizes_of es) ≡ entries ++ cond b ((e.0, unread) ∷ blanks es) (blanks es)) [
       | true ↦
-        ap (λ (t : Sizes). fold noting t (sizes_of es)) (set_last entries e.0 unread below.0)
-        ∙ noted_all (entries ++ (e.0, unread) ∷ []) es (all_below_more entries e.0 unread (keys_of es) below.1 (sorted_head key_cmp e.0 (keys_of es) rising)) (sorted_tail key_cmp e.0 (keys_of es) rising)
-        ∙ append_assoc entries ((e.0, unread) ∷ []) (blanks es)
+          ap (λ (t : Sizes). fold noting t (sizes_of es)) (set_last entries e.0 unread below.0)
+          ∙ noted_all (entries ++ (e.0, unread) ∷ []) es (all_below_more entries e.0 unread (keys_of es) below.1 (sorted_head key_cmp e.0 (keys_of es) rising)) (sorted_tail key_cmp e.0 (keys_of es) rising)
+          ∙ append_assoc entries ((e.0, unread) ∷ []) (blanks es)
       | false ↦ noted_all entries es below.1 (sorted_tail key_cmp e.0 (keys_of es) rising)
     ]
 
@@ -264,15 +264,15 @@ settle_all stripe held entries (e ∷ es) stand below rising =
     elim c as (λ (o : Option CopySize). fold (checking stripe held) (entries ++ added e.0 o (blanks es)) (sizes_of es) ≡ entries ++ added e.0 o (copies_in stripe es)) [
       | None ↦ settle_all stripe held entries es stand.1 below.1 later
       | Some size ↦
-        ap (λ (t : Sizes). fold (checking stripe held) t (sizes_of es)) (sym (append_assoc entries ((e.0, size) ∷ []) (blanks es)))
-        ∙ settle_all stripe held (entries ++ (e.0, size) ∷ []) es stand.1 (all_below_more entries e.0 size (keys_of es) below.1 above) later
-        ∙ append_assoc entries ((e.0, size) ∷ []) (copies_in stripe es)
+          ap (λ (t : Sizes). fold (checking stripe held) t (sizes_of es)) (sym (append_assoc entries ((e.0, size) ∷ []) (blanks es)))
+          ∙ settle_all stripe held (entries ++ (e.0, size) ∷ []) es stand.1 (all_below_more entries e.0 size (keys_of es) below.1 above) later
+          ∙ append_assoc entries ((e.0, size) ∷ []) (copies_in stripe es)
     ] in
     elim (nat_le 21 (length e.1)) as (λ (b : Bool). nat_le 21 (length e.1) ≡ b
-        → fold (checking stripe held)
-            (cond b (settled (entries ++ cond b ((e.0, unread) ∷ blanks es) (blanks es)) e.0 (copy_under stripe e.0 (bytes_at held e.0))) (entries ++ cond b ((e.0, unread) ∷ blanks es) (blanks es)))
-            (sizes_of es)
-        ≡ entries ++ copies_in stripe (e ∷ es)) [
+    → fold (checking stripe held)
+    (cond b (settled (entries ++ cond b ((e.0, unread) ∷ blanks es) (blanks es)) e.0 (copy_under stripe e.0 (bytes_at held e.0))) (entries ++ cond b ((e.0, unread) ∷ blanks es) (blanks es)))
+    (sizes_of es)
+    ≡ entries ++ copies_in stripe (e ∷ es)) [
       | true ↦ λ long.
           ap (λ (t : Sizes). fold (checking stripe held) t (sizes_of es))
           (ap (λ (bytes : List ℕ). settled (entries ++ (e.0, unread) ∷ blanks es) e.0 (copy_under stripe e.0 bytes)) here

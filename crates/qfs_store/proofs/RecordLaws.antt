@@ -1,10 +1,9 @@
 -- The records of copies: how long they are, what stands behind their heads, and that a torn one is none.
-use Rattle.std.proofs.Common.{◌≡◌, ℕ, ◌+◌, ◌-◌, ◌<◌, ◌≤◌, List, [], ◌++◌, length, take, drop, Option, Some, None, inl, inr, refl, sym, ap, subst, ◌∙◌, arith}
-use Rattle.std.specs.Prelude.{codes, ◌==◌}
+use Rattle.std.proofs.Common.{◌≡◌, ℕ, ◌+◌, ◌<◌, List, [], ◌++◌, length, take, drop, Option, Some, None, inl, inr, refl, sym, ap, subst, ◌∙◌, arith}
 use Rattle.std.proofs.lemmas.List.{append-nil, length-append, length-drop, take-append-drop}
 use Rattle.std.proofs.Math.Seq.{drop-append-add}
 use Rattle.qfs_base.specs.declared.chunk.ChunkKey.{ChunkKey}
-use Rattle.qfs_device.specs.Held.{Held, IsTorn, chunk_at, bytes_at}
+use Rattle.qfs_device.specs.Held.{IsTorn}
 use Rattle.qfs_model_server.specs.Chunk.{Chunk, head_bytes}
 use Rattle.qfs_model_store.specs.Stands.{IsRecordOf}
 use Rattle.qfs_record.specs.ChunkRecord.{IsNamed, IsHead, first_head, second_head, head_text, head_of, chunk_record}

@@ -5,7 +5,7 @@ use Rattle.qfs_base.specs.declared.reply.ChunkAnswer.{ChunkAnswer}
 use Rattle.qfs_base.specs.declared.reply.ChunkReply.{ChunkReply}
 use Rattle.qfs_base.specs.declared.request.ChunkRequest.{ChunkRequest}
 use Rattle.qfs_device.specs.Held.{Held}
-use Rattle.qfs_model_server.specs.Server.{Server, Answered, room_of, server_step}
+use Rattle.qfs_model_server.specs.Server.{Answered, room_of, server_step}
 use Rattle.qfs_store.specs.Known.{refusal}
 use Rattle.qfs_store.specs.Serves.{IsLife, IsAllowed, IsDone, Answers, Serves}
 use Rattle.qfs_store.specs.Stored.{Stored}

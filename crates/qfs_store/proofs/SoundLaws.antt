@@ -1,8 +1,7 @@
 -- A store stays sound: where it stood for a server it stands for the one after the step, and where it waits for its first
 -- Start or Wipe it goes on to wait.
-use Rattle.std.proofs.Common.{◌≡◌, ℕ, ◌+◌, true, false, List, [], length, Option, Some, None, is_some, inl, inr, ◌⊎◌, refl, sym, ap, subst, ◌∙◌, true≢false}
+use Rattle.std.proofs.Common.{◌≡◌, ℕ, true, Option, Some, is_some, inl, inr, sym, ap, subst, ◌∙◌, true≢false}
 use Rattle.std.proofs.lemmas.Option.{same_Some}
-use Rattle.std.specs.Option.{option_map}
 use Rattle.qfs_base.specs.declared.reply.ChunkReply.{ChunkReply}
 use Rattle.qfs_base.specs.declared.request.ChunkRequest.{ChunkRequest}
 use Rattle.qfs_device.specs.Held.{Held}
@@ -19,9 +18,9 @@ grounded_after request reply stripe told told' known known' act tells step unrea
     let before = some_of told (sym tells ∙ ap is_some now_is) in
     elim (grounded before.0 before.1) [
       | inl stood ↦
-        let led = step stood.0 before.0 before.1 stood.1 in
-        let same : led.0 ≡ held = same_Some led.0 held (sym led.1 ∙ now_is) in
-        inl ((act stood.0).server, subst (λ (h : Held). StandsOn stripe h known' (act stood.0).server) same led.2.stands)
+          let led = step stood.0 before.0 before.1 stood.1 in
+          let same : led.0 ≡ held = same_Some led.0 held (sym led.1 ∙ now_is) in
+          inl ((act stood.0).server, subst (λ (h : Held). StandsOn stripe h known' (act stood.0).server) same led.2.stands)
       | inr waits ↦ unread waits held now_is
     ]
 

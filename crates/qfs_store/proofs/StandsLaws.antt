@@ -1,6 +1,6 @@
 -- A store that stands for a server goes on to do so: what it refuses is what the server refuses, and where a key is set,
 -- torn or taken out it stands for the server after that.
-use Rattle.std.proofs.Common.{◌≡◌, ℕ, ◌+◌, ◌≤◌, Bool, true, false, not, cond, List, [], length, Option, Some, None, is_some, refl, sym, ap, subst, ◌∙◌}
+use Rattle.std.proofs.Common.{◌≡◌, ℕ, ◌+◌, Bool, true, false, not, cond, List, [], length, Option, Some, None, is_some, refl, sym, ap, subst, ◌∙◌}
 use Rattle.std.specs.Prelude.{◌==◌, ◌&&◌, nat_le}
 use Rattle.std.specs.Option.{option_map}
 use Rattle.qfs_base.specs.Key.{key_cmp}
@@ -12,14 +12,13 @@ use Rattle.qfs_base.specs.declared.reply.ChunkAnswer.{ChunkAnswer}
 use Rattle.qfs_base.specs.declared.reply.ChunkAnswer.TheVariants as Answer
 use Rattle.qfs_base.specs.declared.request.ChunkRequest.{ChunkRequest}
 use Rattle.qfs_base.specs.declared.request.ChunkRequest.TheVariants as Ask
-use Rattle.qfs_device.specs.Held.{Held, IsTorn, chunk_at, holding, lacking, leaving, handing, emptied}
+use Rattle.qfs_device.specs.Held.{Held, IsTorn, chunk_at, holding, lacking, leaving, emptied}
 use Rattle.qfs_model_server.specs.Chunk.{Chunk}
-use Rattle.qfs_model_server.specs.Server.{Server, Copies, refuse, unless_away, has_range, chunk_refusal, bytes_in, copy_bytes, next_life, written}
+use Rattle.qfs_model_server.specs.Server.{Server, refuse, unless_away, has_range, chunk_refusal, bytes_in, next_life}
 use Rattle.qfs_model_store.specs.Stands.{IsRecordOf, HoldsUnder, StandsFor}
 use Rattle.qfs_record.specs.ChunkRecord.{IsChunk, chunk_record}
 use Rattle.qfs_store.specs.Known.{Known, Sizes, size_of, sizes_in, reaches, refusal}
 use Rattle.qfs_store.specs.Stored.{StandsOn}
-use Rattle.qfs_store.specs.declared.copies.CopySize.{CopySize}
 use Rattle.qfs_store.proofs.KeyLaws.{same_key, same_key-is, absent_key, absent_again, sizes_with, sizes_without, size_at, known_there}
 use Rattle.qfs_store.proofs.RecordLaws.{torn_is_none}
 
@@ -132,7 +131,7 @@ left_count held key (Some part) = refl
 -- the copy's record stands under its key
 pub stored_stands : (stripe : ℕ) (held : Held) (known : Known) (server : Server) (key : ChunkKey) (copy : Chunk) → IsChunk stripe key copy → StandsOn stripe held known server
     → StandsOn stripe (holding key (chunk_record stripe key copy) held) (record known { copies = with_entry key_cmp known.copies key (size_of copy) })
-        (record server { copies = with_entry key_cmp server.copies key copy })
+    (record server { copies = with_entry key_cmp server.copies key copy })
 stored_stands stripe held known server key copy fits stands = record {
   up = stands.up;
   form = stands.form;

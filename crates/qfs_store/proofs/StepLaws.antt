@@ -1,16 +1,14 @@
 -- What a request does is the step of the server that the store stood for.
-use Rattle.std.proofs.Common.{◌≡◌, ℕ, ◌+◌, ◌-◌, ◌≤◌, Bool, true, false, List, [], length, take, drop, replicate, Option, Some, None, IfSome, is_some, unwrap_or, ◌∷◌, inl, inr, ◌⊎◌, refl, sym, ap, subst, ◌∙◌, arith, min}
-use Rattle.std.specs.Prelude.{nat_le, map}
+use Rattle.std.proofs.Common.{◌≡◌, ℕ, ◌+◌, ◌-◌, Bool, true, false, List, [], length, take, drop, Option, Some, None, IfSome, unwrap_or, ◌∷◌, refl, sym, ap, subst, ◌∙◌, arith}
+use Rattle.std.specs.Prelude.{map}
 use Rattle.std.specs.Option.{option_map}
 use Rattle.std.specs.Map.{keys_of}
 use Rattle.std.proofs.lemmas.Option.{same_Some}
-use Rattle.std.proofs.lemmas.Bool.Decides.{nat_tests}
 use Rattle.qfs_base.specs.Key.{key_cmp}
 use Rattle.qfs_base.specs.KeyMap.{value_at, has_key, with_entry, without_key}
 use Rattle.qfs_base.specs.Outcome.{chunk_outcome}
 use Rattle.qfs_base.specs.declared.chunk.ChunkKey.{ChunkKey}
 use Rattle.qfs_base.specs.declared.history.Outcome.{Outcome}
-use Rattle.qfs_base.specs.declared.history.Outcome.TheVariants as Ended
 use Rattle.qfs_base.specs.declared.reply.ChunkAnswer.{ChunkAnswer}
 use Rattle.qfs_base.specs.declared.reply.ChunkAnswer.TheVariants as Answer
 use Rattle.qfs_base.specs.declared.reply.ChunkReply.{ChunkReply}
@@ -18,16 +16,16 @@ use Rattle.qfs_base.specs.declared.request.ChunkRequest.{ChunkRequest}
 use Rattle.qfs_base.specs.declared.request.ChunkRequest.TheVariants as Ask
 use Rattle.qfs_device.specs.Held.{Held, bytes_at, chunk_at, holding, lacking, leaving, handing, emptied}
 use Rattle.qfs_model_server.specs.Chunk.{Chunk, head_bytes}
-use Rattle.qfs_model_server.specs.Server.{Server, Answered, Copies, server_step, chunk_decided, chunk_attempted, chunk_served, chunk_refusal, room_of, stays, copy_bytes, bytes_in, written, without_room, next_life}
-use Rattle.qfs_model_store.specs.Stands.{HandsOut, HoldsUnder, IsRecordOf, kept}
+use Rattle.qfs_model_server.specs.Server.{Server, Answered, Copies, server_step, chunk_decided, chunk_attempted, chunk_served, room_of, stays, bytes_in, written, without_room, next_life}
+use Rattle.qfs_model_store.specs.Stands.{HandsOut, HoldsUnder}
 use Rattle.qfs_record.specs.ChunkRecord.{IsChunk, chunk_record}
-use Rattle.qfs_store.specs.Known.{Known, Sizes, size_of, sizes_in, reaches, refusal}
-use Rattle.qfs_store.specs.Serves.{IsLife, PutLeaves, FetchLeaves, EraseLeaves, WipeLeaves, InventoryIs, Does, IsDone, Answers, Steps, IsStep, reads_more}
+use Rattle.qfs_store.specs.Known.{Known, Sizes, size_of, sizes_in, refusal}
+use Rattle.qfs_store.specs.Serves.{IsLife, PutLeaves, FetchLeaves, EraseLeaves, WipeLeaves, InventoryIs, Steps, reads_more}
 use Rattle.qfs_store.specs.Stored.{Stored, StandsOn}
 use Rattle.qfs_store.specs.declared.copies.CopySize.{CopySize}
 use Rattle.qfs_store.proofs.KeyLaws.{size_at}
 use Rattle.qfs_store.proofs.RecordLaws.{behind_head}
-use Rattle.qfs_store.proofs.StandsLaws.{refusal_is, stored_stands, torn_stands, erased_stands, emptied_stands, same_stands, left_count}
+use Rattle.qfs_store.proofs.StandsLaws.{refusal_is, stored_stands, torn_stands, erased_stands, emptied_stands, left_count}
 
 -- the two stand for the server after this step, over what the device tells now
 abbrev pub Led : ChunkRequest → ChunkReply → ℕ → Held → Option Held → Known → Server → Answered → Type 0

@@ -128,7 +128,7 @@ Does (Ask.Put key life bytes) reply before after =
     let copy : Chunk = record { form = before.known.form; bytes = bytes } in
     (reply.room ≡ []) × SameBut before after × IsChunk before.stripe key copy
     × PutLeaves key (size_of copy) (chunk_record before.stripe key copy) reply.answer
-        before.known.copies after.known.copies before.told after.told
+    before.known.copies after.known.copies before.told after.told
 Does (Ask.Fetch key life from room) reply before after =
     (after.known ≡ before.known)
     × ((size : CopySize) × (value_at key_cmp before.known.copies key ≡ Some size)

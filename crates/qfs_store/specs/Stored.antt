@@ -1,8 +1,7 @@
 -- A chunk server together with its device, and the server of the definitions that the two stand for.
-use Rattle.std.specs.Prelude.{ℕ, ◌≡◌, ◌⊎◌, false, true, [], Option, None}
+use Rattle.std.specs.Prelude.{ℕ, ◌≡◌, ◌⊎◌, false, true, [], Option}
 use Rattle.std.specs.Option.{ForSome}
 use Rattle.qfs_base.specs.Shape.{IsStripe}
-use Rattle.qfs_base.specs.declared.chunk.ChunkKey.{ChunkKey}
 use Rattle.qfs_device.specs.Held.{Held}
 use Rattle.qfs_model_server.specs.Server.{Server}
 use Rattle.qfs_model_store.specs.Stands.{StandsFor}

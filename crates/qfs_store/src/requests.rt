@@ -4,6 +4,7 @@ ghost use Rattle.std.specs.Option.{ForSome};
 ghost use Rattle.qfs_base.specs.Key.{key_cmp};
 ghost use Rattle.qfs_base.specs.KeyMap.{has_key};
 ghost use Rattle.qfs_base.specs.Shape.{IsStripe};
+ghost use Rattle.qfs_base.specs.Sizes.{SLOTS, MOST_CHUNK_BYTES};
 ghost use Rattle.qfs_record.specs.ChunkRecord.{IsChunk, chunk_record};
 ghost use Rattle.qfs_store.specs.Serves.{PutLeaves, IsPart, FetchLeaves, EraseLeaves, WipeLeaves, InventoryIs, StartLeaves, up_after, failure, Counted};
 
@@ -27,13 +28,15 @@ pub fn put<D: ChunkDevice>(
     form: u8,
     stripe: u32,
 ) -> ChunkAnswer
-    requires slot { key.slot < 9 }
-    requires size { length bytes.now ≤ 67108864 }
+    requires slot { key.slot < SLOTS }
+    requires size { length bytes.now ≤ MOST_CHUNK_BYTES }
     requires form { (form ≡ 1) ⊎ (form ≡ 2) }
     requires stripe { IsStripe stripe }
     requires absent { has_key key_cmp copies.old key ≡ false }
     ensures fits { IsChunk stripe key (record { form = form; bytes = bytes.now }) }
-    ensures put { PutLeaves key (record { form = form; len = length bytes.now }) (chunk_record stripe key (record { form = form; bytes = bytes.now })) result copies.old copies.new (D.told device.old) (D.told device.new) }
+    ensures put { PutLeaves key (record { form = form; len = length bytes.now })
+        (chunk_record stripe key (record { form = form; bytes = bytes.now }))
+        result copies.old copies.new (D.told device.old) (D.told device.new) }
     ensures tells { is_some (D.told device.new) ≡ is_some (D.told device.old) }
     ensures counted { Counted result (D.faults device.old) (D.faults device.new) }
 {
@@ -55,12 +58,13 @@ fn spelled(
     form: u8,
     stripe: u32,
 ) -> Result<Vec<u8>, AllocError>
-    requires slot { key.slot < 9 }
-    requires size { length bytes.now ≤ 67108864 }
+    requires slot { key.slot < SLOTS }
+    requires size { length bytes.now ≤ MOST_CHUNK_BYTES }
     requires form { (form ≡ 1) ⊎ (form ≡ 2) }
     requires stripe { IsStripe stripe }
     ensures fits { IsChunk stripe key (record { form = form; bytes = bytes.now }) }
-    ensures made { IfOk result (λ made. made.items ≡ chunk_record stripe key (record { form = form; bytes = bytes.now })) }
+    ensures made { IfOk result (λ made. made.items
+        ≡ chunk_record stripe key (record { form = form; bytes = bytes.now })) }
 {
     let mut record = Vec::new(alloc);
     let named = if form == 1 { 0 } else { stripe };
@@ -77,7 +81,8 @@ fn store<D: ChunkDevice>(
     spelled: &[u8],
 ) -> ChunkAnswer
     requires absent { has_key key_cmp copies.old key ≡ false }
-    ensures put { PutLeaves key size spelled.now result copies.old copies.new (D.told device.old) (D.told device.new) }
+    ensures put { PutLeaves key size spelled.now result copies.old copies.new
+        (D.told device.old) (D.told device.new) }
     ensures tells { is_some (D.told device.new) ≡ is_some (D.told device.old) }
     ensures counted { Counted result (D.faults device.old) (D.faults device.new) }
 {
@@ -113,7 +118,8 @@ pub fn fetch<D: ChunkDevice>(
     room: Bytes,
 ) -> ChunkReply
     requires lies { ForSome (D.told device.old) (λ held. IsPart held key size from (length room)) }
-    ensures filled { FetchLeaves key size from (length room) result.answer result.room (D.told device.old) (D.told device.new) }
+    ensures filled { FetchLeaves key size from (length room) result.answer result.room
+        (D.told device.old) (D.told device.new) }
     ensures tells { is_some (D.told device.new) ≡ is_some (D.told device.old) }
     ensures counted { Counted result.answer (D.faults device.old) (D.faults device.new) }
 {
@@ -133,8 +139,10 @@ fn fill<D: ChunkDevice>(
     from: u32,
     room: &mut [u8],
 ) -> ChunkAnswer
-    requires lies { ForSome (D.told device.old) (λ held. IsPart held key size from (length room.old)) }
-    ensures filled { FetchLeaves key size from (length room.old) result room.new (D.told device.old) (D.told device.new) }
+    requires lies { ForSome (D.told device.old)
+        (λ held. IsPart held key size from (length room.old)) }
+    ensures filled { FetchLeaves key size from (length room.old) result room.new
+        (D.told device.old) (D.told device.new) }
     ensures tells { is_some (D.told device.new) ≡ is_some (D.told device.old) }
     ensures counted { Counted result (D.faults device.old) (D.faults device.new) }
 {
@@ -150,7 +158,8 @@ fn fill<D: ChunkDevice>(
 
 /// Deletes the copy under a key.
 pub fn erase<D: ChunkDevice>(device: &mut D, copies: &mut Copies, key: ChunkKey) -> ChunkAnswer
-    ensures erased { EraseLeaves key result copies.old copies.new (D.told device.old) (D.told device.new) }
+    ensures erased { EraseLeaves key result copies.old copies.new
+        (D.told device.old) (D.told device.new) }
     ensures tells { is_some (D.told device.new) ≡ is_some (D.told device.old) }
     ensures counted { Counted result (D.faults device.old) (D.faults device.new) }
 {
@@ -165,7 +174,8 @@ pub fn erase<D: ChunkDevice>(device: &mut D, copies: &mut Copies, key: ChunkKey)
 
 /// Empties the server and begins its next life.
 pub fn wipe<D: ChunkDevice>(device: &mut D, copies: &mut Copies) -> ChunkAnswer
-    ensures wiped { WipeLeaves result copies.old copies.new (D.told device.old) (D.told device.new) }
+    ensures wiped { WipeLeaves result copies.old copies.new
+        (D.told device.old) (D.told device.new) }
     ensures tells { is_some (D.told device.new) ≡ is_some (D.told device.old) }
     ensures counted { Counted result (D.faults device.old) (D.faults device.new) }
 {
@@ -188,7 +198,8 @@ pub fn start<D: ChunkDevice>(
     up: &mut bool,
     copies: &mut Copies,
 ) -> ChunkAnswer
-    ensures started { StartLeaves stripe up.old result copies.old copies.new (D.told device.old) (D.told device.new) }
+    ensures started { StartLeaves stripe up.old result copies.old copies.new
+        (D.told device.old) (D.told device.new) }
     ensures up { up.new ≡ up_after result up.old }
     ensures tells { is_some (D.told device.new) ≡ is_some (D.told device.old) }
     ensures counted { Counted result (D.faults device.old) (D.faults device.new) }

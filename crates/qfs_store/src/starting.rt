@@ -63,13 +63,7 @@ fn note(copies: &mut Copies, chunk: &KeySize) -> Result<(), AllocError>
     if chunk.size < FIRST_HEAD_BYTES as u64 {
         return Ok(());
     }
-    copies.insert(
-        chunk.key,
-        CopySize {
-            form: 1,
-            len: 0,
-        },
-    )
+    copies.insert(chunk.key, CopySize { form: 1, len: 0 })
 }
 
 /// Reads the head under a noted key, and notes the size of the copy, or takes the key out where it
@@ -81,7 +75,8 @@ fn check<D: ChunkDevice>(
     copies: &mut Copies,
 ) -> Result<(), DeviceError>
     requires readable { ForSome (D.told device.old) (λ held. IsSized held chunk.now) }
-    ensures checked { (held : Held) → D.told device.old ≡ Some held → KeyChecked stripe held (D.told device.new) chunk.now copies.old copies.new result }
+    ensures checked { (held : Held) → D.told device.old ≡ Some held
+        → KeyChecked stripe held (D.told device.new) chunk.now copies.old copies.new result }
     ensures tells { is_some (D.told device.new) ≡ is_some (D.told device.old) }
     ensures counts { Counts (D.faults device.old) (D.faults device.new) result }
     ensures no_memory { TakesNoMemory result }
@@ -105,13 +100,11 @@ fn settle(copies: &mut Copies, key: ChunkKey, size: Option<CopySize>)
 }
 
 /// The head under a key whose bytes are enough for one, or None where they begin with none.
-fn head_under<D: ChunkDevice>(
-    device: &mut D,
-    chunk: &KeySize,
-) -> Result<Option<Head>, DeviceError>
+fn head_under<D: ChunkDevice>(device: &mut D, chunk: &KeySize) -> Result<Option<Head>, DeviceError>
     requires long { 21 ≤ chunk.now.size }
     requires readable { ForSome (D.told device.old) (λ held. IsSized held chunk.now) }
-    ensures read { (held : Held) → D.told device.old ≡ Some held → HeadRead held (D.told device.new) chunk.now result }
+    ensures read { (held : Held) → D.told device.old ≡ Some held
+        → HeadRead held (D.told device.new) chunk.now result }
     ensures tells { is_some (D.told device.new) ≡ is_some (D.told device.old) }
     ensures counts { Counts (D.faults device.old) (D.faults device.new) result }
     ensures no_memory { TakesNoMemory result }

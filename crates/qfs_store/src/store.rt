@@ -41,11 +41,21 @@ impl<D: ChunkDevice> Model for Store<D> {
 
     ghost Value = { Stored };
 
-    ghost view = { λ s. record { stripe = s.stripe; known = record { up = s.up; form = s.form; copies = s.copies }; told = D.told s.device; faults = D.faults s.device } };
+    ghost view = { λ s. record {
+      stripe = s.stripe;
+      known = record { up = s.up; form = s.form; copies = s.copies };
+      told = D.told s.device;
+      faults = D.faults s.device;
+    } };
 
     ghost use Rattle.qfs_store.specs.Stored.{IsSound};
 
-    ghost invariant = { λ s. IsSound (record { stripe = s.stripe; known = record { up = s.up; form = s.form; copies = s.copies }; told = D.told s.device; faults = D.faults s.device }) };
+    ghost invariant = { λ s. IsSound (record {
+      stripe = s.stripe;
+      known = record { up = s.up; form = s.form; copies = s.copies };
+      told = D.told s.device;
+      faults = D.faults s.device;
+    }) };
 }
 
 impl<D: ChunkDevice> Store<D> {
@@ -59,7 +69,8 @@ impl<D: ChunkDevice> Store<D> {
         ensures known { result.known ≡ no_copies }
         ensures told { result.told ≡ D.told device }
         ensures faults { result.faults ≡ D.faults device }
-        ensures fresh { result.told ≡ Some new_device → StandsOn stripe new_device result.known fresh_server }
+        ensures fresh { result.told ≡ Some new_device
+            → StandsOn stripe new_device result.known fresh_server }
     {
         Store {
             alloc,
@@ -191,7 +202,11 @@ impl<D: ChunkDevice> Store<D> {
     {
         let none = Bytes::new(self.alloc);
         match request {
-            ChunkRequest::Put { key, life: _, bytes } => ChunkReply {
+            ChunkRequest::Put {
+                key,
+                life: _,
+                bytes,
+            } => ChunkReply {
                 answer: put(
                     self.alloc,
                     &mut self.device,

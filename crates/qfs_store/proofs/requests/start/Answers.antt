@@ -8,6 +8,6 @@ pub returns-in-Ok-clause-started : goal.returns-in-Ok-clause-started
 returns-in-Ok-clause-started g c = (
   c.life-in-Ok.ensures,
   subst (λ (t : Bool × Sizes). FindsCopies c.args.stripe t.0 c.args.copies.now t.1 (g.D.ChunkDevice.told c.args.device.now) (g.D.ChunkDevice.told c.copies_on.new.device))
-  (λ i. (sym c.if-up.false i, sym c.replace.ensures.found i))
-  (c.replace.ensures.rose, c.in-Ok.ensures.found),
+      (λ i. (sym c.if-up.false i, sym c.replace.ensures.found i))
+      (c.replace.ensures.rose, c.in-Ok.ensures.found),
 )

@@ -1,5 +1,5 @@
 -- The checks begin, go on and end.
-use Rattle.std.proofs.Common.{◌≡◌, ◌+◌, List, map, is_some, refl, sym, ap, subst, ◌∙◌, arith}
+use Rattle.std.proofs.Common.{◌≡◌, ◌+◌, List, map, is_some, refl, sym, ap, subst, ◌∙◌}
 use Rattle.std.specs.List.Sorted.{IsStrictlySortedBy}
 use Rattle.std.proofs.lemmas.Result.{err_from_is_err_and}
 use Rattle.std.proofs.lemmas.Option.{same_Some}
@@ -44,9 +44,11 @@ returns-in_err-check-clause-found g c =
     rw (p.1, same) (found_err c.args.stripe c.in_err-check.field-0.0 _ _ c.in_err-check.ensures.no_memory
     (λ held told_is.
     let checks = c.loop-chunk.invariant.checks held (c.keys.ensures.same ∙ told_is) in
-    let more = c.in_err-check.ensures.checked checks.reads.after checks.reads.told_is in
-    (checks.count + more.0, read_more held _ _ checks.count more.0 checks.reads
-    (λ now now_is. subst (λ (h : Held). Reads h (g.D.ChunkDevice.told c.check.new.device) more.0) (same_Some checks.reads.after now (sym checks.reads.told_is ∙ now_is)) more.1))))
+    let more = c.in_err-check.ensures.checked checks.reads.after checks.reads.told_is in (
+      checks.count + more.0,
+      read_more held _ _ checks.count more.0 checks.reads
+          (λ now now_is. subst (λ (h : Held). Reads h (g.D.ChunkDevice.told c.check.new.device) more.0) (same_Some checks.reads.after now (sym checks.reads.told_is ∙ now_is)) more.1),
+    )))
 
 pub returns-clause-found : goal.returns-clause-found
 returns-clause-found g c held told_is =

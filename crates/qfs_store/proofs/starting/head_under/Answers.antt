@@ -1,7 +1,6 @@
 -- The front that was read tells the head.
-use Rattle.std.proofs.Common.{◌≡◌, ◌⊎◌, ◌<◌, false, inl, inr, sym, subst, ◌∙◌, arith, Option}
+use Rattle.std.proofs.Common.{◌≡◌, ◌⊎◌, ◌<◌, false, inl, inr, sym, ◌∙◌, arith}
 use Rattle.qfs_record.specs.ChunkRecord.{begins_second}
-use Rattle.qfs_record.specs.declared.head.Head.{Head}
 use Rattle.qfs_store.proofs.ReadLaws.{first_was_read, second_was_read}
 use Rattle.qfs_store.proofs.starting.head_under.Goals.{then-not-is_second-via-then-not-is_second, then-not-is_second-via-else-not-is_second+then-chunk}
 use Rattle.qfs_store.proofs.starting.head_under.Goals as goal

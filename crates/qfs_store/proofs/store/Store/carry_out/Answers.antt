@@ -1,7 +1,5 @@
 -- Each request is served by its own function.
-use Rattle.std.proofs.Common.{◌≡◌, [], Option, Some, refl, sym, ap, subst, ◌∙◌}
-use Rattle.qfs_base.specs.Key.{key_cmp}
-use Rattle.qfs_base.specs.KeyMap.{value_at}
+use Rattle.std.proofs.Common.{refl, sym, ◌∙◌}
 use Rattle.qfs_base.specs.declared.reply.ChunkAnswer.TheVariants as Answer
 use Rattle.qfs_model_server.specs.Server.{without_room}
 use Rattle.qfs_store.proofs.DoesLaws.{sound_after, allowed_so, done_so}

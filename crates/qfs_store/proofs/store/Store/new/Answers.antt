@@ -1,9 +1,4 @@
 -- No copies, over a device that holds none, stand for a server without copies.
-use Rattle.std.proofs.Common.{sym, subst}
-use Rattle.qfs_store.specs.Known.{Sizes}
-use Rattle.qfs_store.specs.Stored.{IsSound, StandsOn}
-use Rattle.qfs_device.specs.Held.{new_device}
-use Rattle.qfs_model_server.specs.Server.{fresh_server}
 use Rattle.qfs_store.proofs.FreshLaws.{empty_sound, fresh_stands}
 use Rattle.qfs_store.proofs.store.Store.new.Goals as goal
 
