@@ -8,7 +8,7 @@ use Rattle.qfs_base.specs.Sizes.{LAST_U64}
 use Rattle.qfs_base.specs.declared.script.Script.{Script}
 use Rattle.qfs_device.specs.Held.{Held}
 use Rattle.qfs_device.specs.declared.log_disk.MetaDisks.{MetaDisks}
-use Rattle.qfs_driver.proofs.Places.{some_is, in_first, from_first, mapped_at, unmapped_at, below_length, length_past, behind_first}
+use Rattle.qfs_driver.proofs.Places.{some_is, in_first, mapped_at, unmapped_at, below_length, length_past, behind_first}
 use Rattle.qfs_driver.specs.Playing.{Continues}
 use Rattle.qfs_driver.proofs.Remaining.{remain_from, same_remain, servers_remain}
 use Rattle.qfs_driver.specs.Run.{AllRemain, StandAfter, StayInPlace, counts_of}

@@ -1,5 +1,5 @@
 -- The scripts that are read are those of the first path, and can be run.
-use Rattle.std.proofs.Common.{◌≡◌, ◌<◌, ◌≤◌, ℕ, List, [], ◌∷◌, length, refl, ap, subst, arith, Some, None, Ok, lit<}
+use Rattle.std.proofs.Common.{◌≡◌, ◌<◌, ◌≤◌, ℕ, List, [], ◌∷◌, length, refl, ap, subst, arith, None, Ok, lit<}
 use Rattle.std.specs.Prelude.{flat_map, All, ◌^◌}
 use Rattle.qfs_base.specs.Table.{Each}
 use Rattle.qfs_base.specs.declared.command.Command.{Command}
