@@ -1,0 +1,2 @@
+//! Laws of tables.
+#![tactic(auto)]
