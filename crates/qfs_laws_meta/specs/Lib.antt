@@ -16,3 +16,4 @@ pub mod GrantRequests
 pub mod MoreGrants
 pub mod StaysSound
 pub mod RunSound
+pub mod Terms

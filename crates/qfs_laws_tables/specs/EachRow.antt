@@ -117,7 +117,7 @@ pub none-is : {X : Type 0} (o : Option X) → is_none o ≡ true → o ≡ None
 none-is None e = refl
 none-is (Some x) e = absurd (true≢false (sym e))
 
-each-self : {X : Type 0} (Q : X → Type 0) (R : X → X → Bool) → ((x : X) → Q x → R x x ≡ true) → (xs : List X) → Each Q xs → Each (λ x. list_any (R x) xs ≡ true) xs
+pub each-self : {X : Type 0} (Q : X → Type 0) (R : X → X → Bool) → ((x : X) → Q x → R x x ≡ true) → (xs : List X) → Each Q xs → Each (λ x. list_any (R x) xs ≡ true) xs
 each-self Q R own [] each = tt
 each-self Q R own (x ∷ xs) each =
     (ap (λ b. b || list_any (R x) xs) (own x each.0), each_weaker (λ y. list_any (R y) xs ≡ true) (λ y. (R y x || list_any (R y) xs) ≡ true) (λ y any. or_true (R y x) _ any) xs (each-self Q R own xs each.1))
