@@ -17,3 +17,5 @@ pub mod MoreGrants
 pub mod StaysSound
 pub mod RunSound
 pub mod Terms
+pub mod Tells
+pub mod ChangeTells

@@ -21,7 +21,7 @@ lives-rise past m n rise h = each_weaker _ _ (λ (g : SlotCopy) l. less _ _ _ l 
     less : (a b c : ℕ) → a ≤ b → b ≤ c → a ≤ c
     less a b c p q = omega arith
 
-changed-server : (change : ServerView → ServerView) (m : MetaImage) (server s : ℕ) → IsServer (length m.servers) server → ((server_at m.servers server).life ≤ (change (server_at m.servers server)).life)
+pub changed-server : (change : ServerView → ServerView) (m : MetaImage) (server s : ℕ) → IsServer (length m.servers) server → ((server_at m.servers server).life ≤ (change (server_at m.servers server)).life)
     → (server_at m.servers s).life ≤ (server_at (change_server change m.servers server) s).life
 changed-server change m server s is rises =
     server-cases (λ v. (server_at m.servers s).life ≤ v.life) change m.servers server s is

@@ -54,7 +54,13 @@ one-more actor past (Told.Ordered condemned turn) = omega arith
 one-more actor past (Told.Done place) = omega arith
 one-more actor past _ = omega arith
 
-pub run-sound : (rules : Rules) (past : Past) (m : MetaImage) (asked : List Asking) → IsSound past m → length past.granted + length asked + 1 < LAST_U32 → MayRun rules past m asked → EndsSound rules past m asked
+-- the law: from a sound state, any such run leaves a sound state, as long as it is shorter than the versions that are left
+abbrev pub RunsStaySound : Type 0
+RunsStaySound =
+    (rules : Rules) (past : Past) (m : MetaImage) (asked : List Asking) → IsSound past m
+    → length past.granted + length asked + 1 < LAST_U32 → MayRun rules past m asked → EndsSound rules past m asked
+
+pub run-sound : RunsStaySound
 run-sound rules past m [] sound short may = sound
 run-sound rules past m (a ∷ as') sound short may =
     let more = one-more a.actor past (served rules m a).reply in
