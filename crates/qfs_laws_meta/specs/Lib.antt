@@ -19,3 +19,5 @@ pub mod RunSound
 pub mod Terms
 pub mod Tells
 pub mod ChangeTells
+pub mod MayTell
+pub mod Fair

@@ -187,3 +187,33 @@ forgotten-drop file rows = record {
   where
     none : {copy : Copy} → granted_copy None ≡ Some copy → ⊥
     none is = unfold granted_copy in cc
+
+-- ---- steps of more than one change
+
+-- what is told may be said in other words
+pub tells-as : {seals seals' : BlockId → ℕ → Type 0} {gives gives' : BlockId → ℕ → Copy → Type 0} {lends lends' : ℕ → Type 0} (m n : MetaImage)
+    → ((block : BlockId) (slot : ℕ) → seals block slot → seals' block slot)
+    → ((block : BlockId) (slot : ℕ) (copy : Copy) → gives block slot copy → gives' block slot copy)
+    → ((lease : ℕ) → lends lease → lends' lease)
+    → Tells seals gives lends m n → Tells seals' gives' lends' m n
+tells-as m n sealed given lent tells = record {
+  current = λ block slot copy is. ⊎_elim (λ c. inl c) (λ s. inr (sealed block slot s.0, s.1)) (tells.current block slot copy is);
+  granted = λ block slot copy is. ⊎_elim (λ g. inl g) (λ g. inr (given block slot copy g)) (tells.granted block slot copy is);
+  as_many = tells.as_many;
+  lives = tells.lives;
+  leases = λ lease live. ⊎_elim (λ l. inl l) (λ l. inr (lent lease l)) (tells.leases lease live);
+  entries = tells.entries;
+  history = tells.history;
+}
+
+-- a lease is given, and then a copy granted
+pub tells-lent : {gives : BlockId → ℕ → Copy → Type 0} {lends : ℕ → Type 0} (m n o : MetaImage) → Tells no_seal no_gift lends m n → Tells no_seal gives no_loan n o → Tells no_seal gives lends m o
+tells-lent m n o lent tells = record {
+  current = λ block slot copy is. inl (unsealed (lent.current block slot copy (unsealed (tells.current block slot copy is))));
+  granted = λ block slot copy is. ⊎_elim (λ g. inl (never (lent.granted block slot copy g))) (λ g. inr g) (tells.granted block slot copy is);
+  as_many = tells.as_many ∙ lent.as_many;
+  lives = λ server. trans-le _ _ _ (lent.lives server) (tells.lives server);
+  leases = λ lease live. lent.leases lease (never (tells.leases lease live));
+  entries = lent.entries ++ tells.entries;
+  history = tells.history ∙ ap (λ h. h ++ tells.entries) lent.history ∙ append_assoc m.history lent.entries tells.entries;
+}
