@@ -21,3 +21,6 @@ pub mod Tells
 pub mod ChangeTells
 pub mod MayTell
 pub mod Fair
+pub mod RequestsAnswer
+pub mod GrantsAnswer
+pub mod StepsAnswer

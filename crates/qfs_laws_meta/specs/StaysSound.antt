@@ -198,7 +198,7 @@ request-fine rules actor past m (Ask.LeftOn server) h c left a may range = left_
 request-fine rules actor past m Ask.Checkpoint h c left a may range = refl
 request-fine rules actor past m Ask.Restart h c left a may range = refl
 
-versions-left : (past : Past) (m : MetaImage) → length past.granted + 1 < LAST_U32 → Keeps past m → HasVersionsLeft m
+pub versions-left : (past : Past) (m : MetaImage) → length past.granted + 1 < LAST_U32 → Keeps past m → HasVersionsLeft m
 versions-left past m left h = each_weaker (λ (row : SlotRow). row.state.next ≤ length past.granted + 1) (λ (row : SlotRow). row.state.next < LAST_U32) (λ row o. omega arith) m.slots h.knows.counted
 
 pub stays-sound : StaysSound

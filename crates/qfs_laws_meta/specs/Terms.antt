@@ -1,6 +1,6 @@
 -- Leases with a term: a tick ends just those whose time has come, an ended lease keeps nothing, a live one keeps what it lists
 -- from deletion, and a grant is confirmed whether or not its lease is still live.
-use Rattle.std.proofs.Common.{◌≡◌, ◌≢◌, ℕ, ◌+◌, ◌<◌, ◌≤◌, ◌==◌, nat_lt, Bool, true, false, cond, not, ◌&&◌, ◌||◌, length, List, [], ◌∷◌, ◌++◌, map, filter, Option, Some, None, refl, sym, ap, ◌∙◌, subst, arith}
+use Rattle.std.proofs.Common.{◌≡◌, ◌≢◌, ℕ, ◌+◌, ◌<◌, ◌≤◌, ◌==◌, nat_lt, nat_le, Bool, true, false, cond, not, ◌&&◌, ◌||◌, length, List, [], ◌∷◌, ◌++◌, map, filter, Option, Some, None, refl, sym, ap, ◌∙◌, subst, arith}
 use Rattle.std.proofs.lemmas.Bool.{and_parts, and_from, lt-ltb, ltb-true, ne_eqb, eq-eqb, true≢false}
 use Rattle.std.specs.Cmp.{ranked}
 use Rattle.std.specs.List.{list_any}
@@ -46,11 +46,15 @@ use Rattle.qfs_laws_meta.specs.StaysSound.{stays-sound}
 
 -- ---- a tick
 
+-- a lease that has a term has come to its end at this reading
+abbrev pub time_has_come : ℕ → Lease → Bool
+time_has_come clock lease = not (lease.until == 0) && nat_le lease.until clock
+
 -- the step of a tick that is carried out tells the clock, and leaves just those leases whose time hasn't come
 pub record TicksLeases (m next : MetaImage) (reply : MetaReply) : Type 0 where
   pub clock : next.clock ≡ min (m.clock + 1) LAST_U64
   pub told : reply ≡ Told.Clock next.clock
-  pub left : next.leases ≡ without (has_run_out next.clock) m.leases
+  pub left : next.leases ≡ without (time_has_come next.clock) m.leases
 
 abbrev pub TicksEndLeases : Type 0
 TicksEndLeases =
@@ -158,7 +162,7 @@ ticks-end-leases rules actor past m sound none =
 
     ticked : (m n : MetaImage) (numbers : List ℕ) → n.clock ≡ min (m.clock + 1) LAST_U64 → n.leases ≡ m.leases → (apply_all (map EndLease numbers) n).leases ≡ without (has_run_out n.clock) m.leases
         → TicksLeases m (next_turn (apply_all (map EndLease numbers) n)) (Told.Clock n.clock)
-    ticked m n numbers at same left = unfold next_turn in record {
+    ticked m n numbers at same left = unfold next_turn has_run_out in record {
       clock = ended-clock numbers n ∙ at;
       told = ap Told.Clock (sym (ended-clock numbers n));
       left = left ∙ ap (λ c. without (has_run_out c) m.leases) (sym (ended-clock numbers n));
