@@ -13,6 +13,7 @@ pub mod Order
 pub mod Outcome
 pub mod Path
 pub mod Recipe
+pub mod Reserved
 pub mod Rules
 pub mod Shape
 pub mod Sizes
