@@ -55,9 +55,13 @@ last_longer : (front : List StepRun) (run longer : StepRun) → AreRuns (front +
     → run.count ≤ longer.count → AreRuns (front ++ longer ∷ [])
 unfolding AreRuns
 last_longer [] run longer few alike more = (omega (arith, few.0, more), (tt, tt))
-last_longer (first ∷ []) run longer few alike more =
-    (few.0, (λ same. let apart : LONGEST_RUN < first.count + run.count = few.1.0 (same ∙ sym alike) in omega (arith, apart, more),
-    last_longer [] run longer few.1.1 alike more))
+last_longer (first ∷ []) run longer few alike more = (
+  few.0,
+  (
+    λ same. let apart : LONGEST_RUN < first.count + run.count = few.1.0 (same ∙ sym alike) in omega (arith, apart, more),
+    last_longer [] run longer few.1.1 alike more,
+  ),
+)
 last_longer (first ∷ next ∷ front) run longer few alike more =
     (few.0, (few.1.0, last_longer (next ∷ front) run longer few.1.1 alike more))
 

@@ -18,4 +18,5 @@ pub mod Rules
 pub mod Shape
 pub mod Sizes
 pub mod Table
+pub mod Taken
 pub mod Turns

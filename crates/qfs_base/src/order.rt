@@ -88,7 +88,13 @@ impl Order {
         if count == 1 {
             return Ok(());
         }
-        push_steps(&mut self.runs, StepRun { step, count: count - 1 })
+        push_steps(
+            &mut self.runs,
+            StepRun {
+                step,
+                count: count - 1,
+            },
+        )
     }
 
     /// Writes another step in place of the last one. It takes no memory.

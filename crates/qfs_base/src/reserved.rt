@@ -1,6 +1,7 @@
 //! A list with promised room, for changes that may not fail: the room is made first, and what
 //! comes later goes into it without memory.
 ghost use Rattle.std.specs.Prelude.{◌≡◌, ◌+◌, ◌<◌, ◌≤◌, [], ◌∷◌, ◌++◌, length, take, insert, remove, slice_get, IsOk, IfOk, OnOk, OnErr};
+ghost use Rattle.qfs_base.specs.Reserved.{room_of};
 
 use crate::listing::Listing;
 use std::alloc::{AllocError, Global};
@@ -21,7 +22,10 @@ impl<T> Model for ReservedList<T> {
 
     ghost coded = { reserved_code T.code };
 
-    ghost view = { λ it. record { items = it.items.items; spare = vec_capacity it.items - vec_len it.items } };
+    ghost view = { λ it. record {
+      items = it.items.items;
+      spare = vec_capacity it.items - vec_len it.items;
+    } };
 }
 
 impl<T> ReservedList<T> {
@@ -119,7 +123,7 @@ impl<T: Drop> ReservedList<T> {
     /// again.
     pub fn truncate(&mut self, len: usize)
         ensures items { self.new.items ≡ take len self.old.items }
-        ensures room { self.new.spare + length self.new.items ≡ self.old.spare + length self.old.items }
+        ensures room { room_of self.new ≡ room_of self.old }
     {
         self.items.truncate(len);
     }
