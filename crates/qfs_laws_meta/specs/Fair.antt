@@ -23,7 +23,7 @@ use Rattle.qfs_model_meta.specs.Decision.{Decision, Tells, UsesDisks, Makes, ref
 use Rattle.qfs_model_meta.specs.Dropped.{dropped_at}
 use Rattle.qfs_model_meta.specs.Past.{Past, granted_slot_copy}
 use Rattle.qfs_model_meta.specs.Step.{Served, stays, take_step, next_turn, carry_out, fail_disks, end_step, serve_unless_dropped}
-use Rattle.qfs_laws_tables.specs.EachRow.{each_append}
+use Rattle.qfs_base.specs.EachLaws.{each_append}
 use Rattle.qfs_laws_slots.specs.Changes.{MayMake, told}
 use Rattle.qfs_laws_meta.specs.ChangeTells.{Seals, Gives, Lends, change-tells}
 use Rattle.qfs_laws_meta.specs.MayTell.{MayTell, AnyMayGet}

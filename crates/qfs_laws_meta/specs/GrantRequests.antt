@@ -39,7 +39,7 @@ use Rattle.qfs_laws_meta.specs.SimpleRequests.{server-is}
 use Rattle.qfs_laws_slots.specs.Changes.{HasVersionsLeft, MayGrant, told}
 use Rattle.qfs_laws_slots.specs.RowKeys.{has_file-is}
 use Rattle.qfs_laws_slots.specs.Slots.{placed-cases}
-use Rattle.qfs_laws_tables.specs.EachRow.{each_weaker}
+use Rattle.qfs_base.specs.EachLaws.{each_weaker}
 use Rattle.qfs_laws_tables.specs.SomeRow.{any_last, found-any}
 use Rattle.qfs_laws_tree.specs.Files.{closed-root}
 use Rattle.qfs_laws_tree.specs.Stands.{stands_of_closed}

@@ -32,7 +32,8 @@ use Rattle.qfs_laws_slots.specs.Losing.{IsLosing, losing-slots}
 use Rattle.qfs_laws_slots.specs.SlotTable.{RowFits}
 use Rattle.qfs_laws_slots.specs.Slots.{of_block-is, slot-cases, slot_has}
 use Rattle.qfs_laws_tables.specs.Distinct.{copies, one_if}
-use Rattle.qfs_laws_tables.specs.EachRow.{each_both, each_filter, each_passes, each_weaker}
+use Rattle.qfs_base.specs.EachLaws.{each_filter, each_weaker}
+use Rattle.qfs_laws_tables.specs.EachRow.{each_both, each_passes}
 use Rattle.qfs_laws_tables.specs.Sums.{total, total-filter, total-map, weigh_if}
 
 -- ---- the choice of a server

@@ -45,7 +45,8 @@ use Rattle.qfs_laws_slots.specs.RowKeys.{own-file}
 use Rattle.qfs_laws_slots.specs.Servers.{change-length}
 use Rattle.qfs_laws_slots.specs.SlotTable.{HasTable, bare-of, slot-fits, slot-small, table-forgotten, table-granted, table-later, table-losing, table-onward, table-sealed}
 use Rattle.qfs_laws_slots.specs.Slots.{rows-found}
-use Rattle.qfs_laws_tables.specs.EachRow.{each_append, each_place, each_push, each_weaker, found_has}
+use Rattle.qfs_base.specs.EachLaws.{each_append, each_weaker}
+use Rattle.qfs_laws_tables.specs.EachRow.{each_place, each_push, found_has}
 use Rattle.qfs_laws_tables.specs.InOrder.{place_rises}
 use Rattle.qfs_laws_tables.specs.SomeRow.{any_each, none-there}
 use Rattle.qfs_laws_tree.specs.Files.{closed-after, closed-root, emptied-root, not-closed, path-of, source-path, unclosed-rows, without_file-back}

@@ -21,7 +21,8 @@ use Rattle.qfs_laws_slots.specs.Condemning.{condemn_any-frame, condemned-count, 
 use Rattle.qfs_laws_slots.specs.Granted.{Granted}
 use Rattle.qfs_laws_slots.specs.Losses.{Loses, current_in, loses-current, loses-pending, pending_in}
 use Rattle.qfs_laws_slots.specs.Slots.{has-changed, same_block-self, slot-cases}
-use Rattle.qfs_laws_tables.specs.EachRow.{each_change, each_weaker}
+use Rattle.qfs_base.specs.EachLaws.{each_weaker}
+use Rattle.qfs_laws_tables.specs.EachRow.{each_change}
 use Rattle.qfs_laws_tables.specs.Sums.{weigh_if}
 
 -- ---- what is known of the slots

@@ -32,7 +32,8 @@ use Rattle.qfs_laws_slots.specs.Granted.{Granted, granted-has, granted-more, gra
 use Rattle.qfs_laws_slots.specs.Losses.{Loses, confirmed-loses, current_in, emptied-loses, failed-loses, pending_in, ungranted-loses}
 use Rattle.qfs_laws_slots.specs.Slots.{forgotten-cases, has-changed, has-forgotten, has-placed, is_slot-self, placed-cases, same_block-is, same_copy-self, sealed-cases, slot_has}
 use Rattle.qfs_laws_tables.specs.Distinct.{distinct-push, one_if}
-use Rattle.qfs_laws_tables.specs.EachRow.{each_both, each_change, each_filter, each_place, each_push, each_weaker}
+use Rattle.qfs_base.specs.EachLaws.{each_filter, each_weaker}
+use Rattle.qfs_laws_tables.specs.EachRow.{each_both, each_change, each_place, each_push}
 use Rattle.qfs_laws_tables.specs.Sums.{total, total-append, total-none, weigh_if}
 
 -- ---- slots lose copies

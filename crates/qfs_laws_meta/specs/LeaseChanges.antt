@@ -27,7 +27,8 @@ use Rattle.qfs_laws_slots.specs.RowKeys.{is_lease-is, own-lease, own-number}
 use Rattle.qfs_laws_slots.specs.Servers.{server-cases}
 use Rattle.qfs_laws_slots.specs.Slots.{forgotten-cases, placed-cases, same_block-self, same_copy-is, same_copy-self, sealed-cases, slot-cases}
 use Rattle.qfs_laws_tables.specs.Distinct.{distinct-both}
-use Rattle.qfs_laws_tables.specs.EachRow.{each_passes, each_weaker}
+use Rattle.qfs_base.specs.EachLaws.{each_weaker}
+use Rattle.qfs_laws_tables.specs.EachRow.{each_passes}
 use Rattle.qfs_laws_tables.specs.SomeRow.{any_append, any_change_given, any_each, any_filter, any_last, any_map, any_of_append, any_of_filter}
 
 -- ---- a live lease is on the file of what it lists

@@ -21,7 +21,8 @@ use Rattle.qfs_laws_slots.specs.Granted.{Granted, granted-has}
 use Rattle.qfs_laws_slots.specs.Losing.{losing-frame, stray-frame}
 use Rattle.qfs_laws_slots.specs.Slots.{Bare}
 use Rattle.qfs_laws_tables.specs.Distinct.{distinct-push}
-use Rattle.qfs_laws_tables.specs.EachRow.{each_both, each_filter, each_push, each_weaker}
+use Rattle.qfs_base.specs.EachLaws.{each_filter, each_weaker}
+use Rattle.qfs_laws_tables.specs.EachRow.{each_both, each_push}
 use Rattle.qfs_laws_tables.specs.SomeRow.{any_append, any_each, any_last}
 
 -- what is bare where a change needs it

@@ -27,7 +27,8 @@ use Rattle.qfs_laws_slots.specs.Losing.{IsLosing, losing-frame, losing-slots, st
 use Rattle.qfs_laws_slots.specs.Losses.{Loses, current_in, loses-current, loses-pending, pending_in}
 use Rattle.qfs_laws_slots.specs.RowKeys.{is_lease-is}
 use Rattle.qfs_laws_slots.specs.Slots.{forgotten-cases, placed-cases, sealed-cases}
-use Rattle.qfs_laws_tables.specs.EachRow.{each_both, each_weaker}
+use Rattle.qfs_base.specs.EachLaws.{each_weaker}
+use Rattle.qfs_laws_tables.specs.EachRow.{each_both}
 use Rattle.qfs_laws_tables.specs.SomeRow.{any_of_append, any_of_filter}
 
 -- no copy of a slot is this one

@@ -15,7 +15,7 @@ use Rattle.std.specs.Bool.{then_some}
 use Rattle.std.specs.List.{cons_option, enumerate_from, list_any, range_with_len}
 use Rattle.std.specs.Prelude.{IsTrue, filter_map, flat_map, replicate, slice_set}
 use Rattle.qfs_laws_meta.specs.Replies.{ListsCurrent}
-use Rattle.qfs_laws_tables.specs.EachRow.{each_append}
+use Rattle.qfs_base.specs.EachLaws.{each_append}
 
 -- a place of nine that has a copy has the current one of its slot
 abbrev pub IsCurrentAt : List SlotRow → BlockId → ℕ × Option Copy → Type 0

@@ -12,7 +12,8 @@ use Rattle.std.proofs.Common.{ap, arith, length, subst, ℕ, ◌≡◌, ◌≤�
 use Rattle.qfs_laws_slots.specs.Changes.{MayMake, told}
 use Rattle.qfs_laws_slots.specs.Losing.{losing-frame, stray-frame}
 use Rattle.qfs_laws_slots.specs.Servers.{server-cases}
-use Rattle.qfs_laws_tables.specs.EachRow.{each_push, each_weaker}
+use Rattle.qfs_base.specs.EachLaws.{each_weaker}
+use Rattle.qfs_laws_tables.specs.EachRow.{each_push}
 
 -- servers whose lives have not fallen
 lives-rise : (past : Past) (m n : MetaImage) → ((s : ℕ) → (server_at m.servers s).life ≤ (server_at n.servers s).life) → LivesRise past m → LivesRise past n

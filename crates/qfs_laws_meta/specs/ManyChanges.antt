@@ -48,7 +48,8 @@ use Rattle.qfs_laws_slots.specs.Losing.{IsLosing, condemned-slots, losing-frame}
 use Rattle.qfs_laws_slots.specs.RowKeys.{has_file-is, own-file}
 use Rattle.qfs_laws_slots.specs.Slots.{Bare, is_slot-is, is_slot-self, of_file-is, same_block-is, same_block-self, same_copy-is, slot-cases, slot_at-behind}
 use Rattle.qfs_laws_tables.specs.Distinct.{one_if}
-use Rattle.qfs_laws_tables.specs.EachRow.{each_all, each_append, each_both, each_filter, each_map, each_passes, each_weaker, found_has}
+use Rattle.qfs_base.specs.EachLaws.{each_append, each_filter, each_weaker}
+use Rattle.qfs_laws_tables.specs.EachRow.{each_of_all, each_both, each_map, each_passes, found_has}
 use Rattle.qfs_laws_tables.specs.InOrder.{numbers-each, numbers-rise}
 use Rattle.qfs_laws_tables.specs.SomeRow.{any_filter, found-any}
 use Rattle.qfs_laws_tables.specs.Sums.{found-le-total, once-both, weigh_if}
@@ -387,7 +388,7 @@ marked-let_go past m row go = record { not_current = go.not_current; not_granted
 order-may : (m : MetaImage) (after : ℕ) (row : CondemnedRow) → Fits m → next_to_go m.servers after m.condemned ≡ Some row → Each (λ (r : CondemnedRow). r.condemned.number ≡ row.condemned.number → r.blockers ≡ []) m.condemned
 unfolding next_to_go may_go
 order-may m after row f found =
-    let passes = (found_has (λ _. Unit {0}) _ m.condemned row found (each_all _ (λ _. tt) m.condemned)).1 in
+    let passes = (found_has (λ _. Unit {0}) _ m.condemned row found (each_of_all _ (λ _. tt) m.condemned)).1 in
     let p = and_parts (nat_lt after row.condemned.number) (is_listed m.servers row.condemned.copy && is_unblocked row.blockers) passes in
     let q = and_parts (is_listed m.servers row.condemned.copy) (is_unblocked row.blockers) p.1 in
     each_weaker (λ (r : CondemnedRow). r.condemned.number ≡ row.condemned.number → r ≡ row) _ (λ r one same. ap (λ (k : CondemnedRow). k.blockers) (one same) ∙ unblocked-nil row.blockers q.1) m.condemned
@@ -398,7 +399,7 @@ unfolding next_to_go may_go is_listed is_blocked_copy is_copy_of
 order-let_go past m after row h found =
     let c : Condemned = row.condemned in
     let free = not-held past m _ row h.knows found in
-    let passes = (found_has (λ _. Unit {0}) _ m.condemned row found (each_all _ (λ _. tt) m.condemned)).1 in
+    let passes = (found_has (λ _. Unit {0}) _ m.condemned row found (each_of_all _ (λ _. tt) m.condemned)).1 in
     let p = and_parts (nat_lt after row.condemned.number) (may_go m.servers row) passes in
     let q = and_parts (is_listed m.servers row.condemned.copy) (is_unblocked row.blockers) p.1 in
     let live = (and_parts (is_live m.servers row.condemned.copy) (server_at m.servers row.condemned.copy.server).up q.0).0 in

@@ -47,7 +47,8 @@ use Rattle.qfs_laws_slots.specs.Losing.{losing-frame}
 use Rattle.qfs_laws_slots.specs.RowKeys.{has_file-is}
 use Rattle.qfs_laws_slots.specs.SlotTable.{RowFits}
 use Rattle.qfs_laws_slots.specs.Slots.{is_slot-self, rows-found, slot-cases}
-use Rattle.qfs_laws_tables.specs.EachRow.{each_all, each_both, each_filter, each_flat, each_map, each_passes, each_weaker, found_has, none-is}
+use Rattle.qfs_base.specs.EachLaws.{each_filter, each_weaker}
+use Rattle.qfs_laws_tables.specs.EachRow.{each_of_all, each_both, each_flat, each_map, each_passes, found_has, none-is}
 use Rattle.qfs_laws_tables.specs.InOrder.{numbers-each}
 use Rattle.qfs_laws_tables.specs.SomeRow.{found-any}
 use Rattle.qfs_laws_tree.specs.Files.{not-closed, unclosed-rows}
@@ -65,7 +66,7 @@ small-slots k (suc n) high = (omega arith, small-slots (k + 1) n (omega arith))
 file-slots : (file count : ℕ) → Each (IsSlotOf file) (file_slots file count)
 unfolding file_slots block_slots
 file-slots file count =
-    each_flat (λ _. Unit {0}) (IsSlotOf file) (λ index. block_slots (record { file = file; index = index })) (λ index _. each_map (λ slot. slot < 9) (IsSlotOf file) (λ slot. record { block = record { file = file; index = index }; slot = slot }) (λ slot small. (refl, small)) all_slots (small-slots 0 9 (omega arith))) (range_with_len 0 count) (each_all _ (λ _. tt) (range_with_len 0 count))
+    each_flat (λ _. Unit {0}) (IsSlotOf file) (λ index. block_slots (record { file = file; index = index })) (λ index _. each_map (λ slot. slot < 9) (IsSlotOf file) (λ slot. record { block = record { file = file; index = index }; slot = slot }) (λ slot small. (refl, small)) all_slots (small-slots 0 9 (omega arith))) (range_with_len 0 count) (each_of_all _ (λ _. tt) (range_with_len 0 count))
 
 -- what is healed is a slot of a closed file
 abbrev IsOfClosed : List TreeRow → SlotId → Type 0

@@ -15,7 +15,8 @@ use Rattle.qfs_laws_meta.specs.Kept.{Keeps}
 use Rattle.qfs_laws_meta.specs.Known.{Knows}
 use Rattle.qfs_laws_slots.specs.Granted.{Granted, is_copy-is}
 use Rattle.qfs_laws_tables.specs.Distinct.{copies}
-use Rattle.qfs_laws_tables.specs.EachRow.{each_append, each_push, each_weaker}
+use Rattle.qfs_base.specs.EachLaws.{each_append, each_weaker}
+use Rattle.qfs_laws_tables.specs.EachRow.{each_push}
 
 -- a lease that was given lists a current copy of its file
 abbrev pub ListsCurrent : Past → MetaImage → ListedCopy → Type 0

@@ -15,7 +15,7 @@ use Rattle.qfs_base.specs.declared.history.Outcome.TheVariants as Ended
 use Rattle.qfs_base.specs.declared.reply.MetaReply.TheVariants as Told
 use Rattle.qfs_laws_meta.specs.Kept.{Keeps, kept}
 use Rattle.qfs_laws_slots.specs.Changes.{MayMake, told}
-use Rattle.qfs_laws_tables.specs.EachRow.{each_weaker}
+use Rattle.qfs_base.specs.EachLaws.{each_weaker}
 
 -- ---- changes one after another
 

@@ -31,7 +31,7 @@ use Rattle.qfs_model_meta.specs.Slots.{slot_at, slots_of}
 use Rattle.qfs_model_meta.specs.SweepRequests.{decide_order, order_row, decide_swept}
 use Rattle.qfs_model_meta.specs.TreeRequests.{decide_mkdir, decide_rmdir, decide_remove, remove_changes, decide_rename, decide_list}
 use Rattle.qfs_model_meta.specs.TreeRows.{closed_file, file_stands, unclosed_file, unclosed_files}
-use Rattle.qfs_laws_tables.specs.EachRow.{each_append}
+use Rattle.qfs_base.specs.EachLaws.{each_append}
 use Rattle.qfs_laws_meta.specs.ChangeTells.{change-tells}
 use Rattle.qfs_laws_meta.specs.Fair.{Fair, Goes, StepTells, IsPlain, plain-one, plain-goes, plain-map, plain-flat, refuse-fair, unless-fair, need-fair, file-fair}
 use Rattle.qfs_laws_meta.specs.MayTell.{MayTell, TellsClosed}

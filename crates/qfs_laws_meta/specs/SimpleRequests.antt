@@ -40,7 +40,8 @@ use Rattle.qfs_laws_slots.specs.Changes.{MayMake, told}
 use Rattle.qfs_laws_slots.specs.Losing.{stray-frame}
 use Rattle.qfs_laws_slots.specs.RowKeys.{own-file}
 use Rattle.qfs_laws_slots.specs.Servers.{change-length}
-use Rattle.qfs_laws_tables.specs.EachRow.{all-each, each_all, each_append, each_map, found_has}
+use Rattle.qfs_base.specs.EachLaws.{each_append}
+use Rattle.qfs_laws_tables.specs.EachRow.{all-each, each_of_all, each_map, found_has}
 use Rattle.qfs_laws_tree.specs.Tree.{RowIs}
 
 -- ---- the name tree
@@ -133,7 +134,7 @@ unfolding decide_tick remember
 tick-fine actor past m =
     let now : ℕ = risen LAST_U64 m.clock in
     free-fine actor past m (ClockTicks ∷ map EndLease (leases_over now m.leases)) (Told.Clock now)
-    ((λ p n. (tt, refl)), each_map (λ _. Unit {0}) IsFree EndLease (λ lease _ p n. (tt, refl)) (leases_over now m.leases) (each_all _ (λ _. tt) (leases_over now m.leases))) refl
+    ((λ p n. (tt, refl)), each_map (λ _. Unit {0}) IsFree EndLease (λ lease _ p n. (tt, refl)) (leases_over now m.leases) (each_of_all _ (λ _. tt) (leases_over now m.leases))) refl
 
 pub left_on-fine : (actor : ℕ) (past : Past) (m : MetaImage) (server : ℕ) → Fine actor past m (decide_left_on server m)
 unfolding decide_left_on remember

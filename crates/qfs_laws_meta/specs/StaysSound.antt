@@ -41,7 +41,8 @@ use Rattle.qfs_laws_slots.specs.Losses.{current_in, pending_in}
 use Rattle.qfs_laws_slots.specs.SlotTable.{of-table, table-of}
 use Rattle.qfs_laws_slots.specs.Slots.{same_block-self}
 use Rattle.qfs_laws_tables.specs.Distinct.{copies, distinct-once, once-distinct, one_if}
-use Rattle.qfs_laws_tables.specs.EachRow.{each-left, each-right, each_append, each_both, each_filter, each_map, each_of_filter, each_of_map, each_passes, each_weaker}
+use Rattle.qfs_base.specs.EachLaws.{each_append, each_filter, each_weaker}
+use Rattle.qfs_laws_tables.specs.EachRow.{each-left, each-right, each_both, each_map, each_of_filter, each_of_map, each_passes}
 use Rattle.qfs_laws_tables.specs.Sums.{total, total-append, total-filter, total-map}
 use Rattle.qfs_laws_tree.specs.Tree.{of-tree, tree-of}
 

@@ -37,7 +37,8 @@ use Rattle.qfs_model_meta.specs.Slots.{slot_at, granted_copy, change_slot, confi
 use Rattle.qfs_model_meta.specs.Sound.{IsSound, IsLetGo}
 use Rattle.qfs_model_meta.specs.Step.{meta_step, serve_unless_dropped, end_step, carry_out, take_step, next_turn}
 use Rattle.qfs_model_meta.specs.TreeRows.{file_stands, closed_file}
-use Rattle.qfs_laws_tables.specs.EachRow.{each_weaker, each_filter, each_map, each_all, each-right, each-self}
+use Rattle.qfs_base.specs.EachLaws.{each_weaker, each_filter}
+use Rattle.qfs_laws_tables.specs.EachRow.{each_map, each_of_all, each-right, each-self}
 use Rattle.qfs_laws_slots.specs.Condemning.{condemn_any-cases}
 use Rattle.qfs_laws_slots.specs.RowKeys.{is_lease-is}
 use Rattle.qfs_laws_slots.specs.Slots.{slot-cases, is_slot-self, row_of}
@@ -190,7 +191,7 @@ only-live-leases-block past m sound =
     Live lease = IsTrue (is_live_lease lease m.leases)
 
     own : Each (λ (l : Lease). IsTrue (is_live_lease l.lease m.leases)) m.leases
-    own = unfold is_live_lease in each-self (λ (_ : Lease). Unit {0}) (λ (x l : Lease). is_lease x.lease l) (λ (x : Lease) _. is_lease-is x.lease x ∙ eq-eqb x.lease x.lease refl) m.leases (each_all (λ (_ : Lease). Unit {0}) (λ _. tt) m.leases)
+    own = unfold is_live_lease in each-self (λ (_ : Lease). Unit {0}) (λ (x l : Lease). is_lease x.lease l) (λ (x : Lease) _. is_lease-is x.lease x ∙ eq-eqb x.lease x.lease refl) m.leases (each_of_all (λ (_ : Lease). Unit {0}) (λ _. tt) m.leases)
 
     on : (file : ℕ) → Each Live (leases_on file m.leases)
     on file = unfold leases_on in each_map (λ (l : Lease). IsTrue (is_live_lease l.lease m.leases)) Live (λ (l : Lease). l.lease) (λ l is. is) (filter (λ (l : Lease). l.file == file) m.leases) (each_filter _ (λ (l : Lease). l.file == file) m.leases own)

@@ -11,7 +11,8 @@ use Rattle.qfs_model_meta.specs.Sound.{is_condemned_of}
 use Rattle.std.proofs.Common.{Bool, List, None, Option, Some, [], ap, arith, false, nat_eq, not, refl, subst, sym, true, ℕ, ◌&&◌, ◌++◌, ◌+◌, ◌==◌, ◌∷◌, ◌≡◌, ◌≤◌}
 use Rattle.std.specs.Option.{option_to_list}
 use Rattle.qfs_laws_tables.specs.Distinct.{one_if}
-use Rattle.qfs_laws_tables.specs.EachRow.{each_change, each_filter, each_map, each_push}
+use Rattle.qfs_base.specs.EachLaws.{each_filter}
+use Rattle.qfs_laws_tables.specs.EachRow.{each_change, each_map, each_push}
 use Rattle.qfs_laws_tables.specs.Sums.{total, total-append, total-filter-le, weigh_if}
 
 -- a state in which a live copy was condemned just now

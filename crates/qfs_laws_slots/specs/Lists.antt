@@ -17,7 +17,8 @@ use Rattle.std.specs.Prelude.{min, ⊤}
 use Rattle.std.specs.declared.cmp.Ordering.TheVariants.{Less}
 use Rattle.qfs_laws_slots.specs.Condemning.{condemn_any-cases, with_condemned}
 use Rattle.qfs_laws_slots.specs.RowKeys.{is_lease-is}
-use Rattle.qfs_laws_tables.specs.EachRow.{each_change, each_filter, each_map, each_push, each_weaker}
+use Rattle.qfs_base.specs.EachLaws.{each_filter, each_weaker}
+use Rattle.qfs_laws_tables.specs.EachRow.{each_change, each_map, each_push}
 use Rattle.qfs_laws_tables.specs.InOrder.{change_rises, filter_rises, map_rises, push_rises}
 
 less : (a b : ℕ) → a < b → nat_cmp a b ≡ Less

@@ -23,7 +23,8 @@ use Rattle.std.specs.Prelude.{IfSome, IsTrue, OnSome, is_some}
 use Rattle.qfs_laws_slots.specs.Changes.{MayGrant, MayMake}
 use Rattle.qfs_laws_slots.specs.Losing.{IsLosing, condemned-slots}
 use Rattle.qfs_laws_slots.specs.Slots.{Bare, is_slot-is, of_file-is, slot_cmp_total, slot_has}
-use Rattle.qfs_laws_tables.specs.EachRow.{each_both, each_change, each_filter, each_passes, each_place, each_weaker}
+use Rattle.qfs_base.specs.EachLaws.{each_filter, each_weaker}
+use Rattle.qfs_laws_tables.specs.EachRow.{each_both, each_change, each_passes, each_place}
 use Rattle.qfs_laws_tables.specs.InOrder.{change_rises, each_inserted, filter_rises, inserted_rises, place_rises}
 
 -- ---- what a row has

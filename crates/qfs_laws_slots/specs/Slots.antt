@@ -17,7 +17,8 @@ use Rattle.std.specs.Ordering.{is_eq, nat_cmp, ordering_reverse, ordering_then}
 use Rattle.std.specs.Prelude.{IsTrue, is_some}
 use Rattle.std.specs.declared.cmp.Ordering.{Ordering}
 use Rattle.std.specs.declared.cmp.Ordering.TheVariants.{Equal, Greater, Less}
-use Rattle.qfs_laws_tables.specs.EachRow.{each_both, each_weaker, find_none}
+use Rattle.qfs_base.specs.EachLaws.{each_weaker}
+use Rattle.qfs_laws_tables.specs.EachRow.{each_both, find_none}
 use Rattle.qfs_laws_tables.specs.Keys.{equal-is, greater-not, key-is, less-not}
 use Rattle.qfs_laws_tables.specs.Sums.{total}
 

@@ -22,7 +22,8 @@ apart-none n (k ∷ ns) each =
 none-apart : (n : ℕ) (ns : List ℕ) → copies n ns ≡ 0 → AllByRecursion (λ k. nat_eq n k ≡ false) ns
 none-apart n [] none = tt
 none-apart n (k ∷ ns) none =
-    (elim (nat_eq k n) as (λ b. nat_eq k n ≡ b → one_if b + copies n ns ≡ 0 → (nat_eq n k ≡ false) × AllByRecursion (λ k. nat_eq n k ≡ false) ns) [
+    (elim (nat_eq k n) as (λ b. nat_eq k n ≡ b → one_if b + copies n ns ≡ 0 → (nat_eq n k ≡ false)
+    × AllByRecursion (λ k. nat_eq n k ≡ false) ns) [
       | true ↦ λ is none. absurd (omega arith)
       | false ↦ λ is none. (grind (arith, nat_tests), none-apart n ns (omega arith))
     ]) refl none
@@ -32,7 +33,8 @@ unfolding IsDistinct
 distinct-once [] distinct n = omega arith
 distinct-once (k ∷ ns) distinct n =
     (elim (nat_eq k n) as (λ b. nat_eq k n ≡ b → one_if b + copies n ns ≤ 1) [
-      | true ↦ λ is. let same : k ≡ n = grind (arith, nat_tests) in let none = subst (λ m. copies m ns ≡ 0) same (apart-none k ns distinct.0) in omega arith
+      | true ↦ λ is. let same : k ≡ n = grind (arith, nat_tests) in let none = subst
+          (λ m. copies m ns ≡ 0) same (apart-none k ns distinct.0) in omega arith
       | false ↦ λ is. let rest = distinct-once ns distinct.1 n in omega arith
     ]) refl
 
@@ -40,20 +42,26 @@ pub once-distinct : (ns : List ℕ) → ((n : ℕ) → copies n ns ≤ 1) → Is
 unfolding IsDistinct
 once-distinct [] once = tt
 once-distinct (k ∷ ns) once = (
-  none-apart k ns (let at = once k in let own : nat_eq k k ≡ true = grind (arith, nat_tests) in let here : one_if true + copies k ns ≤ 1 = subst (λ b. one_if b + copies k ns ≤ 1) own at in omega arith),
+  none-apart k ns (let at = once k in let own : nat_eq k k ≡ true = grind (arith, nat_tests) in
+      let here : one_if true + copies k ns ≤ 1 = subst (λ b. one_if b + copies k ns ≤ 1) own at in
+      omega arith),
   once-distinct ns (λ n. let at = once n in omega arith),
 )
 
-pub distinct-push : {X : Type 0} (eq : X → X → Bool) (xs : List X) (y : X) → IsDistinct eq xs → Each (λ x. eq x y ≡ false) xs → IsDistinct eq (xs ++ y ∷ [])
+pub distinct-push : {X : Type 0} (eq : X → X → Bool) (xs : List X) (y : X) → IsDistinct eq xs
+    → Each (λ x. eq x y ≡ false) xs → IsDistinct eq (xs ++ y ∷ [])
 unfolding IsDistinct
 distinct-push eq [] y distinct apart = (tt, tt)
-distinct-push eq (x ∷ xs) y distinct apart = (all xs distinct.0, distinct-push eq xs y distinct.1 apart.1)
+distinct-push eq (x ∷ xs) y distinct apart =
+    (all xs distinct.0, distinct-push eq xs y distinct.1 apart.1)
   where
-    all : (zs : List _) → AllByRecursion (λ z. eq x z ≡ false) zs → AllByRecursion (λ z. eq x z ≡ false) (zs ++ y ∷ [])
+    all : (zs : List _) → AllByRecursion (λ z. eq x z ≡ false) zs
+        → AllByRecursion (λ z. eq x z ≡ false) (zs ++ y ∷ [])
     all [] h = (apart.0, tt)
     all (z ∷ zs) h = (h.0, all zs h.1)
 
-far : {X : Type 0} (e : X → X → Bool) (t : X → Bool) (x : X) → ((y : X) → t y ≡ true → e x y ≡ true) → (ys : List X) → AllByRecursion (λ y. e x y ≡ false) ys → list_any t ys ≡ true → ⊥
+far : {X : Type 0} (e : X → X → Bool) (t : X → Bool) (x : X) → ((y : X) → t y ≡ true → e x y ≡ true)
+    → (ys : List X) → AllByRecursion (λ y. e x y ≡ false) ys → list_any t ys ≡ true → ⊥
 far e t x agrees [] each any = cc
 far e t x agrees (y ∷ ys) each any =
     (elim (t y) as (λ b. t y ≡ b → (b || list_any t ys) ≡ true → ⊥) [
@@ -62,8 +70,11 @@ far e t x agrees (y ∷ ys) each any =
     ]) refl any
 
 -- where no two items agree, one that passes one test and one that passes another are the same if such items agree
-pub distinct-both : {X : Type 0} (Y : Type 0) (eq : X → X → Bool) (p q : X → Bool) → ((x y : X) → p x ≡ true → q y ≡ true → eq x y ≡ true) → ((x y : X) → q x ≡ true → p y ≡ true → eq x y ≡ true)
-    → ((x : X) → p x ≡ true → q x ≡ true → Y) → (xs : List X) → IsDistinct eq xs → list_any p xs ≡ true → list_any q xs ≡ true → Y
+pub distinct-both : {X : Type 0} (Y : Type 0) (eq : X → X → Bool) (p q : X → Bool)
+    → ((x y : X) → p x ≡ true → q y ≡ true → eq x y ≡ true)
+    → ((x y : X) → q x ≡ true → p y ≡ true → eq x y ≡ true)
+    → ((x : X) → p x ≡ true → q x ≡ true → Y) → (xs : List X) → IsDistinct eq xs → list_any p
+    xs ≡ true → list_any q xs ≡ true → Y
 unfolding IsDistinct
 distinct-both Y eq p q pq qp both [] distinct a b = absurd (cc)
 distinct-both Y eq p q pq qp both (x ∷ xs) distinct a b =

@@ -18,7 +18,8 @@ key-is key n =
     elim (nat_cmp key n) as (λ o. nat_cmp key n ≡ o → is_eq o ≡ (n == key)) [
       | Less ↦ λ o. let apart : key < n = ranked key n Less (sym o) in grind (arith, nat_tests)
       | Equal ↦ λ o. let same : key ≡ n = ranked key n Equal (sym o) in grind (arith, nat_tests)
-      | Greater ↦ λ o. let apart : n < key = ranked key n Greater (sym o) in grind (arith, nat_tests)
+      | Greater ↦ λ o. let apart : n < key = ranked key n Greater (sym o) in grind
+          (arith, nat_tests)
     ] refl
 
 pub less-not : Less ≡ Equal → ⊥

@@ -12,7 +12,8 @@ use Rattle.std.specs.Prelude.{IsTrue, is_some}
 use Rattle.qfs_base.specs.declared.lists.NameKind.TheVariants as Is
 use Rattle.qfs_base.specs.declared.reply.TreeRefusal.TheVariants as Not
 use Rattle.qfs_laws_slots.specs.RowKeys.{has_file-is, own-file}
-use Rattle.qfs_laws_tables.specs.EachRow.{each_weaker, found_has}
+use Rattle.qfs_base.specs.EachLaws.{each_weaker}
+use Rattle.qfs_laws_tables.specs.EachRow.{found_has}
 use Rattle.qfs_laws_tree.specs.History.{IsUnclosedFile}
 use Rattle.qfs_laws_tree.specs.Move.{if-none}
 use Rattle.qfs_laws_tree.specs.Stands.{closed-now, filtered-back}

@@ -19,7 +19,8 @@ use Rattle.qfs_base.specs.declared.history.Entry.TheVariants as Wrote
 use Rattle.qfs_base.specs.declared.lists.NameKind.TheVariants as Is
 use Rattle.qfs_laws_slots.specs.Changes.{MayMove}
 use Rattle.qfs_laws_slots.specs.RowKeys.{has_file-is, own-file}
-use Rattle.qfs_laws_tables.specs.EachRow.{each_all, each_both, each_weaker, is-none}
+use Rattle.qfs_base.specs.EachLaws.{each_weaker}
+use Rattle.qfs_laws_tables.specs.EachRow.{each_of_all, each_both, is-none}
 use Rattle.qfs_laws_tables.specs.Placed.{map-changed, map-filter, map-placed, map-placed_all}
 
 -- ---- one entry more
@@ -104,7 +105,7 @@ unfolding apply write_entry take_path taken may_follow files_after file_entry cr
 history-taken m path free h =
     history-more m (Wrote.Rmdir path) (take_path path m.tree) m.next_file
     (λ puts. is-none _ (ap (λ t. rmdir_refusal t path) (standing-files puts m.tree) ∙ free))
-    (λ puts. map-filter (file_entry puts) (λ (row : TreeRow). not (path_eq row.path path)) (λ entry. not (stands_at entry_path path entry)) m.tree (each_all _ (λ row. refl) m.tree))
+    (λ puts. map-filter (file_entry puts) (λ (row : TreeRow). not (path_eq row.path path)) (λ entry. not (stands_at entry_path path entry)) m.tree (each_of_all _ (λ row. refl) m.tree))
     (omega arith) h
 
 pub history-removed : (m : MetaImage) (path : PathNames) (file : ℕ) → look_refusal (standing m.tree) path ≡ None → TreeIsHistory m → TreeIsHistory (apply m (RemoveFile path file))
@@ -112,7 +113,7 @@ unfolding apply write_entry with_slots take_path taken may_follow files_after fi
 history-removed m path file looks h =
     let k = history-more m (Wrote.Removed path) (take_path path m.tree) m.next_file
     (λ puts. is-none _ (ap (λ t. look_refusal t path) (standing-files puts m.tree) ∙ looks))
-    (λ puts. map-filter (file_entry puts) (λ (row : TreeRow). not (path_eq row.path path)) (λ entry. not (stands_at entry_path path entry)) m.tree (each_all _ (λ row. refl) m.tree))
+    (λ puts. map-filter (file_entry puts) (λ (row : TreeRow). not (path_eq row.path path)) (λ entry. not (stands_at entry_path path entry)) m.tree (each_of_all _ (λ row. refl) m.tree))
     (omega arith) h in
     record { files = k.files; legal = k.legal; numbers = k.numbers }
 
@@ -125,14 +126,14 @@ history-moved m from to may h =
     let is_moved : TreeRow → Bool = λ row. is_within from row.path in
     let entry_moved : FileEntry → Bool = λ entry. is_within from entry.path in
     map-placed_all (file_entry puts) (row_cmp row_path) (row_cmp entry_path) (entry-order puts) (map (λ (row : TreeRow). at_path (moved from to row.path) row) (filter is_moved m.tree)) (without is_moved m.tree)
-    ∙ (λ i. place_all (row_cmp entry_path) (both puts is_moved entry_moved i) (map-filter (file_entry puts) (λ row. not (is_moved row)) (λ entry. not (entry_moved entry)) m.tree (each_all _ (λ row. refl) m.tree) i)))
+    ∙ (λ i. place_all (row_cmp entry_path) (both puts is_moved entry_moved i) (map-filter (file_entry puts) (λ row. not (is_moved row)) (λ entry. not (entry_moved entry)) m.tree (each_of_all _ (λ row. refl) m.tree) i)))
     (omega arith) h
   where
     both : (puts : Puts) (is_moved : TreeRow → Bool) (entry_moved : FileEntry → Bool)
         → map (file_entry puts) (map (λ (row : TreeRow). at_path (moved from to row.path) row) (filter (λ (row : TreeRow). is_within from row.path) m.tree))
         ≡ map (λ (entry : FileEntry). entry_at (moved from to entry.path) entry) (filter (λ (entry : FileEntry). is_within from entry.path) (map (file_entry puts) m.tree))
     both puts is_moved entry_moved =
-        over puts (filter (λ (row : TreeRow). is_within from row.path) m.tree) ∙ ap (map (λ (entry : FileEntry). entry_at (moved from to entry.path) entry)) (map-filter (file_entry puts) (λ (row : TreeRow). is_within from row.path) (λ (entry : FileEntry). is_within from entry.path) m.tree (each_all _ (λ row. refl) m.tree))
+        over puts (filter (λ (row : TreeRow). is_within from row.path) m.tree) ∙ ap (map (λ (entry : FileEntry). entry_at (moved from to entry.path) entry)) (map-filter (file_entry puts) (λ (row : TreeRow). is_within from row.path) (λ (entry : FileEntry). is_within from entry.path) m.tree (each_of_all _ (λ row. refl) m.tree))
       where
         over : (puts : Puts) (rows : List TreeRow) → map (file_entry puts) (map (λ (row : TreeRow). at_path (moved from to row.path) row) rows) ≡ map (λ (entry : FileEntry). entry_at (moved from to entry.path) entry) (map (file_entry puts) rows)
         over puts [] = refl

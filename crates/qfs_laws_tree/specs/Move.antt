@@ -18,7 +18,8 @@ use Rattle.std.specs.Prelude.{IsTrue}
 use Rattle.qfs_base.specs.declared.lists.NameKind.TheVariants as Is
 use Rattle.qfs_base.specs.declared.reply.TreeRefusal.TheVariants as Not
 use Rattle.qfs_laws_slots.specs.SlotTable.{Onward}
-use Rattle.qfs_laws_tables.specs.EachRow.{each_all, each_both, each_filter, each_map, each_passes, each_weaker}
+use Rattle.qfs_base.specs.EachLaws.{each_filter, each_weaker}
+use Rattle.qfs_laws_tables.specs.EachRow.{each_of_all, each_both, each_map, each_passes}
 use Rattle.qfs_laws_tables.specs.InOrder.{filter_rises, map_rises-given}
 use Rattle.qfs_laws_tables.specs.Placed.{Apart, any-placed_all, each-placed_all, placed_all-rises, total-placed_all}
 use Rattle.qfs_laws_tables.specs.SomeRow.{any_filter, any_map}
@@ -89,7 +90,7 @@ module _ (from to : PathNames) (tree : List TreeRow) (next : ℕ) (h : HasTree n
   landed-rise = map_rises-given (λ row. is_moved row ≡ true) (row_cmp row_path) (λ (row : TreeRow). at_path (moved from to row.path) row) (λ a b p q. moved-order from to a b p q) (filter is_moved tree) (each_passes is_moved tree) (filter_rises (row_cmp row_path) is_moved tree h.in_order)
 
   landed-within : Each (λ (row : TreeRow). is_within to row.path ≡ true) landed
-  landed-within = each_map (λ _. Unit {0}) _ (λ (row : TreeRow). at_path (moved from to row.path) row) (λ row _. is-within to (moved from to row.path) (sym (take-append_seam to (drop (length from) row.path)))) (filter is_moved tree) (each_all _ (λ _. tt) (filter is_moved tree))
+  landed-within = each_map (λ _. Unit {0}) _ (λ (row : TreeRow). at_path (moved from to row.path) row) (λ row _. is-within to (moved from to row.path) (sym (take-append_seam to (drop (length from) row.path)))) (filter is_moved tree) (each_of_all _ (λ _. tt) (filter is_moved tree))
 
   landed-apart : Each (λ new. Apart (row_cmp row_path) new kept_rows) landed
   landed-apart = each_weaker _ _ (λ (new : TreeRow) is. each_weaker (λ (row : TreeRow). is_within to row.path ≡ false) _ (λ row off tie. true≢false (sym is ∙ ap (is_within to) (row-ties new row tie) ∙ off)) kept_rows (each_filter _ (λ row. not (is_moved row)) tree moves.free)) landed landed-within

@@ -12,7 +12,8 @@ use Rattle.std.specs.Prelude.{IsTrue, is_some, unwrap_or}
 use Rattle.qfs_base.specs.declared.lists.NameKind.TheVariants as Is
 use Rattle.qfs_laws_slots.specs.RowKeys.{has_file-is, own-file}
 use Rattle.qfs_laws_slots.specs.SlotTable.{Onward}
-use Rattle.qfs_laws_tables.specs.EachRow.{each_all, each_both, each_filter, each_passes, each_weaker}
+use Rattle.qfs_base.specs.EachLaws.{each_filter, each_weaker}
+use Rattle.qfs_laws_tables.specs.EachRow.{each_of_all, each_both, each_passes}
 use Rattle.qfs_laws_tables.specs.SomeRow.{any_change, any_each, any_filter, any_filter_given, any_of_change, any_of_filter, none_any}
 use Rattle.qfs_laws_tree.specs.Tree.{HasTree, file-one, rising-find}
 use Rattle.qfs_laws_tree.specs.TreeChanges.{any-added, closed-any, closed_test, stands-any, stands-some, stands_test}
@@ -180,7 +181,7 @@ removed-gone next path file tree looks root own h other stands =
     ones : (r : TreeRow) → find (stands_at row_path path) tree ≡ Some r → Each (λ (row : TreeRow). row.file ≡ r.file → 0 < r.file → row ≡ r) tree
     ones r is =
         ⊎_elim (λ some. each_weaker (λ (row : TreeRow). row.file ≡ r.file → row ≡ r) _ (λ row f own _. f own) tree (file-one r.file (stands_at row_path path) tree r some (h.once r.file) is refl))
-        (λ none. each_all _ (λ row _ some. absurd (omega arith)) tree) (cases_lt 0 r.file)
+        (λ none. each_of_all _ (λ row _ some. absurd (omega arith)) tree) (cases_lt 0 r.file)
 
 -- ---- a file is closed
 

@@ -14,7 +14,8 @@ use Rattle.std.specs.Prelude.{IsTrue}
 use Rattle.std.specs.declared.cmp.Ordering.TheVariants.{Less}
 use Rattle.qfs_base.specs.declared.lists.NameKind.TheVariants as Is
 use Rattle.qfs_laws_tables.specs.Distinct.{copies, distinct-once, once-distinct, one_if}
-use Rattle.qfs_laws_tables.specs.EachRow.{each-range, each_both, each_map, each_of_filter, each_of_map, each_weaker, range-each}
+use Rattle.qfs_base.specs.EachLaws.{each_weaker}
+use Rattle.qfs_laws_tables.specs.EachRow.{each-range, each_both, each_map, each_of_filter, each_of_map, range-each}
 use Rattle.qfs_laws_tables.specs.Keys.{less-not}
 use Rattle.qfs_laws_tables.specs.SomeRow.{any_each, found-any}
 use Rattle.qfs_laws_tables.specs.Sums.{found-le-total, none-total, total, total-filter, total-map, weigh_if}

@@ -11,7 +11,8 @@ use Rattle.std.specs.Prelude.{IsTrue, is_some}
 use Rattle.qfs_base.specs.declared.lists.NameKind.TheVariants as Is
 use Rattle.qfs_laws_slots.specs.RowKeys.{has_file-is, own-file}
 use Rattle.qfs_laws_tables.specs.Distinct.{one_if}
-use Rattle.qfs_laws_tables.specs.EachRow.{each_all, each_both, each_change, each_filter, each_place, each_weaker}
+use Rattle.qfs_base.specs.EachLaws.{each_filter, each_weaker}
+use Rattle.qfs_laws_tables.specs.EachRow.{each_of_all, each_both, each_change, each_place}
 use Rattle.qfs_laws_tables.specs.InOrder.{change_rises, filter_rises, place_rises}
 use Rattle.qfs_laws_tables.specs.Placed.{Apart, any-placed, total-placed_apart}
 use Rattle.qfs_laws_tables.specs.SomeRow.{any_change, any_each, any_filter, some-any}
@@ -131,7 +132,7 @@ tree-filtered next P keep tree each still h = record {
 pub tree-without_file : (next file : ℕ) (tree : List TreeRow) → 0 < file → HasTree next tree → HasTree next (take_file file tree)
 unfolding take_file
 tree-without_file next file tree some h =
-    tree-filtered next (λ _. Unit {0}) (λ (row : TreeRow). not (has_file file row)) tree (each_all _ (λ _. tt) tree)
+    tree-filtered next (λ _. Unit {0}) (λ (row : TreeRow). not (has_file file row)) tree (each_of_all _ (λ _. tt) tree)
     (λ row n _ low high has. any_filter (is_directory_at (take n row.path)) (λ (row : TreeRow). not (has_file file row)) (λ d is. let z : d.file ≡ 0 = eqb-true d.file 0 (and_parts _ _ is).1 in differs d z) tree has) h
   where
     apart : (n : ℕ) → n ≡ 0 → not (n == file) ≡ true
@@ -155,7 +156,7 @@ taken-path next path P tree each none h =
 
 pub tree-removed : (next : ℕ) (path : PathNames) (tree : List TreeRow) → look_refusal (standing tree) path ≡ None → HasTree next tree → HasTree next (take_path path tree)
 tree-removed next path tree looks h =
-    taken-path next path (λ _. Unit {0}) tree (each_all _ (λ _. tt) tree)
+    taken-path next path (λ _. Unit {0}) tree (each_of_all _ (λ _. tt) tree)
     (λ row n _ high low has same.
     let closed = look-closed (standing tree) path looks in
     let there : kind_at (standing tree) path ≡ Some Is.Directory = subst (λ p. kind_at (standing tree) p ≡ Some Is.Directory) same (directory-kind tree (take n row.path) h.in_order has) in

@@ -17,7 +17,8 @@ use Rattle.std.specs.declared.cmp.Ordering.{Ordering}
 use Rattle.std.specs.declared.cmp.Ordering.TheVariants.{Equal, Greater, Less}
 use Rattle.qfs_base.specs.declared.lists.NameKind.TheVariants as Is
 use Rattle.qfs_base.specs.declared.reply.TreeRefusal.TheVariants as Not
-use Rattle.qfs_laws_tables.specs.EachRow.{each_all, each_weaker, found_has, none_found}
+use Rattle.qfs_base.specs.EachLaws.{each_weaker}
+use Rattle.qfs_laws_tables.specs.EachRow.{each_of_all, found_has, none_found}
 
 -- ---- paths
 
@@ -122,7 +123,7 @@ kind-row tree (name ∷ names) kind root at = one (find (stands_at row_path (nam
   where
     one : (o : Option TreeRow) → find (stands_at row_path (name ∷ names)) tree ≡ o → option_map kind_in o ≡ Some kind → (row : TreeRow) × (find (stands_at row_path (name ∷ names)) tree ≡ Some row) × (row.path ≡ name ∷ names) × (kind_in row ≡ kind)
     one None is at = absurd (cc)
-    one (Some row) is at = (row, is, path-is row.path (name ∷ names) (found_has (λ _. Unit {0}) (stands_at row_path (name ∷ names)) tree row is (each_all (λ _. Unit {0}) (λ _. tt) tree)).1, cc)
+    one (Some row) is at = (row, is, path-is row.path (name ∷ names) (found_has (λ _. Unit {0}) (stands_at row_path (name ∷ names)) tree row is (each_of_all (λ _. Unit {0}) (λ _. tt) tree)).1, cc)
 
 -- where nothing stands, no row is
 pub none-at : (tree : List TreeRow) (path : PathNames) → kind_at (standing tree) path ≡ None → (path ≢ []) × Each (λ row. path_eq row.path path ≡ false) tree
