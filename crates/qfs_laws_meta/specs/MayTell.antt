@@ -44,7 +44,8 @@ TellsChange refusal now reply = ⊥
 
 abbrev pub TellsNames : MetaImage → PathNames → MetaReply → Type 0
 TellsNames m path (Told.Names place names) =
-    (directory_refusal (standing m.tree) path ≡ None) × (place ≡ length m.history) × (names ≡ names_below (standing m.tree) path)
+    (directory_refusal (standing m.tree) path ≡ None) × (place ≡ length m.history)
+    × (names ≡ names_below (standing m.tree) path)
 TellsNames m path (Told.Refused why place) =
     (directory_refusal (standing m.tree) path ≡ Some why) × (place ≡ length m.history)
 TellsNames m path reply = ⊥
@@ -88,7 +89,8 @@ abbrev pub TellsGrant : Shape → ℕ → BlockId → ℕ → Bool → MetaImage
 TellsGrant layout actor block slot again m (Told.Granted g) = IsPutGrant layout actor block slot m g
 TellsGrant layout actor block slot again m Told.Gone = unclosed_file actor block.file m.tree ≡ None
 TellsGrant layout actor block slot again m Told.NoBlock = IsBeyond layout actor block m
-TellsGrant layout actor block slot again m (Told.Taken version) = (again ≡ false) × IsTaken m.slots block slot version
+TellsGrant layout actor block slot again m (Told.Taken version) =
+    (again ≡ false) × IsTaken m.slots block slot version
 TellsGrant layout actor block slot again m (Told.NoServer other at) = (other ≡ block) × (at ≡ slot)
 TellsGrant layout actor block slot again m reply = ⊥
 
@@ -106,9 +108,11 @@ pub record IsIncomplete (layout : Shape) (actor file : ℕ) (m : MetaImage) (ind
   pub at : (index ≡ id.block.index) × (slot ≡ id.slot)
 
 abbrev pub TellsClosed : Shape → ℕ → ℕ → MetaImage → MetaReply → Type 0
-TellsClosed layout actor file m (Told.Done place) = (place ≡ length m.history) × IsComplete layout actor file m
+TellsClosed layout actor file m (Told.Done place) =
+    (place ≡ length m.history) × IsComplete layout actor file m
 TellsClosed layout actor file m Told.Gone = unclosed_file actor file m.tree ≡ None
-TellsClosed layout actor file m (Told.Incomplete index slot) = IsIncomplete layout actor file m index slot
+TellsClosed layout actor file m (Told.Incomplete index slot) =
+    IsIncomplete layout actor file m index slot
 TellsClosed layout actor file m reply = ⊥
 
 abbrev pub TellsAborted : ℕ → ℕ → MetaImage → MetaReply → Type 0
@@ -118,7 +122,8 @@ TellsAborted actor file m Told.Gone = unclosed_file actor file m.tree ≡ None
 TellsAborted actor file m reply = ⊥
 
 abbrev pub TellsReleased : ℕ → ℕ → MetaImage → MetaReply → Type 0
-TellsReleased actor lease m (Told.Done place) = (place ≡ length m.history) × (holds_lease actor lease m.leases ≡ true)
+TellsReleased actor lease m (Told.Done place) =
+    (place ≡ length m.history) × (holds_lease actor lease m.leases ≡ true)
 TellsReleased actor lease m Told.Gone = holds_lease actor lease m.leases ≡ false
 TellsReleased actor lease m reply = ⊥
 
@@ -127,21 +132,26 @@ TellsReleased actor lease m reply = ⊥
 -- a grant under the next lease, with these sources
 abbrev pub IsLeasedGrant : Shape → BlockId → ℕ → NineCopies → MetaImage → Granted → Type 0
 IsLeasedGrant layout block slot sources m g =
-    (server : ℕ) × (g ≡ new_grant layout (closed_len (closed_file block.file m.tree)) block slot server m.next_lease sources m)
+    (server : ℕ) × (g ≡ new_grant layout (closed_len (closed_file block.file m.tree)) block slot
+    server m.next_lease sources m)
 
 abbrev pub TellsRecovery : Shape → PathNames → BlockId → ℕ → MetaImage → MetaReply → Type 0
 TellsRecovery layout path block slot m (Told.Granted g) =
     IsLeasedGrant layout block slot (listed_others m.servers m.slots block slot) m g
-TellsRecovery layout path block slot m (Told.BadPath why) = look_refusal (standing m.tree) path ≡ Some why
-TellsRecovery layout path block slot m Told.NoBlock = nat_lt block.index (block_count layout (row_at m.tree path).len) ≡ false
+TellsRecovery layout path block slot m (Told.BadPath why) =
+    look_refusal (standing m.tree) path ≡ Some why
+TellsRecovery layout path block slot m Told.NoBlock =
+    nat_lt block.index (block_count layout (row_at m.tree path).len) ≡ false
 TellsRecovery layout path block slot m (Told.Taken version) = IsTaken m.slots block slot version
-TellsRecovery layout path block slot m Told.Whole = is_missing m.clock m.servers (slot_at m.slots block slot).current ≡ false
+TellsRecovery layout path block slot m Told.Whole =
+    is_missing m.clock m.servers (slot_at m.slots block slot).current ≡ false
 TellsRecovery layout path block slot m (Told.NoServer other at) = (other ≡ block) × (at ≡ slot)
 TellsRecovery layout path block slot m reply = ⊥
 
 abbrev pub TellsHeal : Shape → Option SlotId → MetaImage → MetaReply → Type 0
 TellsHeal layout after m (Told.Granted g) =
-    (id : SlotId) × (next_to_heal layout after m ≡ Some id) × IsLeasedGrant layout id.block id.slot (listed_others m.servers m.slots id.block id.slot) m g
+    (id : SlotId) × (next_to_heal layout after m ≡ Some id) × IsLeasedGrant layout id.block id.slot
+    (listed_others m.servers m.slots id.block id.slot) m g
 TellsHeal layout after m Told.Nothing = next_to_heal layout after m ≡ None
 TellsHeal layout after m (Told.NoServer other at) =
     (id : SlotId) × (next_to_heal layout after m ≡ Some id) × (other ≡ id.block) × (at ≡ id.slot)
@@ -150,39 +160,50 @@ TellsHeal layout after m reply = ⊥
 -- the copy that moves is the current one, and the only source
 abbrev pub IsMoveGrant : Shape → BlockId → ℕ → MetaImage → Granted → Type 0
 IsMoveGrant layout block slot m g =
-    (copy : Copy) × ((slot_at m.slots block slot).current ≡ Some copy) × IsLeasedGrant layout block slot (one_source slot copy) m g
+    (copy : Copy) × ((slot_at m.slots block slot).current ≡ Some copy) × IsLeasedGrant layout block
+    slot (one_source slot copy) m g
 
 abbrev pub TellsMove : Shape → PathNames → BlockId → ℕ → ℕ → MetaImage → MetaReply → Type 0
 TellsMove layout path block slot to m (Told.Granted g) = IsMoveGrant layout block slot m g
-TellsMove layout path block slot to m (Told.BadPath why) = look_refusal (standing m.tree) path ≡ Some why
+TellsMove layout path block slot to m (Told.BadPath why) =
+    look_refusal (standing m.tree) path ≡ Some why
 TellsMove layout path block slot to m Told.NoBlock =
-    (nat_lt block.index (block_count layout (row_at m.tree path).len) ≡ false) ⊎ ((slot_at m.slots block slot).current ≡ None)
+    (nat_lt block.index (block_count layout (row_at m.tree path).len) ≡ false)
+    ⊎ ((slot_at m.slots block slot).current ≡ None)
 TellsMove layout path block slot to m (Told.Taken version) = IsTaken m.slots block slot version
 TellsMove layout path block slot to m (Told.Away server) =
-    (copy : Copy) × ((slot_at m.slots block slot).current ≡ Some copy) × (is_listed m.servers copy ≡ false) × (server ≡ copy.server)
-TellsMove layout path block slot to m (Told.Barred server) = (may_get m.servers m.slots block to ≡ false) × (server ≡ to)
+    (copy : Copy) × ((slot_at m.slots block slot).current ≡ Some copy)
+    × (is_listed m.servers copy ≡ false) × (server ≡ copy.server)
+TellsMove layout path block slot to m (Told.Barred server) =
+    (may_get m.servers m.slots block to ≡ false) × (server ≡ to)
 TellsMove layout path block slot to m reply = ⊥
 
 abbrev pub TellsEvacuation : Shape → ℕ → Option SlotId → MetaImage → MetaReply → Type 0
 TellsEvacuation layout server after m (Told.Granted g) =
-    (row : SlotRow) × (next_to_move layout server after m ≡ Some row) × IsLeasedGrant layout row.block row.slot (move_source row.slot row.state.current) m g
+    (row : SlotRow) × (next_to_move layout server after m ≡ Some row) × IsLeasedGrant layout
+    row.block row.slot (move_source row.slot row.state.current) m g
 TellsEvacuation layout server after m Told.Nothing = next_to_move layout server after m ≡ None
 TellsEvacuation layout server after m (Told.NoServer other at) =
-    (row : SlotRow) × (next_to_move layout server after m ≡ Some row) × (other ≡ row.block) × (at ≡ row.slot)
+    (row : SlotRow) × (next_to_move layout server after m ≡ Some row) × (other ≡ row.block)
+    × (at ≡ row.slot)
 TellsEvacuation layout server after m reply = ⊥
 
 abbrev pub TellsBalance : Shape → MetaImage → MetaReply → Type 0
 TellsBalance layout m (Told.Granted g) =
-    (row : SlotRow) × (test : SlotRow → Bool) × (find test m.slots ≡ Some row) × IsLeasedGrant layout row.block row.slot (move_source row.slot row.state.current) m g
+    (row : SlotRow) × (test : SlotRow → Bool) × (find test m.slots ≡ Some row) × IsLeasedGrant
+    layout row.block row.slot (move_source row.slot row.state.current) m g
 TellsBalance layout m Told.Nothing = ⊤
 TellsBalance layout m reply = ⊥
 
 abbrev pub TellsConfirmed : ℕ → BlockId → ℕ → ℕ → ℕ → MetaImage → MetaReply → Type 0
 TellsConfirmed actor block slot version lease m Told.Confirmed =
-    may_confirm actor version lease (closed_file block.file m.tree) (slot_at m.slots block slot).grant ≡ true
-TellsConfirmed actor block slot version lease m Told.Vanished = file_stands block.file m.tree ≡ false
+    may_confirm actor version lease (closed_file block.file m.tree)
+    (slot_at m.slots block slot).grant ≡ true
+TellsConfirmed actor block slot version lease m Told.Vanished =
+    file_stands block.file m.tree ≡ false
 TellsConfirmed actor block slot version lease m (Told.Stale held given) =
-    (may_confirm actor version lease (closed_file block.file m.tree) (slot_at m.slots block slot).grant ≡ false)
+    (may_confirm actor version lease (closed_file block.file m.tree)
+    (slot_at m.slots block slot).grant ≡ false)
     × (held ≡ pending_version (slot_at m.slots block slot).grant) × (given ≡ version)
 TellsConfirmed actor block slot version lease m reply = ⊥
 
@@ -194,14 +215,17 @@ TellsDone m reply = ⊥
 
 abbrev pub TellsOrder : ℕ → MetaImage → MetaReply → Type 0
 TellsOrder after m (Told.Ordered c turn) =
-    (row : CondemnedRow) × (next_to_go m.servers after m.condemned ≡ Some row) × (c ≡ row.condemned) × (turn ≡ m.turn)
+    (row : CondemnedRow) × (next_to_go m.servers after m.condemned ≡ Some row) × (c ≡ row.condemned)
+    × (turn ≡ m.turn)
 TellsOrder after m Told.Nothing = next_to_go m.servers after m.condemned ≡ None
 TellsOrder after m reply = ⊥
 
 abbrev pub TellsHello : ℕ → ℕ → MetaImage → MetaReply → Type 0
-TellsHello server life m (Told.Done place) = (nat_le (server_at m.servers server).life life ≡ true) × (place ≡ length m.history)
+TellsHello server life m (Told.Done place) =
+    (nat_le (server_at m.servers server).life life ≡ true) × (place ≡ length m.history)
 TellsHello server life m (Told.Old known) =
-    (nat_le (server_at m.servers server).life life ≡ false) × (known ≡ (server_at m.servers server).life)
+    (nat_le (server_at m.servers server).life life ≡ false)
+    × (known ≡ (server_at m.servers server).life)
 TellsHello server life m reply = ⊥
 
 abbrev pub TellsSleep : ℕ → ℕ → MetaImage → MetaReply → Type 0
@@ -215,7 +239,8 @@ TellsClock m (Told.Clock now) = now ≡ min (m.clock + 1) LAST_U64
 TellsClock m reply = ⊥
 
 abbrev pub TellsLeft : ℕ → MetaImage → MetaReply → Type 0
-TellsLeft server m (Told.Left count) = count ≡ count_on server (server_at m.servers server).life m.slots
+TellsLeft server m (Told.Left count) =
+    count ≡ count_on server (server_at m.servers server).life m.slots
 TellsLeft server m reply = ⊥
 
 abbrev pub TellsSaved : MetaImage → MetaReply → Type 0
@@ -228,10 +253,14 @@ TellsRestarted m reply = ⊥
 
 -- what a request of an actor may be answered in this state, but for the answers that any request may get
 abbrev pub MayTell : Rules → ℕ → MetaImage → MetaReply → MetaRequest → Type 0
-MayTell rules actor m reply (Ask.Mkdir path) = TellsChange (add_refusal (standing m.tree) path) (length m.history) reply
-MayTell rules actor m reply (Ask.Rmdir path) = TellsChange (rmdir_refusal (standing m.tree) path) (length m.history) reply
-MayTell rules actor m reply (Ask.Remove path) = TellsChange (look_refusal (standing m.tree) path) (length m.history) reply
-MayTell rules actor m reply (Ask.Rename from to) = TellsChange (rename_refusal (standing m.tree) from to) (length m.history) reply
+MayTell rules actor m reply (Ask.Mkdir path) =
+    TellsChange (add_refusal (standing m.tree) path) (length m.history) reply
+MayTell rules actor m reply (Ask.Rmdir path) =
+    TellsChange (rmdir_refusal (standing m.tree) path) (length m.history) reply
+MayTell rules actor m reply (Ask.Remove path) =
+    TellsChange (look_refusal (standing m.tree) path) (length m.history) reply
+MayTell rules actor m reply (Ask.Rename from to) =
+    TellsChange (rename_refusal (standing m.tree) from to) (length m.history) reply
 MayTell rules actor m reply (Ask.Create path command len) = TellsCreated m path reply
 MayTell rules actor m reply (Ask.Grant file index slot again) =
     TellsGrant rules.layout actor (record { file = file; index = index }) slot again m reply
@@ -240,13 +269,17 @@ MayTell rules actor m reply (Ask.Abort file) = TellsAborted actor file m reply
 MayTell rules actor m reply (Ask.OpenFile path) = TellsOpened rules m path reply
 MayTell rules actor m reply (Ask.Release lease) = TellsReleased actor lease m reply
 MayTell rules actor m reply (Ask.RecoverAt path index slot) =
-    TellsRecovery rules.layout path (record { file = (row_at m.tree path).file; index = index }) slot m reply
+    TellsRecovery rules.layout path (record { file = (row_at m.tree path).file; index = index })
+    slot m reply
 MayTell rules actor m reply (Ask.HealNext after) = TellsHeal rules.layout after m reply
 MayTell rules actor m reply (Ask.MoveAt path index slot to) =
-    TellsMove rules.layout path (record { file = (row_at m.tree path).file; index = index }) slot to m reply
-MayTell rules actor m reply (Ask.EvacNext server after) = TellsEvacuation rules.layout server after m reply
+    TellsMove rules.layout path (record { file = (row_at m.tree path).file; index = index }) slot to
+    m reply
+MayTell rules actor m reply (Ask.EvacNext server after) =
+    TellsEvacuation rules.layout server after m reply
 MayTell rules actor m reply Ask.BalanceNext = TellsBalance rules.layout m reply
-MayTell rules actor m reply (Ask.Confirm block slot version lease) = TellsConfirmed actor block slot version lease m reply
+MayTell rules actor m reply (Ask.Confirm block slot version lease) =
+    TellsConfirmed actor block slot version lease m reply
 MayTell rules actor m reply (Ask.Abandon block slot version lease) = TellsDone m reply
 MayTell rules actor m reply (Ask.OrderNext after) = TellsOrder after m reply
 MayTell rules actor m reply (Ask.Swept number) = TellsDone m reply

@@ -29,24 +29,29 @@ served rules m a = meta_step rules a.actor a.request a.outcome m
 abbrev pub MayRun : Rules → Past → MetaImage → List Asking → Type 0
 MayRun rules past m [] = ⊤
 MayRun rules past m (a ∷ as') =
-    IsActor a.actor × MayAsk past a.request × MayRun rules (remember a.actor past (served rules m a).reply) (served rules m a).meta as'
+    IsActor a.actor × MayAsk past a.request × MayRun rules
+    (remember a.actor past (served rules m a).reply) (served rules m a).meta as'
 
 -- the state after them keeps to what was told
 abbrev pub EndsSound : Rules → Past → MetaImage → List Asking → Type 0
 EndsSound rules past m [] = IsSound past m
-EndsSound rules past m (a ∷ as') = EndsSound rules (remember a.actor past (served rules m a).reply) (served rules m a).meta as'
+EndsSound rules past m (a ∷ as') =
+    EndsSound rules (remember a.actor past (served rules m a).reply) (served rules m a).meta as'
 
-with-one : (copy : SlotCopy) (past : Past) → length (with_copy copy past).granted ≤ length past.granted + 1
+with-one : (copy : SlotCopy) (past : Past)
+    → length (with_copy copy past).granted ≤ length past.granted + 1
 unfolding with_copy
 with-one copy past = omega (arith, length-append past.granted (copy ∷ []))
 
-grant-one : (actor : ℕ) (g : Granted) (past : Past) (b : Bool) → length (with_grant actor g past b).granted ≤ length past.granted + 1
+grant-one : (actor : ℕ) (g : Granted) (past : Past) (b : Bool)
+    → length (with_grant actor g past b).granted ≤ length past.granted + 1
 unfolding with_grant with_lease
 grant-one actor g past true = with-one _ past
 grant-one actor g past false = with-one _ past
 
 -- a reply tells at most one grant
-pub one-more : (actor : ℕ) (past : Past) (reply : MetaReply) → length (remember actor past reply).granted ≤ length past.granted + 1
+pub one-more : (actor : ℕ) (past : Past) (reply : MetaReply)
+    → length (remember actor past reply).granted ≤ length past.granted + 1
 unfolding remember with_lease
 one-more actor past (Told.Granted g) = grant-one actor g past (is_of_put g)
 one-more actor past (Told.Opened o) = omega arith
@@ -58,10 +63,13 @@ one-more actor past _ = omega arith
 abbrev pub RunsStaySound : Type 0
 RunsStaySound =
     (rules : Rules) (past : Past) (m : MetaImage) (asked : List Asking) → IsSound past m
-    → length past.granted + length asked + 1 < LAST_U32 → MayRun rules past m asked → EndsSound rules past m asked
+    → length past.granted + length asked + 1 < LAST_U32 → MayRun rules past m asked → EndsSound
+    rules past m asked
 
 pub run-sound : RunsStaySound
 run-sound rules past m [] sound short may = sound
 run-sound rules past m (a ∷ as') sound short may =
     let more = one-more a.actor past (served rules m a).reply in
-    run-sound rules (remember a.actor past (served rules m a).reply) (served rules m a).meta as' (stays-sound rules a.actor a.request a.outcome past m sound (omega arith) may.0 may.1) (omega arith) may.2
+    run-sound rules (remember a.actor past (served rules m a).reply) (served rules m a).meta as'
+    (stays-sound rules a.actor a.request a.outcome past m sound (omega arith) may.0 may.1)
+    (omega arith) may.2

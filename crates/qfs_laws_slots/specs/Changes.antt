@@ -25,7 +25,9 @@ use Rattle.qfs_laws_tables.specs.Distinct.{copies}
 -- what is told of a change, before the reply lists copies or orders a deletion
 abbrev pub told : Change → MetaImage → Past → Past
 told (GrantSlot block slot server actor lease) m past =
-    with_copy (record { block = block; slot = slot; copy = record { server = server; life = (server_at m.servers server).life; version = (slot_at m.slots block slot).next } }) past
+    with_copy (record { block = block; slot = slot; copy = record
+    { server = server; life = (server_at m.servers server).life; version =
+    (slot_at m.slots block slot).next } }) past
 told (GiveLease actor file until) m past =
     record past { leases = past.leases ++ record { lease = m.next_lease; actor = actor; file = file } ∷ [] }
 told _ m past = past
@@ -48,13 +50,15 @@ pub record MayClose (m : MetaImage) (file actor command : ℕ) : Type 0 where
   pub number : file ≤ LAST_U32
 
 pub record MayAbort (m : MetaImage) (file : ℕ) : Type 0 where
-  pub unclosed : IsTrue (list_any (λ (row : TreeRow). is_unclosed_row row && has_file file row) m.tree)
+  pub unclosed : IsTrue (list_any (λ (row : TreeRow). is_unclosed_row row && has_file file row)
+      m.tree)
   pub number : file ≤ LAST_U32
 
 pub record MayRemove (m : MetaImage) (path : PathNames) (file : ℕ) : Type 0 where
   pub closed : look_refusal (standing m.tree) path ≡ None
   pub at : (row_at m.tree path).file ≡ file
-  pub bare : (block : BlockId) (slot : ℕ) → block.file ≡ file → (slot_at m.slots block slot).current ≡ None
+  pub bare : (block : BlockId) (slot : ℕ) → block.file ≡ file
+      → (slot_at m.slots block slot).current ≡ None
 
 pub record MayMove (m : MetaImage) (from to : PathNames) : Type 0 where
   pub is_path : IsPath to
@@ -71,7 +75,8 @@ pub record MayGrant (m : MetaImage) (block : BlockId) (slot server actor lease :
   pub lease_given : lease < m.next_lease
 
 pub record MayCondemn (past : Past) (m : MetaImage) (server life : ℕ) (key : ChunkKey) : Type 0 where
-  pub granted : IsTrue (was_granted past.granted key.block key.slot (record { server = server; life = life; version = key.version }))
+  pub granted : IsTrue (was_granted past.granted key.block key.slot
+      (record { server = server; life = life; version = key.version }))
   pub slot_number : key.slot < SLOTS
   pub server_number : IsServer (length m.servers) server
 
@@ -92,9 +97,11 @@ MayMake past m (GrantSlot block slot server actor lease) = MayGrant m block slot
 MayMake past m (ConfirmSlot block slot) = IsTrue (is_some (closed_file block.file m.tree))
 MayMake past m (GiveLease actor file until) = IsActor actor
 MayMake past m (DropActor actor) = IsActor actor
-MayMake past m (MarkOrdered number) = Each (λ (row : CondemnedRow). row.condemned.number ≡ number → row.blockers ≡ []) m.condemned
+MayMake past m (MarkOrdered number) =
+    Each (λ (row : CondemnedRow). row.condemned.number ≡ number → row.blockers ≡ []) m.condemned
 MayMake past m (CondemnStray server life key) = MayCondemn past m server life key
-MayMake past m (ServerUp server life) = IsServer (length m.servers) server × ((server_at m.servers server).life ≤ life)
+MayMake past m (ServerUp server life) =
+    IsServer (length m.servers) server × ((server_at m.servers server).life ≤ life)
 MayMake past m (ServerDown server) = IsServer (length m.servers) server
 MayMake past m (ServerLeaves server) = IsServer (length m.servers) server
 MayMake past m (ServerSleeps server until) = IsServer (length m.servers) server

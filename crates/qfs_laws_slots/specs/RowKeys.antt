@@ -16,12 +16,15 @@ is_lease-is number lease = key-is number lease.lease
 pub own-lease : (number : ℕ) (lease : Lease) → is_lease number lease ≡ true → lease.lease ≡ number
 own-lease number lease is = eqb-true lease.lease number (sym (is_lease-is number lease) ∙ is)
 
-pub is_numbered-is : (number : ℕ) (row : CondemnedRow) → is_numbered number row ≡ (row.condemned.number == number)
+pub is_numbered-is : (number : ℕ) (row : CondemnedRow)
+    → is_numbered number row ≡ (row.condemned.number == number)
 unfolding is_numbered
 is_numbered-is number row = key-is number row.condemned.number
 
-pub own-number : (number : ℕ) (row : CondemnedRow) → is_numbered number row ≡ true → row.condemned.number ≡ number
-own-number number row is = eqb-true row.condemned.number number (sym (is_numbered-is number row) ∙ is)
+pub own-number : (number : ℕ) (row : CondemnedRow) → is_numbered number row ≡ true
+    → row.condemned.number ≡ number
+own-number number row is =
+    eqb-true row.condemned.number number (sym (is_numbered-is number row) ∙ is)
 
 pub has_file-is : (file : ℕ) (row : TreeRow) → has_file file row ≡ (row.file == file)
 unfolding has_file

@@ -122,10 +122,12 @@ none-is (Some x) e = absurd (true≢false (sym e))
 pub each-self : {X : Type 0} (Q : X → Type 0) (R : X → X → Bool) → ((x : X) → Q x → R x x ≡ true)
     → (xs : List X) → Each Q xs → Each (λ x. list_any (R x) xs ≡ true) xs
 each-self Q R own [] each = tt
-each-self Q R own (x ∷ xs) each =
-    (ap (λ b. b || list_any (R x) xs) (own x each.0), each_weaker (λ y. list_any (R y) xs ≡ true)
-    (λ y. (R y x || list_any (R y) xs) ≡ true) (λ y any. or_true (R y x) _ any) xs
-    (each-self Q R own xs each.1))
+each-self Q R own (x ∷ xs) each = (
+  ap (λ b. b || list_any (R x) xs) (own x each.0),
+  each_weaker (λ y. list_any (R y) xs ≡ true)
+      (λ y. (R y x || list_any (R y) xs) ≡ true) (λ y any. or_true (R y x) _ any) xs
+      (each-self Q R own xs each.1),
+)
   where
     or_true : (a b : Bool) → b ≡ true → (a || b) ≡ true
     or_true true b e = refl
@@ -150,9 +152,11 @@ range-each P from (suc n) each i low high =
 pub each-range : (P : ℕ → Type 0) (from n : ℕ) → ((i : ℕ) → from ≤ i → i < from + n → P i)
     → Each P (range_with_len from n)
 each-range P from zero h = tt
-each-range P from (suc n) h =
-    (h from (omega arith) (omega arith), each-range P (from + 1) n
-    (λ i a b. h i (omega arith) (omega arith)))
+each-range P from (suc n) h = (
+  h from (omega arith) (omega arith),
+  each-range P (from + 1) n
+      (λ i a b. h i (omega arith) (omega arith)),
+)
 
 pub is-none : {X : Type 0} (o : Option X) → o ≡ None → is_none o ≡ true
 is-none None e = refl

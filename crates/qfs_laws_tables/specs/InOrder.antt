@@ -29,9 +29,12 @@ module _ {X : Type 0} {order : X → X → Ordering} (total : IsTotalOrder order
       (place_before new row rows (place order new rows) o)) [
         | Less ↦ λ below. ((below, above_too new row rows below rising.0), rising)
         | Equal ↦ λ same. (in_its_place new row rows same rising.0, rising.1)
-        | Greater ↦ λ above. (each_place _ order new rows
-            (total.antisymm row new ∙ ap ordering_reverse above) rising.0, place_rises new rows
-            rising.1)
+        | Greater ↦ λ above. (
+          each_place _ order new rows
+              (total.antisymm row new ∙ ap ordering_reverse above) rising.0,
+          place_rises new rows
+              rising.1,
+        )
       ] refl
 
 pub filter_rises : {X : Type 0} (order : X → X → Ordering) (test : X → Bool) (rows : List X)
@@ -50,12 +53,12 @@ pub change_rises : {X : Type 0} (order : X → X → Ordering) (test : X → Boo
 change_rises order test f left right [] rising = tt
 change_rises order test f left right (row ∷ rows) rising =
     let later : Each (λ later. order row later ≡ Less) (change_where test f rows) = each_change _ _
-        test f (λ x _ above. right row x ∙ above) (λ x _ above. above) rows rising.0 in (
+    test f (λ x _ above. right row x ∙ above) (λ x _ above. above) rows rising.0 in (
       elim (test row) as (λ b. Each (λ later. order (change_row f row b) later ≡ Less)
-      (change_where test f rows)) [
-        | true ↦ each_weaker _ _ (λ x above. left row x ∙ above) (change_where test f rows) later
-        | false ↦ later
-      ],
+          (change_where test f rows)) [
+            | true ↦ each_weaker _ _ (λ x above. left row x ∙ above) (change_where test f rows) later
+            | false ↦ later
+          ],
       change_rises order test f left right rows rising.1,
     )
 
@@ -63,9 +66,11 @@ pub map_rises : {X : Type 0} (order : X → X → Ordering) (f : X → X)
     → ((a b : X) → order (f a) (f b) ≡ order a b) → (rows : List X) → IsRising order rows
     → IsRising order (map f rows)
 map_rises order f same [] rising = tt
-map_rises order f same (row ∷ rows) rising =
-    (each_map _ _ f (λ later above. same row later ∙ above) rows rising.0, map_rises order f same
-    rows rising.1)
+map_rises order f same (row ∷ rows) rising = (
+  each_map _ _ f (λ later above. same row later ∙ above) rows rising.0,
+  map_rises order f same
+      rows rising.1,
+)
 
 pub push_rises : {X : Type 0} (order : X → X → Ordering) (rows : List X) (new : X)
     → IsRising order rows → Each (λ row. order row new ≡ Less) rows
@@ -79,11 +84,13 @@ pub map_rises-given : {X : Type 0} (P : X → Type 0) (order : X → X → Order
     → ((a b : X) → P a → P b → order (f a) (f b) ≡ order a b) → (rows : List X) → Each P rows
     → IsRising order rows → IsRising order (map f rows)
 map_rises-given P order f same [] each rising = tt
-map_rises-given P order f same (row ∷ rows) each rising =
-    (each_map (λ later. P later × (order row later ≡ Less)) _ f
-    (λ later b. same row later each.0 b.0 ∙ b.1) rows
-    (each_both P (λ later. order row later ≡ Less) rows each.1 rising.0), map_rises-given P order f
-    same rows each.1 rising.1)
+map_rises-given P order f same (row ∷ rows) each rising = (
+  each_map (λ later. P later × (order row later ≡ Less)) _ f
+      (λ later b. same row later each.0 b.0 ∙ b.1) rows
+      (each_both P (λ later. order row later ≡ Less) rows each.1 rising.0),
+  map_rises-given P order f
+      same rows each.1 rising.1,
+)
 
 pub each_inserted : (P : ℕ → Type 0) (ks : List ℕ) (k : ℕ) → P k → Each P ks
     → Each P (insert_key nat_cmp ks k)
@@ -102,12 +109,21 @@ inserted_rises [] k rising = (tt, tt)
 inserted_rises (x ∷ xs) k rising =
     elim (nat_cmp k x) as (λ r. nat_cmp k x ≡ r → IsRising nat_cmp
     (match_ordering r (k ∷ x ∷ xs) (x ∷ xs) (x ∷ insert_key nat_cmp xs k))) [
-      | Less ↦ λ below. ((below, each_weaker _ _
-          (λ later above. nat_cmp_total.trans k x later below above) xs rising.0), rising)
+      | Less ↦ λ below. (
+        (
+          below,
+          each_weaker _ _
+              (λ later above. nat_cmp_total.trans k x later below above) xs rising.0,
+        ),
+        rising,
+      )
       | Equal ↦ λ _. rising
-      | Greater ↦ λ above. (each_inserted _ xs k
-          (nat_cmp_total.antisymm x k ∙ ap ordering_reverse above) rising.0, inserted_rises xs k
-          rising.1)
+      | Greater ↦ λ above. (
+        each_inserted _ xs k
+            (nat_cmp_total.antisymm x k ∙ ap ordering_reverse above) rising.0,
+        inserted_rises xs k
+            rising.1,
+      )
     ] refl
 
 pub numbers-rise : (news rows : List ℕ) → IsRising nat_cmp rows

@@ -53,10 +53,12 @@ module _ {X : Type 0} {order : X → X → Ordering} (total_order : IsTotalOrder
   still-apart : (new : X) (news rows : List X) → Each (λ later. order new later ≡ Less) news
       → AllApart news rows → AllApart news (place order new rows)
   still-apart new [] rows above apart = tt
-  still-apart new (next ∷ news) rows above apart =
-      (each_place (λ row. order next row ≡ Equal → ⊥) order new rows
-      (λ tie. less-not (sym above.0 ∙ total_order.antisymm new next ∙ ap ordering_reverse tie))
-      apart.0, still-apart new news rows above.1 apart.1)
+  still-apart new (next ∷ news) rows above apart = (
+    each_place (λ row. order next row ≡ Equal → ⊥) order new rows
+        (λ tie. less-not (sym above.0 ∙ total_order.antisymm new next ∙ ap ordering_reverse tie))
+        apart.0,
+    still-apart new news rows above.1 apart.1,
+  )
 
   pub any-placed_all : (test : X → Bool) (news rows : List X) → IsRising order news
       → AllApart news rows
@@ -79,7 +81,7 @@ module _ {X : Type 0} {order : X → X → Ordering} (total_order : IsTotalOrder
   total-placed_all w [] rows rising apart = omega arith
   total-placed_all w (new ∷ news) rows rising apart =
       let rest = total-placed_all w news (place order new rows) rising.1
-          (still-apart new news rows rising.0 apart.1) in
+      (still-apart new news rows rising.0 apart.1) in
       let here = total-placed_apart order w new rows apart.0 in
       omega arith
 

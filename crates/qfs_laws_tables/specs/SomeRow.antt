@@ -18,8 +18,7 @@ pub any_append : {X : Type 0} (test : X → Bool) (xs ys : List X) → list_any 
     → list_any test (xs ++ ys) ≡ true
 any_append test [] ys any = absurd (cc)
 any_append test (x ∷ xs) ys any =
-    (elim (test x) as (λ b. (b || list_any test xs) ≡ true → (b || list_any test (xs ++ ys)) ≡ true)
-    [
+    (elim (test x) as (λ b. (b || list_any test xs) ≡ true → (b || list_any test (xs ++ ys)) ≡ true) [
       | true ↦ λ any. refl
       | false ↦ λ any. any_append test xs ys any
     ]) any
@@ -47,15 +46,14 @@ any_filter test keep stays (x ∷ xs) any =
     (cond k (x ∷ filter keep xs) (filter keep xs)) ≡ true) [
       | true ↦ λ is. elim (test x) as
           (λ b. (b || list_any test xs) ≡ true → (b || list_any test (filter keep xs)) ≡ true) [
-        | true ↦ λ any. refl
-        | false ↦ λ any. any_filter test keep stays xs any
-      ]
+            | true ↦ λ any. refl
+            | false ↦ λ any. any_filter test keep stays xs any
+          ]
       | false ↦ λ is. elim (test x) as
-          (λ b. test x ≡ b → (b || list_any test xs) ≡ true → list_any test (filter keep xs) ≡ true)
-          [
-        | true ↦ λ t any. let k = stays x t in absurd (cc)
-        | false ↦ λ t any. any_filter test keep stays xs any
-      ] refl
+          (λ b. test x ≡ b → (b || list_any test xs) ≡ true → list_any test (filter keep xs) ≡ true) [
+            | true ↦ λ t any. let k = stays x t in absurd (cc)
+            | false ↦ λ t any. any_filter test keep stays xs any
+          ] refl
     ]) refl any
 
 pub any_of_filter : {X : Type 0} (test keep : X → Bool) (xs : List X)
@@ -66,9 +64,9 @@ any_of_filter test keep (x ∷ xs) any =
     (test x || list_any test xs) ≡ true) [
       | true ↦ elim (test x) as (λ b. (b || list_any test (filter keep xs)) ≡ true →
           (b || list_any test xs) ≡ true) [
-        | true ↦ λ any. refl
-        | false ↦ λ any. any_of_filter test keep xs any
-      ]
+            | true ↦ λ any. refl
+            | false ↦ λ any. any_of_filter test keep xs any
+          ]
       | false ↦ λ any. elim (test x) as (λ b. (b || list_any test xs) ≡ true)
           [ true ↦ refl | false ↦ any_of_filter test keep xs any ]
     ]) any
@@ -112,15 +110,14 @@ any_filter_given P test keep stays (x ∷ xs) each any =
     (cond k (x ∷ filter keep xs) (filter keep xs)) ≡ true) [
       | true ↦ λ is. elim (test x) as
           (λ b. (b || list_any test xs) ≡ true → (b || list_any test (filter keep xs)) ≡ true) [
-        | true ↦ λ any. refl
-        | false ↦ λ any. any_filter_given P test keep stays xs each.1 any
-      ]
+            | true ↦ λ any. refl
+            | false ↦ λ any. any_filter_given P test keep stays xs each.1 any
+          ]
       | false ↦ λ is. elim (test x) as
-          (λ b. test x ≡ b → (b || list_any test xs) ≡ true → list_any test (filter keep xs) ≡ true)
-          [
-        | true ↦ λ t any. let k = stays x each.0 t in absurd (cc)
-        | false ↦ λ t any. any_filter_given P test keep stays xs each.1 any
-      ] refl
+          (λ b. test x ≡ b → (b || list_any test xs) ≡ true → list_any test (filter keep xs) ≡ true) [
+            | true ↦ λ t any. let k = stays x each.0 t in absurd (cc)
+            | false ↦ λ t any. any_filter_given P test keep stays xs each.1 any
+          ] refl
     ]) refl any
 
 pub any_of_change : {X : Type 0} (test other : X → Bool) (changed : X → Bool) (change : X → X)
