@@ -38,8 +38,12 @@ Seals change block slot = ⊥
 abbrev pub Gives : MetaImage → Change → BlockId → ℕ → Copy → Type 0
 Gives m (GrantSlot other at server actor lease) block slot copy =
     (other ≡ block) × (at ≡ slot)
-    × (record { server = server; life = (server_at m.servers server).life; version =
-    (slot_at m.slots other at).next } ≡ copy)
+    × (record {
+      server = server;
+      life = (server_at m.servers server).life;
+      version =
+          (slot_at m.slots other at).next;
+    } ≡ copy)
 Gives m change block slot copy = ⊥
 
 abbrev pub Lends : MetaImage → Change → ℕ → Type 0
@@ -95,7 +99,7 @@ no-copy is = unfold granted_copy in cc
 -- a grant becomes current
 confirming-tells : (other : BlockId) (at : ℕ) (m : MetaImage)
     → Tells (Seals (ConfirmSlot other at)) (Gives m (ConfirmSlot other at))
-      (Lends m (ConfirmSlot other at)) m (apply m (ConfirmSlot other at))
+    (Lends m (ConfirmSlot other at)) m (apply m (ConfirmSlot other at))
 unfolding apply confirm_slot change_record with_slots confirmed_slot never_granted
 confirming-tells other at m =
     let n : MetaImage = apply m (ConfirmSlot other at) in
@@ -108,15 +112,15 @@ confirming-tells other at m =
           ⊎ (((other ≡ block) × (at ≡ slot)) × (granted_at m block slot ≡ Some copy))) other block
           at slot confirmed_slot m.slots
           (λ _ e. absurd (cc)) (λ b s e. inr ((b, s), e)) (λ _ e. inl e)
-              (subst (λ k. (slot_at (change_slot other at confirmed_slot k) block
-              slot).current ≡ Some copy) rows is);
+          (subst (λ k. (slot_at (change_slot other at confirmed_slot k) block
+          slot).current ≡ Some copy) rows is);
       granted =
           λ block slot copy is. slot-cases
           (λ st. granted_copy st.grant ≡ Some copy → (granted_at m block slot ≡ Some copy) ⊎ ⊥)
           other block at slot confirmed_slot m.slots
           (λ _ e. absurd (no-copy e)) (λ _ _ e. absurd (no-copy e)) (λ _ e. inl e)
-              (subst (λ k. granted_copy (slot_at (change_slot other at confirmed_slot k) block
-              slot).grant ≡ Some copy) rows is);
+          (subst (λ k. granted_copy (slot_at (change_slot other at confirmed_slot k) block
+          slot).grant ≡ Some copy) rows is);
       as_many = ap (λ (k : MetaImage). length k.servers) frame;
       lives = λ server. let e : (server_at n.servers server).life ≡ (server_at m.servers
           server).life = ap (λ (k : MetaImage). (server_at k.servers server).life) frame in omega
@@ -130,7 +134,7 @@ confirming-tells other at m =
 -- the grants of a file become current
 closing-tells : (file actor command : ℕ) (m : MetaImage)
     → Tells (Seals (CloseFile file actor command)) (Gives m (CloseFile file actor command))
-      (Lends m (CloseFile file actor command)) m (apply m (CloseFile file actor command))
+    (Lends m (CloseFile file actor command)) m (apply m (CloseFile file actor command))
 unfolding apply write_entry with_slots sealed_slot never_granted
 closing-tells file actor command m = record {
   current =
@@ -153,9 +157,9 @@ closing-tells file actor command m = record {
 -- a copy is granted
 granting-tells : (other : BlockId) (at server actor lease : ℕ) (m : MetaImage)
     → Tells (Seals (GrantSlot other at server actor lease))
-      (Gives m (GrantSlot other at server actor lease))
-      (Lends m (GrantSlot other at server actor lease)) m
-      (apply m (GrantSlot other at server actor lease))
+    (Gives m (GrantSlot other at server actor lease))
+    (Lends m (GrantSlot other at server actor lease)) m
+    (apply m (GrantSlot other at server actor lease))
 unfolding apply grant_slot with_slots granted_slot granted_copy
 granting-tells other at server actor lease m = record {
   current =
@@ -181,7 +185,7 @@ granting-tells other at server actor lease m = record {
 -- a lease is given
 lending-tells : (actor file until : ℕ) (m : MetaImage)
     → Tells (Seals (GiveLease actor file until)) (Gives m (GiveLease actor file until))
-      (Lends m (GiveLease actor file until)) m (apply m (GiveLease actor file until))
+    (Lends m (GiveLease actor file until)) m (apply m (GiveLease actor file until))
 unfolding apply give_lease is_live_lease
 lending-tells actor file until m = record {
   current = λ _ _ _ is. inl is;
@@ -190,9 +194,9 @@ lending-tells actor file until m = record {
   lives = λ server. same-le _;
   leases = λ lease live.
       let new : Lease = record { lease = m.next_lease; actor = actor; file = file; until = until }
-          in
+      in
       either (list_any (is_lease lease) m.leases) (is_lease lease new) (own-lease lease new)
-          (sym (any_of_append (is_lease lease) m.leases (new ∷ [])) ∙ live);
+      (sym (any_of_append (is_lease lease) m.leases (new ∷ [])) ∙ live);
   entries = [];
   history = append-none m.history;
 }
@@ -205,7 +209,7 @@ lending-tells actor file until m = record {
 
 ending-tells : (number : ℕ) (m : MetaImage)
     → Tells (Seals (EndLease number)) (Gives m (EndLease number)) (Lends m (EndLease number)) m
-      (apply m (EndLease number))
+    (apply m (EndLease number))
 unfolding apply finish_lease end_lease is_live_lease
 ending-tells number m = record {
   current = λ _ _ _ is. inl is;

@@ -153,7 +153,7 @@ module _ (rules : Rules) (actor : ℕ) (past : Past) (m : MetaImage) (request : 
 
   pub file-fair : (place : ℕ) (refusal : Option TreeRefusal) (further : Decision)
       → ((why : TreeRefusal) → refusal ≡ Some why → MayTell rules actor m (Told.Refused why place)
-        request)
+      request)
       → (refusal ≡ None → Fair further) → Fair (refuse_file place refusal further)
   unfolding refuse_file refuse
   file-fair place None further told fair = fair refl
@@ -161,7 +161,7 @@ module _ (rules : Rules) (actor : ℕ) (past : Past) (m : MetaImage) (request : 
 
   pub path-fair : (refusal : Option TreeRefusal) (further : Decision)
       → ((why : TreeRefusal) → refusal ≡ Some why → MayTell rules actor m (Told.BadPath why)
-        request)
+      request)
       → (refusal ≡ None → Fair further) → Fair (refuse_path refusal further)
   unfolding refuse_path refuse
   path-fair None further told fair = fair refl
@@ -178,8 +178,15 @@ turned-tells : (request : MetaRequest) (reply : MetaReply) (m n : MetaImage)
     → StepTells request reply m n → StepTells request reply m (next_turn n)
 unfolding next_turn
 turned-tells request reply m n t =
-    record { current = t.current; granted = t.granted; as_many = t.as_many; lives = t.lives;
-    leases = t.leases; entries = t.entries; history = t.history }
+    record {
+      current = t.current;
+      granted = t.granted;
+      as_many = t.as_many;
+      lives = t.lives;
+      leases = t.leases;
+      entries = t.entries;
+      history = t.history;
+    }
 
 module _ (rules : Rules) (actor : ℕ) (outcome : Outcome) (past : Past) (m : MetaImage) (request : MetaRequest) where
   same-state : (reply : MetaReply)
@@ -194,8 +201,11 @@ module _ (rules : Rules) (actor : ℕ) (outcome : Outcome) (past : Past) (m : Me
       → IsAnswered rules actor outcome m request (take_step m (apply_all changes m) reply fits)
   unfolding take_step
   made changes reply fine fair true =
-      record { answer = inl fair.0; tells = turned-tells request reply m (apply_all changes m)
-      (fair.1 fine.0) }
+      record {
+        answer = inl fair.0;
+        tells = turned-tells request reply m (apply_all changes m)
+            (fair.1 fine.0);
+      }
   made changes reply fine fair false = same-state Told.NoMemory (inr tt)
 
 pub step-answers : (rules : Rules) (actor : ℕ) (outcome : Outcome) (past : Past) (m : MetaImage)
@@ -224,6 +234,6 @@ step-answers rules actor Ended.Failed past m request (Makes changes reply) None 
   where
     failed : (b : Bool)
         → IsAnswered rules actor Ended.Failed m request
-          (stays m (cond b Told.LogFault Told.NoMemory))
+        (stays m (cond b Told.LogFault Told.NoMemory))
     failed true = same-state rules actor Ended.Failed past m request Told.LogFault (inr refl)
     failed false = same-state rules actor Ended.Failed past m request Told.NoMemory (inr tt)

@@ -54,13 +54,13 @@ no-put n low = grind (arith, nat_tests)
 
 leased : (actor : ℕ) (past : Past) (g : GrantTold) → 1 ≤ g.lease
     → with_grant actor g past (is_of_put g) ≡ with_lease g.lease actor g.block.file
-      (listed_in g.lease g.block g.sources) (with_copy (granted_slot_copy g) past)
+    (listed_in g.lease g.block g.sources) (with_copy (granted_slot_copy g) past)
 unfolding with_grant is_of_put
 leased actor past g low = ap (with_grant actor g past) (no-put g.lease low)
 
 lease-told : (leases : List GivenLease) (lease actor file : ℕ)
     → list_any (λ (l : GivenLease). (l.lease == lease) && (l.file == file))
-      (leases ++ record { lease = lease; actor = actor; file = file } ∷ []) ≡ true
+    (leases ++ record { lease = lease; actor = actor; file = file } ∷ []) ≡ true
 lease-told leases lease actor file =
     any_last _ leases (record { lease = lease; actor = actor; file = file })
     (and_from (lease == lease) (file == file) (eq-eqb lease lease refl) (eq-eqb file file refl))
@@ -75,13 +75,13 @@ open-fine layout term actor past m path who =
     let file : ℕ = (row_at m.tree path).file in (
       (who, tt),
       λ h. listed-kept (told (GiveLease actor file (lease_end term m.clock)) m past)
-      (apply m (GiveLease actor file (lease_end term m.clock)))
-      (listed_in_file m.next_lease file
-      (listed_blocks m.servers m.slots file (block_count layout (row_at m.tree path).len)))
+          (apply m (GiveLease actor file (lease_end term m.clock)))
+          (listed_in_file m.next_lease file
+          (listed_blocks m.servers m.slots file (block_count layout (row_at m.tree path).len)))
           (file-each (told (GiveLease actor file (lease_end term m.clock)) m past)
-              (apply m (GiveLease actor file (lease_end term m.clock))) m.next_lease file
-              (block_count layout (row_at m.tree path).len)
-              (lease-told past.leases m.next_lease actor file)) h,
+          (apply m (GiveLease actor file (lease_end term m.clock))) m.next_lease file
+          (block_count layout (row_at m.tree path).len)
+          (lease-told past.leases m.next_lease actor file)) h,
     ))
 
 -- ---- a grant under a lease
@@ -147,11 +147,11 @@ unfolding grant_leased lease_and_grant new_grant remember
 leased-fine layout term actor past m block slot server sources f who left current may =
     let n : MetaImage = apply m (GiveLease actor block.file (lease_end term m.clock)) in
     let g : GrantTold = new_grant layout (closed_len (closed_file block.file m.tree)) block slot
-        server m.next_lease sources m in (
+    server m.next_lease sources m in (
       (who, (lease-may actor (lease_end term m.clock) m block slot server who left may, tt)),
       λ h. subst (λ p. Keeps p (apply_all
-      (GiveLease actor block.file (lease_end term m.clock) ∷ GrantSlot block slot server actor
-      m.next_lease ∷ []) m)) (sym (leased actor past g f.first_lease))
+          (GiveLease actor block.file (lease_end term m.clock) ∷ GrantSlot block slot server actor
+          m.next_lease ∷ []) m)) (sym (leased actor past g f.first_lease))
           (lease-ends layout term actor past m block slot server sources current h),
     )
 
@@ -199,9 +199,9 @@ closed-at : (next : ℕ) (path : PathNames) (tree : List TreeRow)
 unfolding row_at
 closed-at next path tree looks h =
     let k = kind-row tree path Is.Closed (closed-root tree path looks)
-        (look-closed (standing tree) path looks) in
+    (look-closed (standing tree) path looks) in
     let e : (row_at tree path).file ≡ k.0.file = ap (λ o. (unwrap_or o (directory_row [])).file) k.1
-        in
+    in
     subst (λ n. IsTrue (is_some (closed_file n tree))) (sym e)
     (subst IsTrue (sym (closed-any k.0.file tree)) (found-closed path tree k.0 k.1 k.3))
 
@@ -242,6 +242,11 @@ move-fine layout term actor past m path index slot to f who left range =
     unless-fine actor past m _ (Told.Barred to) _ refl (λ may.
     leased-fine layout term actor past m block slot to (one_source slot copy) f who left
     (one-current m.slots block slot copy current)
-    (record { closed = closed-at m.next_file path m.tree looks f.tree; small = ltb-true _ _ r.0;
-    server_number = server-is _ _ r.1; free = pending-none _ free; apart = not-true _
-    (and_parts _ _ may).1 })))))))
+    (record {
+      closed = closed-at m.next_file path m.tree looks f.tree;
+      small = ltb-true _ _ r.0;
+      server_number = server-is _ _ r.1;
+      free = pending-none _ free;
+      apart = not-true _
+          (and_parts _ _ may).1;
+    })))))))

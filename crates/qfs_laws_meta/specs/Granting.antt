@@ -47,11 +47,13 @@ enumerated from [] = tt
 enumerated from (load ∷ loads) =
     let to : from + 1 + length loads ≡ from + length (load ∷ loads) = omega arith in
     let rest : Each (IsNumbered (from + 1) (from + length (load ∷ loads)))
-        (enumerate_from (from + 1) loads) = subst
-        (λ to. Each (IsNumbered (from + 1) to) (enumerate_from (from + 1) loads)) to
-        (enumerated (from + 1) loads) in
-    ((omega arith, omega arith), each_weaker (IsNumbered (from + 1) (from + length (load ∷ loads)))
-    _ (λ s is. wider s is) (enumerate_from (from + 1) loads) rest)
+    (enumerate_from (from + 1) loads) = subst
+    (λ to. Each (IsNumbered (from + 1) to) (enumerate_from (from + 1) loads)) to
+    (enumerated (from + 1) loads) in (
+      (omega arith, omega arith),
+      each_weaker (IsNumbered (from + 1) (from + length (load ∷ loads)))
+          _ (λ s is. wider s is) (enumerate_from (from + 1) loads) rest,
+    )
   where
     wider : (s : Numbered) → IsNumbered (from + 1) (from + length (load ∷ loads)) s
         → IsNumbered from (from + length (load ∷ loads)) s
@@ -59,7 +61,7 @@ enumerated from (load ∷ loads) =
 
 pub census-length : (slots : List SlotRow) (from : ℕ) (servers : List ServerView)
     → length (map (λ (s : ℕ × ServerView). load_of slots s.0 s.1)
-      (enumerate_from from servers)) ≡ length servers
+    (enumerate_from from servers)) ≡ length servers
 census-length slots from [] = refl
 census-length slots from (s ∷ servers) = ap suc (census-length slots (from + 1) servers)
 
@@ -87,10 +89,10 @@ pub chosen-is : (servers : List ServerView) (slots : List SlotRow) (barred : Lis
 unfolding choose open_servers is_open census
 chosen-is servers slots barred server chosen =
     let loads : List Load = map (λ (s : ℕ × ServerView). load_of slots s.0 s.1)
-        (enumerate_from 1 servers) in
+    (enumerate_from 1 servers) in
     let test : Numbered → Bool = λ s. s.1.up && not s.1.leaving && not (has barred s.0) in
     let r = reduced (λ s. IsNumbered 1 (1 + length loads) s × (test s ≡ true))
-        (filter test (enumerate_from 1 loads)) server
+    (filter test (enumerate_from 1 loads)) server
     (λ s p n e. subst (λ k. IsNumbered 1 (1 + length loads) (k, s.1) × (test (k, s.1) ≡ true)) e p)
     (each_both (IsNumbered 1 (1 + length loads)) (λ s. test s ≡ true)
     (filter test (enumerate_from 1 loads))
@@ -99,9 +101,11 @@ chosen-is servers slots barred server chosen =
     let l = census-length slots 1 servers in
     let low = r.2.0.0 in
     let high = r.2.0.1 in
-    let same = r.1 in
-    ((omega arith, omega arith), ap (has barred) (sym r.1) ∙ not-true _
-    (and_parts (r.0.1.up && not r.0.1.leaving) (not (has barred r.0.0)) r.2.1).1)
+    let same = r.1 in (
+      (omega arith, omega arith),
+      ap (has barred) (sym r.1) ∙ not-true _
+          (and_parts (r.0.1.up && not r.0.1.leaving) (not (has barred r.0.0)) r.2.1).1,
+    )
 
 -- ---- who is barred
 
@@ -113,8 +117,11 @@ has-inserted (x ∷ xs) k s off =
     (match_ordering r (k ∷ x ∷ xs) (x ∷ xs) (x ∷ insert_key nat_cmp xs k)) s ≡ false →
     (has (x ∷ xs) s ≡ false) × (nat_eq k s ≡ false)) [
       | Less ↦ λ _ off. let p = or_parts (nat_eq k s) (has (x ∷ xs) s) off in (p.1, p.0)
-      | Equal ↦ λ is off. (off, let p = or_parts (nat_eq x s) (has xs s) off in ap (λ n. nat_eq n s)
-          (ranked k x Equal (sym is)) ∙ p.0)
+      | Equal ↦ λ is off. (
+        off,
+        let p = or_parts (nat_eq x s) (has xs s) off in ap (λ n. nat_eq n s)
+            (ranked k x Equal (sym is)) ∙ p.0,
+      )
       | Greater ↦ λ _ off. let p = or_parts (nat_eq x s) (has (insert_key nat_cmp xs k) s) off in
           let q = has-inserted xs k s p.1 in ((λ i. p.0 i || q.0 i), q.1)
     ]) refl off
@@ -142,7 +149,7 @@ live-free servers (copy ∷ copies) set s off =
 
 live-total : (block : BlockId) (n : ℕ) (m : MetaImage)
     → copies n (live_servers block m.servers m.slots) ≡ total (stands_on m.servers n)
-      (copies_of_block block m.slots)
+    (copies_of_block block m.slots)
 unfolding live_servers
 live-total block n m =
     total-map (λ k. one_if (nat_eq k n)) (λ (copy : Copy). copy.server)
@@ -192,7 +199,7 @@ rows-bare servers next tree file open' rows each =
   where
     none : (o : Option Copy)
         → Each (λ (copy : Copy). IsServer servers copy.server × IsTrue
-          (is_some (closed_file file tree))) (option_to_list o)
+        (is_some (closed_file file tree))) (option_to_list o)
         → o ≡ None
     none None each = refl
     none (Some copy) each = absurd (true≢false (sym each.0.1 ∙ open'))

@@ -48,7 +48,7 @@ taken-told slots block slot again P tells None at reply is = absurd (cc)
 taken-told slots block slot true P tells (Some g) at reply is = absurd (cc)
 taken-told slots block slot false P tells (Some g) at reply is =
     let e : Told.Taken g.copy.version ≡ reply = cc in subst P e
-        (tells g.copy.version refl (record { grant = g; pending = at; own = refl }))
+    (tells g.copy.version refl (record { grant = g; pending = at; own = refl }))
 
 pending-told : (slots : List SlotRow) (block : BlockId) (slot : ℕ) (P : MetaReply → Type 0)
     → ((version : ℕ) → IsTaken slots block slot version → P (Told.Taken version))
@@ -58,7 +58,7 @@ unfolding pending_refusal
 pending-told slots block slot P tells None at reply is = absurd (cc)
 pending-told slots block slot P tells (Some g) at reply is =
     let e : Told.Taken g.copy.version ≡ reply = cc in subst P e
-        (tells g.copy.version (record { grant = g; pending = at; own = refl }))
+    (tells g.copy.version (record { grant = g; pending = at; own = refl }))
 
 module _ (rules : Rules) (actor : ℕ) (past : Past) (m : MetaImage) where
   -- a copy that is granted in a state is that of its grant
@@ -67,9 +67,11 @@ module _ (rules : Rules) (actor : ℕ) (past : Past) (m : MetaImage) where
       → Gives n (GrantSlot block slot server actor 0) other at copy
       → ToldIn (put_granted rules.layout len block slot n server) other at copy
   unfolding put_granted new_grant granted_slot_copy
-  put-told n len block slot server other at copy g =
-      (new_grant rules.layout len block slot server 0 no_sources n, refl,
-      (λ i. record { block = g.0 i; slot = g.1 i; copy = g.2 i }))
+  put-told n len block slot server other at copy g = (
+    new_grant rules.layout len block slot server 0 no_sources n,
+    refl,
+    (λ i. record { block = g.0 i; slot = g.1 i; copy = g.2 i }),
+  )
 
   putting : (request : MetaRequest) (len : ℕ) (block : BlockId) (slot server : ℕ) (o : Option Grant)
       → (slot_at m.slots block slot).grant ≡ o
@@ -85,8 +87,8 @@ module _ (rules : Rules) (actor : ℕ) (past : Past) (m : MetaImage) where
       let n : MetaImage = apply m (FailGrant block slot) in
       let after : freed block slot m ≡ n = ap (λ o. apply_all (failed_grant block slot o) m) is in
       let same : put_granted rules.layout len block slot m server ≡ put_granted rules.layout len
-          block slot n server = (decides_as_freed block slot m).told rules.layout len server ∙ ap
-          (λ n. put_granted rules.layout len block slot n server) after in
+      block slot n server = (decides_as_freed block slot m).told rules.layout len server ∙ ap
+      (λ n. put_granted rules.layout len block slot n server) after in
       Of.tells-before m n (apply n (GrantSlot block slot server actor 0))
       (plain-one past m (FailGrant block slot) may.0 tt)
       (Of.tells-as n (apply n (GrantSlot block slot server actor 0)) (λ _ _ s. absurd s)
@@ -96,7 +98,7 @@ module _ (rules : Rules) (actor : ℕ) (past : Past) (m : MetaImage) where
 
   pub grant-fair : (file index slot : ℕ) (again : Bool)
       → Fair rules actor past m (Ask.Grant file index slot again)
-        (decide_grant rules.layout actor (record { file = file; index = index }) slot again m)
+      (decide_grant rules.layout actor (record { file = file; index = index }) slot again m)
   unfolding decide_grant grant_in grant_for_put put_granted
   grant-fair file index slot again =
       let block : BlockId = record { file = file; index = index } in
@@ -109,9 +111,11 @@ module _ (rules : Rules) (actor : ℕ) (past : Past) (m : MetaImage) where
       (λ reply. MayTell rules actor m reply (Ask.Grant file index slot again))
       (λ version off taken. (off, taken)) _ refl) (λ _.
       need-fair rules actor past m (Ask.Grant file index slot again) (Told.NoServer block slot) _ _
-      (λ _. (refl, refl)) (λ server chosen.
-      (record { row = row; server = server; unclosed = found; in_file = inside; is = refl }, putting
-      (Ask.Grant file index slot again) row.len block slot server _ refl)))))
+      (λ _. (refl, refl)) (λ server chosen. (
+        record { row = row; server = server; unclosed = found; in_file = inside; is = refl },
+        putting
+            (Ask.Grant file index slot again) row.len block slot server _ refl,
+      )))))
 
   -- ---- a file is opened
 
@@ -124,12 +128,15 @@ module _ (rules : Rules) (actor : ℕ) (past : Past) (m : MetaImage) where
 
   pub open-fair : (path : PathNames)
       → Fair rules actor past m (Ask.OpenFile path)
-        (decide_open rules.layout rules.term actor path m)
+      (decide_open rules.layout rules.term actor path m)
   unfolding decide_open
   open-fair path =
       file-fair rules actor past m (Ask.OpenFile path) _ _ _ (λ why is. (is, refl))
-      (λ looks. ((looks, refl), lending (Ask.OpenFile path) (row_at m.tree path).file
-      (lease_end rules.term m.clock) (Told.Opened (opened rules.layout (row_at m.tree path) m))))
+      (λ looks. (
+        (looks, refl),
+        lending (Ask.OpenFile path) (row_at m.tree path).file
+            (lease_end rules.term m.clock) (Told.Opened (opened rules.layout (row_at m.tree path) m)),
+      ))
 
   -- ---- grants under a lease
 
@@ -140,9 +147,11 @@ module _ (rules : Rules) (actor : ℕ) (past : Past) (m : MetaImage) where
       → ToldIn (Told.Granted (new_grant rules.layout len block slot server m.next_lease sources m))
       other at copy
   unfolding apply new_grant granted_slot_copy
-  lease-told block slot server len sources until other at copy g =
-      (new_grant rules.layout len block slot server m.next_lease sources m, refl,
-      (λ i. record { block = g.0 i; slot = g.1 i; copy = g.2 i }))
+  lease-told block slot server len sources until other at copy g = (
+    new_grant rules.layout len block slot server m.next_lease sources m,
+    refl,
+    (λ i. record { block = g.0 i; slot = g.1 i; copy = g.2 i }),
+  )
 
   leasing : (request : MetaRequest) (block : BlockId) (slot server len : ℕ) (sources : NineCopies)
       (until : ℕ)
@@ -167,9 +176,11 @@ module _ (rules : Rules) (actor : ℕ) (past : Past) (m : MetaImage) where
       → Fair rules actor past m request
       (grant_leased rules.layout rules.term actor block slot sources m server)
   unfolding grant_leased lease_and_grant
-  leased-fair request block slot sources server tells =
-      (tells, leasing request block slot server (closed_len (closed_file block.file m.tree)) sources
-      (lease_end rules.term m.clock))
+  leased-fair request block slot sources server tells = (
+    tells,
+    leasing request block slot server (closed_len (closed_file block.file m.tree)) sources
+        (lease_end rules.term m.clock),
+  )
 
   chosen-fair : (request : MetaRequest) (block : BlockId) (slot : ℕ) (sources : NineCopies)
       → MayTell rules actor m (Told.NoServer block slot) request
@@ -185,7 +196,7 @@ module _ (rules : Rules) (actor : ℕ) (past : Past) (m : MetaImage) where
 
   pub recover-fair : (path : PathNames) (index slot : ℕ)
       → Fair rules actor past m (Ask.RecoverAt path index slot)
-        (decide_recover rules.layout rules.term actor path index slot m)
+      (decide_recover rules.layout rules.term actor path index slot m)
   unfolding decide_recover grant_recovery
   recover-fair path index slot =
       let block : BlockId = record { file = (row_at m.tree path).file; index = index } in
@@ -203,7 +214,7 @@ module _ (rules : Rules) (actor : ℕ) (past : Past) (m : MetaImage) where
 
   pub heal-fair : (after : Option SlotId)
       → Fair rules actor past m (Ask.HealNext after)
-        (decide_heal rules.layout rules.term actor after m)
+      (decide_heal rules.layout rules.term actor after m)
   unfolding decide_heal heal_slot grant_recovery
   heal-fair after =
       need-fair rules actor past m (Ask.HealNext after) Told.Nothing _ _ (λ none. none) (λ id found.
@@ -213,7 +224,7 @@ module _ (rules : Rules) (actor : ℕ) (past : Past) (m : MetaImage) where
 
   pub move-fair : (path : PathNames) (index slot to : ℕ)
       → Fair rules actor past m (Ask.MoveAt path index slot to)
-        (decide_move rules.layout rules.term actor path index slot to m)
+      (decide_move rules.layout rules.term actor path index slot to m)
   unfolding decide_move move_copy
   move-fair path index slot to =
       let block : BlockId = record { file = (row_at m.tree path).file; index = index } in
@@ -235,7 +246,7 @@ module _ (rules : Rules) (actor : ℕ) (past : Past) (m : MetaImage) where
 
   pub evacuate-fair : (server : ℕ) (after : Option SlotId)
       → Fair rules actor past m (Ask.EvacNext server after)
-        (decide_evacuate rules.layout rules.term actor server after m)
+      (decide_evacuate rules.layout rules.term actor server after m)
   unfolding decide_evacuate evacuate_slot
   evacuate-fair server after =
       need-fair rules actor past m (Ask.EvacNext server after) Told.Nothing _ _ (λ none. none)

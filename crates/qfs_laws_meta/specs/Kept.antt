@@ -88,16 +88,19 @@ unfolding unclosed_file is_unclosed_of
 unclosed-of m file actor command may f =
     let r = found_has (RowIs m.next_file) _ m.tree may.row may.found f.tree.rows in
     let p = and_parts (is_unclosed_row may.row && (may.row.actor == actor)) (has_file file may.row)
-        r.1 in
+    r.1 in
     let q = and_parts (is_unclosed_row may.row) (may.row.actor == actor) p.0 in
     let by : may.row.actor ≡ actor = eqb-true _ _ q.1 in
     let u = unclosed-rows m.next_file file _ m.tree may.row f.tree may.found
-        (own-file file may.row p.1) q.0 in (
+    (own-file file may.row p.1) q.0 in (
       u.0,
       each_weaker (λ (r : TreeRow). r.file ≡ file → r ≡ may.row)
           (λ (row : TreeRow). row.file ≡ file → (row.actor ≡ actor) × (row.command ≡ command))
-          (λ row e own. (ap (λ (x : TreeRow). x.actor) (e own) ∙ by, ap (λ (x : TreeRow). x.command)
-          (e own) ∙ may.made)) m.tree u.1,
+          (λ row e own. (
+            ap (λ (x : TreeRow). x.actor) (e own) ∙ by,
+            ap (λ (x : TreeRow). x.command)
+                (e own) ∙ may.made,
+          )) m.tree u.1,
       subst IsActor by (r.0.maker (numbered (own-file file may.row p.1) u.0.some)).0,
       subst (λ n. n ≤ LAST_U16) may.made
           (r.0.maker (numbered (own-file file may.row p.1) u.0.some)).1,
@@ -155,7 +158,7 @@ pending-small m block slot f (Some copy) is some =
 
 current-servers : (m : MetaImage) (block : BlockId) (slot : ℕ) → Fits m
     → Each (λ (copy : Copy). IsServer (length m.servers) copy.server)
-      (option_to_list (slot_at m.slots block slot).current)
+    (option_to_list (slot_at m.slots block slot).current)
 current-servers m block slot f =
     each_weaker (λ (copy : Copy). IsServer (length m.servers) copy.server × IsTrue
     (is_some (closed_file block.file m.tree))) _ (λ c p. p.0)
@@ -164,7 +167,7 @@ current-servers m block slot f =
 
 pending-servers : (m : MetaImage) (block : BlockId) (slot : ℕ) → Fits m
     → Each (λ (copy : Copy). IsServer (length m.servers) copy.server)
-      (option_to_list (granted_copy (slot_at m.slots block slot).grant))
+    (option_to_list (granted_copy (slot_at m.slots block slot).grant))
 pending-servers m block slot f =
     (slot-fits (length m.servers) m.next_lease m.tree m.slots block slot f.table).pending
 
@@ -179,7 +182,7 @@ unfolding give_up change_record with_slots condemn_any
 rows-given_up block slot m None is f = f.rows
 rows-given_up block slot m (Some grant) is f =
     let at : granted_copy (slot_at m.slots block slot).grant ≡ Some grant.copy = granted-some _
-        grant is in
+    grant is in
     rows-slots (condemn_any block slot m (Some grant.copy)) _ refl refl refl refl refl
     (rows-condemned_any block slot m (Some grant.copy)
     (λ some. pending-small m block slot f (Some grant.copy) at some)
@@ -267,15 +270,19 @@ fits-servers m servers rows same list f = record {
   first_lease = f.first_lease;
   tree = f.tree;
   table = subst (λ n. HasTable n m.next_lease m.tree m.slots) (sym same) f.table;
-  rows = record { first = f.rows.first; leases = f.rows.leases; rows = subst
-      (λ n. IsCondemnedList n m.next_condemned m.leases rows) (sym same) list };
+  rows = record {
+    first = f.rows.first;
+    leases = f.rows.leases;
+    rows = subst
+        (λ n. IsCondemnedList n m.next_condemned m.leases rows) (sym same) list;
+  };
   dropped = f.dropped;
   history = f.history;
 }
 
 risen-rows : (server : ℕ) (m : MetaImage) (b : Bool) → Fits m
     → IsCondemnedList (length m.servers) m.next_condemned m.leases
-      (forget_if_risen server m.condemned b)
+    (forget_if_risen server m.condemned b)
 unfolding forget_if_risen
 risen-rows server m true f =
     rows-filtered (length m.servers) m.next_condemned m.leases _ m.condemned f.rows.rows
@@ -311,9 +318,12 @@ no-zero n low z = omega arith
 same-slots : (m n : MetaImage)
     → n ≡ record m { condemned = n.condemned; next_condemned = n.next_condemned }
     → record m { condemned = n.condemned; next_condemned = n.next_condemned } ≡ record m
-      { slots = n.slots; condemned = n.condemned; next_condemned = n.next_condemned }
+    { slots = n.slots; condemned = n.condemned; next_condemned = n.next_condemned }
 same-slots m n frame =
-    ap (λ rows. record m { slots = rows; condemned = n.condemned; next_condemned = n.next_condemned
+    ap (λ rows. record m {
+      slots = rows;
+      condemned = n.condemned;
+      next_condemned = n.next_condemned;
     }) (sym (ap (λ (k : MetaImage). k.slots) frame))
 
 granted-fits : (block : BlockId) (slot server actor lease : ℕ) (m : MetaImage)
@@ -332,8 +342,15 @@ kept-fits past m (AddDirectory path) may f =
     let none = none-at m.tree path (add-free (standing m.tree) path may.free).1 in
     fits-tree m _ refl (omega arith)
     (tree-added m.next_file m.next_file (directory_row path) m.tree may.free
-    (record { path = may.is_path; no_root = none.0; plain = λ _. (refl, refl, refl, refl); number =
-    λ some. absurd (omega arith); len = omega arith; maker = λ file. absurd (file refl) })
+    (record {
+      path = may.is_path;
+      no_root = none.0;
+      plain = λ _. (refl, refl, refl, refl);
+      number =
+          λ some. absurd (omega arith);
+      len = omega arith;
+      maker = λ file. absurd (file refl);
+    })
     (omega arith) (λ some. absurd (omega arith)) f.tree)
     (table-onward (length m.servers) m.next_lease m.tree _ m.slots
     (added-onward (directory_row path) m.tree may.free) f.table)
@@ -352,8 +369,14 @@ kept-fits past m (AddFile path actor command len) may f =
     fits-tree m _ refl (omega arith)
     (tree-added m.next_file (m.next_file + 1) (file_row path m.next_file actor command len) m.tree
     may.adds.free
-    (record { path = may.adds.is_path; no_root = none.0; plain = λ z. absurd (no-zero _ first z);
-    number = λ _. omega arith; len = may.len_fits; maker = λ _. (may.is_actor, may.command_fits) })
+    (record {
+      path = may.adds.is_path;
+      no_root = none.0;
+      plain = λ z. absurd (no-zero _ first z);
+      number = λ _. omega arith;
+      len = may.len_fits;
+      maker = λ _. (may.is_actor, may.command_fits);
+    })
     (omega arith) (λ _. omega arith) f.tree)
     (table-onward (length m.servers) m.next_lease m.tree _ m.slots
     (added-onward (file_row path m.next_file actor command len) m.tree may.adds.free) f.table)
@@ -427,9 +450,13 @@ kept-fits past m (EndLease lease) may f = record {
   first_lease = f.first_lease;
   tree = f.tree;
   table = f.table;
-  rows = record { first = f.rows.first; leases = leases-ended lease m.next_lease m.leases
-      f.rows.leases; rows = rows-ended (length m.servers) m.next_condemned lease m.leases
-      m.condemned f.rows.rows };
+  rows = record {
+    first = f.rows.first;
+    leases = leases-ended lease m.next_lease m.leases
+        f.rows.leases;
+    rows = rows-ended (length m.servers) m.next_condemned lease m.leases
+        m.condemned f.rows.rows;
+  };
   dropped = f.dropped;
   history = f.history;
 }
@@ -550,9 +577,11 @@ tree-back past m (CloseFile file actor command) may f =
     (after-some m file (unclosed-of m file actor command may f).0 other f stands) stands
 tree-back past m (AbortFile file) may f =
     ((λ other low. without_file-back file m.tree other), without_file-gone file m.tree)
-tree-back past m (RemoveFile path file) may f =
-    ((λ other low. taken-back path m.tree other), removed-gone m.next_file path file m.tree
-    may.closed (closed-root m.tree path may.closed) may.at f.tree)
+tree-back past m (RemoveFile path file) may f = (
+  (λ other low. taken-back path m.tree other),
+  removed-gone m.next_file path file m.tree
+      may.closed (closed-root m.tree path may.closed) may.at f.tree,
+)
 tree-back past m (MovePath from to) may f =
     λ file low. move-back from to m.tree m.next_file may.is_path may.free f.tree file
 tree-back past m (GrantSlot block slot server actor lease) may f =

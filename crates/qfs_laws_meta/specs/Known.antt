@@ -61,8 +61,11 @@ pub record Knows (past : Past) (m : MetaImage) : Type 0 where
 -- ---- a slot loses copies, which are condemned
 
 symmetric : (block other : BlockId) (slot number : ℕ)
-    → is_slot block slot (record { block = other; slot = number; state = never_granted
-      }) ≡ same_slot block slot other number
+    → is_slot block slot (record {
+      block = other;
+      slot = number;
+      state = never_granted;
+    }) ≡ same_slot block slot other number
 unfolding is_slot same_block
 symmetric block other slot number = grind (arith, nat_tests)
 
@@ -92,23 +95,23 @@ loses-once change block slot m n loss once condemned lost v other number =
     (λ p. let e : held v never_granted ≡ 0 = nothing v in omega arith)
     (λ b s.
     let at : slot_at m.slots block slot ≡ slot_at m.slots other number =
-        (λ i. slot_at m.slots (b i) (s i)) in
+    (λ i. slot_at m.slots (b i) (s i)) in
     let l = lost v in
     let e = ap (held v) at in
     let f = ap (λ state. held v (change state)) at in
     let c : condemned_count v other number n.condemned ≤ condemned_count v other number m.condemned
-        + weigh_if true (loss v) = subst
-        (λ t. condemned_count v other number n.condemned ≤ condemned_count v other number
-        m.condemned + weigh_if t (loss v)) (same_slot-self block other slot number b s)
-        (condemned v other number) in
+    + weigh_if true (loss v) = subst
+    (λ t. condemned_count v other number n.condemned ≤ condemned_count v other number
+    m.condemned + weigh_if t (loss v)) (same_slot-self block other slot number b s)
+    (condemned v other number) in
     let o = once v other number in
     omega arith)
     (λ off.
     let c : condemned_count v other number n.condemned ≤ condemned_count v other number m.condemned
-        + weigh_if false (loss v) = subst
-        (λ t. condemned_count v other number n.condemned ≤ condemned_count v other number
-        m.condemned + weigh_if t (loss v)) (sym (symmetric block other slot number) ∙ off)
-        (condemned v other number) in
+    + weigh_if false (loss v) = subst
+    (λ t. condemned_count v other number n.condemned ≤ condemned_count v other number
+    m.condemned + weigh_if t (loss v)) (sym (symmetric block other slot number) ∙ off)
+    (condemned v other number) in
     let o = once v other number in
     omega arith)
 
@@ -121,7 +124,7 @@ loses-behind change loses block slot m n trees slots g behind stands =
     let before = behind (subst (λ t. IsTrue (file_stands g.block.file t)) trees stands) in (
       subst (λ rows. IsTrue (is_some (find (is_slot g.block g.slot) rows))) (sym slots)
           (subst (λ b. IsTrue b) (sym (has-changed (is_slot block slot) change g.block g.slot
-              m.slots)) before.0),
+          m.slots)) before.0),
       subst (λ rows. g.copy.version < (slot_at rows g.block g.slot).next) (sym slots)
           (slot-cases (λ state. g.copy.version < state.next) block g.block slot g.slot change
           m.slots
@@ -148,15 +151,21 @@ pub knows-lost : (past : Past) (change : SlotRecord → SlotRecord) → Loses ch
     → ((v : ℕ) → held v (change (slot_at m.slots block slot)) + loss v ≤ held v
     (slot_at m.slots block slot))
     → Each (RowGranted past) n.condemned
-    → Knows past m → Knows past (record m
-    { slots = change_slot block slot change m.slots; condemned = n.condemned; next_condemned =
-    n.next_condemned })
+    → Knows past m → Knows past (record m {
+      slots = change_slot block slot change m.slots;
+      condemned = n.condemned;
+      next_condemned =
+          n.next_condemned;
+    })
 knows-lost past change loses block slot m n loss condemned lost granted h = record {
   once = h.once;
   of_files = h.of_files;
   behind = each_weaker _ _ (loses-behind change loses block slot m
-      (record m { slots = change_slot block slot change m.slots; condemned = n.condemned;
-      next_condemned = n.next_condemned }) refl refl) past.granted h.behind;
+      (record m {
+        slots = change_slot block slot change m.slots;
+        condemned = n.condemned;
+        next_condemned = n.next_condemned;
+      }) refl refl) past.granted h.behind;
   counted = lost-counted past change loses block slot m.slots h.counted;
   different = loses-once change block slot m n loss h.different condemned lost;
   current = λ other number. loses-current (Granted past) change loses block other slot number

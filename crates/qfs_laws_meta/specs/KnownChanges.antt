@@ -46,7 +46,7 @@ unfolding give_up change_record with_slots condemn_any ungranted_slot granted_co
 knows-given_up past block slot m None is h = h
 knows-given_up past block slot m (Some grant) is h =
     let at : granted_copy (slot_at m.slots block slot).grant ≡ Some grant.copy = ap granted_copy is
-        in
+    in
     knows-condemned past ungranted_slot ungranted-loses block slot m (Some grant.copy)
     (subst (λ o. Each (Granted past block slot) (option_to_list o)) at (h.pending block slot))
     (λ v. let e : count_in v (granted_copy (slot_at m.slots block slot).grant) ≡ count_in v
@@ -120,7 +120,7 @@ older-count v xs older =
 
 older-rows : (v : ℕ) (block : BlockId) (slot : ℕ) (rows : List CondemnedRow)
     → Each (λ (row : CondemnedRow). is_condemned_of block slot row ≡ true →
-      row.condemned.copy.version < v) rows
+    row.condemned.copy.version < v) rows
     → condemned_count v block slot rows ≡ 0
 older-rows v block slot rows older =
     total-none (weight_of v block slot) rows
@@ -131,8 +131,7 @@ older-rows v block slot rows older =
         → weight_of v block slot row ≡ 0
     one row h =
         (elim (is_condemned_of block slot row) as
-        (λ b. is_condemned_of block slot row ≡ b → weigh_if b (version_of v row.condemned.copy) ≡ 0)
-        [
+        (λ b. is_condemned_of block slot row ≡ b → weigh_if b (version_of v row.condemned.copy) ≡ 0) [
           | true ↦ λ is. let l = h is in let e : nat_eq row.condemned.copy.version v ≡ false = grind
               (arith, nat_tests) in ap one_if e
           | false ↦ λ _. refl
@@ -163,9 +162,16 @@ number-cases Y n v same differs =
 
 abbrev new_copy : BlockId → ℕ → ℕ → MetaImage → SlotCopy
 new_copy block slot server m =
-    record { block = block; slot = slot; copy = record
-    { server = server; life = (server_at m.servers server).life; version =
-    (slot_at m.slots block slot).next } }
+    record {
+      block = block;
+      slot = slot;
+      copy = record {
+        server = server;
+        life = (server_at m.servers server).life;
+        version =
+            (slot_at m.slots block slot).next;
+      };
+    }
 
 fresh : (block : BlockId) (slot server : ℕ) (m : MetaImage) → IsTrue (file_stands block.file m.tree)
     → (x : SlotCopy) → IsBehind m x → same_version x (new_copy block slot server m) ≡ false
@@ -181,20 +187,22 @@ fresh block slot server m stands x b =
           let versions : x.copy.version ≡ (slot_at m.slots block slot).next = eqb-true _ _ p.1 in
           let under = (b (subst (λ k. IsTrue (file_stands k.file m.tree)) (sym blocks) stands)).1 in
           let at : (slot_at m.slots x.block x.slot).next ≡ (slot_at m.slots block slot).next =
-              (λ i. (slot_at m.slots (blocks i) (slots i)).next) in
+          (λ i. (slot_at m.slots (blocks i) (slots i)).next) in
           absurd (omega arith)
       | false ↦ λ _. refl
     ]) refl
 
 still : (block : BlockId) (slot server actor lease : ℕ) (m : MetaImage)
     → (slot_at m.slots block slot).next < LAST_U32 → (x : SlotCopy) → IsBehind m x
-    → IsBehind (record m { slots = with_slot block slot
-    (granted_slot server (server_at m.servers server).life actor lease (slot_at m.slots block slot))
-    m.slots }) x
+    → IsBehind (record m {
+      slots = with_slot block slot
+          (granted_slot server (server_at m.servers server).life actor lease (slot_at m.slots block slot))
+          m.slots;
+    }) x
 unfolding granted_slot
 still block slot server actor lease m versions x b stands =
     let state : SlotRecord = granted_slot server (server_at m.servers server).life actor lease
-        (slot_at m.slots block slot) in (
+    (slot_at m.slots block slot) in (
       has-placed block x.block slot x.slot state m.slots (λ _. (b stands).0),
       placed-cases (λ st. x.copy.version < st.next) block x.block slot x.slot state m.slots
           (λ blocks slots. let at : (slot_at m.slots block slot).next ≡ (slot_at m.slots x.block
@@ -222,7 +230,7 @@ knows-granted past block slot server actor lease m may numbered h =
     let g : SlotCopy = record { block = block; slot = slot; copy = copy } in
     let state : SlotRecord = granted_slot server life actor lease old in
     let under : (c : Copy) → Granted past block slot c → c.version < old.next = λ c was. below past
-        m block slot c may.stands h.behind was in
+    m block slot c may.stands h.behind was in
     let versions = may.versions in
     record {
       once = distinct-push same_version past.granted g h.once
@@ -247,8 +255,8 @@ knows-granted past block slot server actor lease m may numbered h =
           (let o = known-next past m block slot h.counted in let l = length-append past.granted
           (g ∷ []) in omega arith)
           (each_weaker (λ (row : SlotRow). row.state.next ≤ length past.granted + 1) _
-              (λ row o. let l = length-append past.granted (g ∷ []) in omega arith) m.slots
-              h.counted);
+          (λ row o. let l = length-append past.granted (g ∷ []) in omega arith) m.slots
+          h.counted);
       different = λ v other number.
           placed-cases (λ st. held v st + condemned_count v other number m.condemned ≤ 1) block
           other slot number state m.slots
@@ -257,22 +265,22 @@ knows-granted past block slot server actor lease m may numbered h =
           let o = h.different v other number in
           let e = ap (held v) at in
           let p : count_in v (granted_copy old.grant) ≡ 0 = ap (λ x. count_in v (granted_copy x))
-              may.free in
+          may.free in
           number-cases (held v state + condemned_count v other number m.condemned ≤ 1) old.next v
           (λ is.
           let v_is : v ≡ old.next = is in
           let c : count_in v old.current ≡ 0 = subst (λ k. count_in k old.current ≡ 0) (sym v_is)
-              (older-count old.next (option_to_list old.current)
-              (each_weaker (Granted past block slot) _ under (option_to_list old.current)
-              (h.current block slot))) in
+          (older-count old.next (option_to_list old.current)
+          (each_weaker (Granted past block slot) _ under (option_to_list old.current)
+          (h.current block slot))) in
           let d : condemned_count v other number m.condemned ≡ 0 = subst
-              (λ k. condemned_count k other number m.condemned ≡ 0) (sym v_is)
-              (older-rows old.next other number m.condemned
-              (each_weaker (RowGranted past) _
-              (λ row was is. let k = is_condemned_of-is other number row is in under
-              row.condemned.copy (subst (λ x. Granted past x slot row.condemned.copy) (k.0 ∙ sym b)
-              (subst (λ x. Granted past row.condemned.block x row.condemned.copy) (k.1 ∙ sym s)
-              was))) m.condemned h.condemned)) in
+          (λ k. condemned_count k other number m.condemned ≡ 0) (sym v_is)
+          (older-rows old.next other number m.condemned
+          (each_weaker (RowGranted past) _
+          (λ row was is. let k = is_condemned_of-is other number row is in under
+          row.condemned.copy (subst (λ x. Granted past x slot row.condemned.copy) (k.0 ∙ sym b)
+          (subst (λ x. Granted past row.condemned.block x row.condemned.copy) (k.1 ∙ sym s)
+          was))) m.condemned h.condemned)) in
           let n : version_of v copy ≤ 1 = one_most (nat_eq old.next v) in
           omega arith)
           (λ differs. let z : version_of v copy ≡ 0 = ap one_if differs in omega arith))
@@ -286,14 +294,17 @@ knows-granted past block slot server actor lease m may numbered h =
           (subst (λ k. Each (Granted past block k) (option_to_list old.current)) s
           (h.current block slot))))
           (λ _. each_weaker _ _ (λ c was. granted-more past g other number c was)
-              (current_in m.slots other number) (h.current other number));
+          (current_in m.slots other number) (h.current other number));
       pending =
           λ other number. placed-cases (λ st. Each (Granted (with_copy g past) other number)
           (option_to_list (granted_copy st.grant))) block other slot number state m.slots
-          (λ b s. (subst (λ k. Granted (with_copy g past) k number copy) b
-          (subst (λ k. Granted (with_copy g past) block k copy) s (granted-new past g)), tt))
+          (λ b s. (
+            subst (λ k. Granted (with_copy g past) k number copy) b
+                (subst (λ k. Granted (with_copy g past) block k copy) s (granted-new past g)),
+            tt,
+          ))
           (λ _. each_weaker _ _ (λ c was. granted-more past g other number c was)
-              (pending_in m.slots other number) (h.pending other number));
+          (pending_in m.slots other number) (h.pending other number));
       condemned = each_weaker (RowGranted past) _ (λ row was. granted-more past g _ _ _ was)
           m.condemned h.condemned;
       ordered = each_weaker _ _ (λ (c : Condemned) was. granted-more past g c.block c.slot c.copy
@@ -321,7 +332,7 @@ knows-tree past m n slots condemned next back h = record {
       × (g.copy.version < (slot_at rows g.block g.slot).next)) (sym slots)
       (b.1 (back g.block.file b.0 stands))) past.granted
       (each_both (λ (g : SlotCopy). g.block.file < m.next_file) (IsBehind m) past.granted h.of_files
-          h.behind);
+      h.behind);
   counted = subst (Counted past) (sym slots) h.counted;
   different = subst (λ rows. Once n.slots rows) (sym condemned)
       (subst (λ rows. Once rows m.condemned) (sym slots) h.different);
@@ -359,8 +370,8 @@ knows-sealed past file m n slots condemned next back h =
           λ v block slot. sealed-cases (λ st. held v st + condemned_count v block slot m.condemned ≤
           1) file block slot m.slots
           (λ _. let o = h.different v block slot in omega arith)
-              (λ _. let o = h.different v block slot in omega arith)
-              (λ _. h.different v block slot);
+          (λ _. let o = h.different v block slot in omega arith)
+          (λ _. h.different v block slot);
       current = λ block slot. sealed-cases
           (λ st. Each (Granted past block slot) (option_to_list st.current)) file block slot m.slots
           (λ _. tt) (λ _. h.pending block slot) (λ _. h.current block slot);
@@ -397,7 +408,7 @@ knows-forgotten past file m n slots condemned next back gone h = record {
             (λ same. absurd (true≢false (sym same ∙ other))) (λ _. before.1),
       ))
       past.granted (each_both (λ (g : SlotCopy). g.block.file < m.next_file) (IsBehind m)
-          past.granted h.of_files h.behind);
+      past.granted h.of_files h.behind);
   counted = subst (Counted past) (sym slots) (forgotten-counted past file m.slots h.counted);
   different =
       λ v block slot. subst (λ rows. held v (slot_at n.slots block slot) + condemned_count v block
@@ -411,13 +422,13 @@ knows-forgotten past file m n slots condemned next back gone h = record {
       λ block slot. subst (λ rows. Each (Granted past block slot) (current_in rows block slot))
       (sym slots)
       (forgotten-cases (λ st. Each (Granted past block slot) (option_to_list st.current)) file block
-          slot m.slots (λ _. tt) (λ _. h.current block slot));
+      slot m.slots (λ _. tt) (λ _. h.current block slot));
   pending =
       λ block slot. subst (λ rows. Each (Granted past block slot) (pending_in rows block slot))
       (sym slots)
       (forgotten-cases (λ st. Each (Granted past block slot)
-          (option_to_list (granted_copy st.grant))) file block slot m.slots (λ _. tt)
-          (λ _. h.pending block slot));
+      (option_to_list (granted_copy st.grant))) file block slot m.slots (λ _. tt)
+      (λ _. h.pending block slot));
   condemned = subst (λ rows. Each (RowGranted past) rows) (sym condemned) h.condemned;
   ordered = h.ordered;
   listed = h.listed;
@@ -460,8 +471,7 @@ unknown-count past block slot copy xs once was granted differ =
     (each_weaker (λ c. Granted past block slot c × (same_copy c copy ≡ false))
     (λ c. version_of copy.version c ≡ 0)
     (λ c h.
-    (elim (nat_eq c.version copy.version) as (λ b. nat_eq c.version copy.version ≡ b → one_if b ≡ 0)
-    [
+    (elim (nat_eq c.version copy.version) as (λ b. nat_eq c.version copy.version ≡ b → one_if b ≡ 0) [
       | true ↦ λ is. let same : c ≡ copy = one_copy block slot c copy past.granted once
           (eqb-true _ _ is) h.0 was in absurd
           (true≢false (sym (ap (λ k. same_copy k copy) same ∙ same_copy-self copy) ∙ h.1))
@@ -479,7 +489,7 @@ unknown-rows past block slot copy (row ∷ rows) once was granted none =
     let parts = or_parts _ _ none in
     let rest = unknown-rows past block slot copy rows once was granted.1 parts.1 in
     let here : weight_of copy.version block slot row ≡ 0 = one (is_condemned_of block slot row) refl
-        parts.0 in
+    parts.0 in
     omega arith
   where
     one : (b : Bool) → is_condemned_of block slot row ≡ b → is_copy_of block slot copy row ≡ false
@@ -488,15 +498,15 @@ unknown-rows past block slot copy (row ∷ rows) once was granted none =
     one true is apart =
         let k = is_condemned_of-is block slot row is in
         let own : Granted past block slot row.condemned.copy = subst
-            (λ b. Granted past b slot row.condemned.copy) k.0
-            (subst (λ s. Granted past row.condemned.block s row.condemned.copy) k.1 granted.0) in
+        (λ b. Granted past b slot row.condemned.copy) k.0
+        (subst (λ s. Granted past row.condemned.block s row.condemned.copy) k.1 granted.0) in
         (elim (nat_eq row.condemned.copy.version copy.version) as
         (λ b. nat_eq row.condemned.copy.version copy.version ≡ b → one_if b ≡ 0) [
           | true ↦ λ same.
               let e : row.condemned.copy ≡ copy = one_copy block slot row.condemned.copy copy
-                  past.granted once (eqb-true _ _ same) own was in
+              past.granted once (eqb-true _ _ same) own was in
               let s : same_copy row.condemned.copy copy ≡ true = ap (λ c. same_copy c copy) e
-                  ∙ same_copy-self copy in
+              ∙ same_copy-self copy in
               absurd (true≢false (sym (λ i. is i && s i) ∙ apart))
           | false ↦ λ _. refl
         ]) refl
@@ -522,7 +532,7 @@ knows-unknown past block slot copy m was none h =
       counted = h.counted;
       different = λ v other number.
           let more = total-append (weight_of v other number) m.condemned
-              (condemned_row m.next_condemned block slot copy m.leases ∷ []) in
+          (condemned_row m.next_condemned block slot copy m.leases ∷ []) in
           let o = h.different v other number in
           (elim (same_slot block slot other number) as (λ t. same_slot block slot other number ≡ t
           → condemned_count v other number
@@ -539,20 +549,20 @@ knows-unknown past block slot copy m was none h =
                 copy.version v
                 (λ v_is.
                 let free : held v (slot_at m.slots block slot) + condemned_count v block slot
-                    m.condemned ≡ 0 =
+                m.condemned ≡ 0 =
                 subst (λ k. held k (slot_at m.slots block slot) + condemned_count k block slot
                 m.condemned ≡ 0) (sym v_is) (
                 let x = unknown-count past block slot copy (current_in m.slots block slot) h.once
-                    was (h.current block slot) (not-that copy _ b.0) in
+                was (h.current block slot) (not-that copy _ b.0) in
                 let y = unknown-count past block slot copy (pending_in m.slots block slot) h.once
-                    was (h.pending block slot) (not-that copy _ b.1) in
+                was (h.pending block slot) (not-that copy _ b.1) in
                 let z = unknown-rows past block slot copy m.condemned h.once was h.condemned a.1 in
                 omega arith) in
                 let there : held v (slot_at m.slots other number) + condemned_count v other number
-                    m.condemned ≡ 0 = subst (λ k. held v (slot_at m.slots k number) +
-                    condemned_count v k number m.condemned ≡ 0) blocks
-                    (subst (λ k. held v (slot_at m.slots block k) + condemned_count v block k
-                    m.condemned ≡ 0) slots free) in
+                m.condemned ≡ 0 = subst (λ k. held v (slot_at m.slots k number) +
+                condemned_count v k number m.condemned ≡ 0) blocks
+                (subst (λ k. held v (slot_at m.slots block k) + condemned_count v block k
+                m.condemned ≡ 0) slots free) in
                 let n : version_of v copy ≤ 1 = one_most (nat_eq copy.version v) in
                 omega arith)
                 (λ differs. let z : version_of v copy ≡ 0 = ap one_if differs in omega arith)
@@ -624,9 +634,18 @@ kept-knows past m (GiveUp block slot) may back h = knows-given_up past block slo
 kept-knows past m (ConfirmSlot block slot) may back h = knows-confirmed past block slot m h
 kept-knows past m (EmptySlot block slot) may back h = knows-emptied past block slot m h
 kept-knows past m (GiveLease actor file until) may back h =
-    record { once = h.once; of_files = h.of_files; behind = h.behind; counted = h.counted;
-    different = h.different; current = h.current; pending = h.pending; condemned = h.condemned;
-    ordered = h.ordered; listed = h.listed }
+    record {
+      once = h.once;
+      of_files = h.of_files;
+      behind = h.behind;
+      counted = h.counted;
+      different = h.different;
+      current = h.current;
+      pending = h.pending;
+      condemned = h.condemned;
+      ordered = h.ordered;
+      listed = h.listed;
+    }
 kept-knows past m (EndLease lease) may back h =
     knows-rows past m _ refl refl refl
     (λ v block slot. let e = unblocked-count v block slot lease m.condemned in omega arith)
@@ -646,6 +665,15 @@ kept-knows past m (ServerUp server life) may back h =
     (λ v block slot. risen-count v block slot server m.condemned _)
     (risen-each (RowGranted past) server m.condemned _ h.condemned) h
 kept-knows past m _ may back h =
-    record { once = h.once; of_files = h.of_files; behind = h.behind; counted = h.counted;
-    different = h.different; current = h.current; pending = h.pending; condemned = h.condemned;
-    ordered = h.ordered; listed = h.listed }
+    record {
+      once = h.once;
+      of_files = h.of_files;
+      behind = h.behind;
+      counted = h.counted;
+      different = h.different;
+      current = h.current;
+      pending = h.pending;
+      condemned = h.condemned;
+      ordered = h.ordered;
+      listed = h.listed;
+    }

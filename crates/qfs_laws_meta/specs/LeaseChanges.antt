@@ -154,10 +154,10 @@ keeps-lost change block slot m rows none more covers l on keeps live =
     (λ either. ⊎_elim (λ c. absurd (none l.of_slot.copy c)) (λ b. inr b) either)
     (λ b s.
     let at : slot_at m.slots block slot ≡ slot_at m.slots l.of_slot.block l.of_slot.slot =
-        (λ i. slot_at m.slots (b i) (s i)) in
+    (λ i. slot_at m.slots (b i) (s i)) in
     let blocked : list_any (nat_eq l.lease) (leases_on block.file m.leases) ≡ true = subst
-        (λ (k : BlockId). list_any (nat_eq l.lease) (leases_on k.file m.leases) ≡ true) (sym b)
-        (blocks l m.leases on lives.0) in
+    (λ (k : BlockId). list_any (nat_eq l.lease) (leases_on k.file m.leases) ≡ true) (sym b)
+    (blocks l m.leases on lives.0) in
     ⊎_elim
     (λ c. inl (ap (λ st. (change st).current) (sym at) ∙ c))
     (λ c. inr (subst (λ k. IsTrue (list_any
@@ -203,7 +203,7 @@ unfolding finish_lease end_lease is_live_lease
 keeps-unblocked number m l keeps live =
     let lives = and_parts _ _ live in
     let before : IsTrue (is_live_lease l.lease m.leases) = any_of_filter (is_lease l.lease)
-        (λ (lease : Lease). not (is_lease number lease)) m.leases lives.0 in
+    (λ (lease : Lease). not (is_lease number lease)) m.leases lives.0 in
     ⊎_elim (λ c. inl c)
     (λ b. inr (still number l (differs number l.lease m.leases lives.0) m.condemned b))
     (keeps (and_from _ _ before lives.1))
@@ -256,7 +256,7 @@ elsewhere server rows l differs any true =
     (λ (row : CondemnedRow). not (row.condemned.copy.server == server))
     (λ row blocked.
     let same : row.condemned.copy ≡ l.of_slot.copy = same_copy-is _ _
-        (and_parts _ _ (and_parts _ _ (and_parts _ _ blocked).0).0).1 in
+    (and_parts _ _ (and_parts _ _ (and_parts _ _ blocked).0).0).1 in
     ap not (ne_eqb _ _ (λ e. differs (sym e ∙ ap (λ (k : Copy). k.server) same)))) rows any
 
 -- a server's life rises
@@ -276,7 +276,7 @@ keeps-risen server life m l is rises below keeps live =
     (λ same at.
     let e : c.life ≡ life = eqb-true _ _ at in
     let f : (server_at m.servers server).life ≡ (server_at m.servers c.server).life = ap
-        (λ k. (server_at m.servers k).life) same in
+    (λ k. (server_at m.servers k).life) same in
     let stays : nat_lt (server_at m.servers server).life life ≡ false = grind (arith, nat_tests) in
     subst (λ b. ((slot_at m.slots l.of_slot.block l.of_slot.slot).current ≡ Some c) ⊎ IsTrue
     (list_any (is_blocked_copy l.lease l.of_slot) (forget_if_risen server m.condemned b)))
@@ -305,16 +305,18 @@ keeps-server change same server m l is keeps live =
 
 pub keeps-given : (actor file until : ℕ) (m : MetaImage) (l : ListedCopy) → l.lease < m.next_lease
     → KeepsListed m l
-    → KeepsListed (record m { leases = give_lease m.next_lease actor file until m.leases;
-    next_lease = m.next_lease + 1 }) l
+    → KeepsListed (record m {
+      leases = give_lease m.next_lease actor file until m.leases;
+      next_lease = m.next_lease + 1;
+    }) l
 unfolding give_lease is_live_lease
 keeps-given actor file until m l older keeps live =
     let lives = and_parts _ _ live in
     let new : Lease = record { lease = m.next_lease; actor = actor; file = file; until = until } in
     let apart : is_lease l.lease new ≡ false = is_lease-is l.lease new ∙ later m.next_lease l.lease
-        older in
+    older in
     let before : (list_any (is_lease l.lease) m.leases || (is_lease l.lease new || false)) ≡ true =
-        sym (any_of_append (is_lease l.lease) m.leases (new ∷ [])) ∙ lives.0 in
+    sym (any_of_append (is_lease l.lease) m.leases (new ∷ [])) ∙ lives.0 in
     keeps (and_from _ _ (drop_last _ _ apart before) lives.1)
   where
     later : (a b : ℕ) → b < a → (a == b) ≡ false
@@ -338,7 +340,7 @@ keeps-granted block slot server actor lease m l keeps live =
 -- a file without current copies is sealed, or forgotten
 pub keeps-sealed : (file : ℕ) (m : MetaImage) (l : ListedCopy)
     → ((block : BlockId) (slot : ℕ) → block.file ≡ file →
-      (slot_at m.slots block slot).current ≡ None)
+    (slot_at m.slots block slot).current ≡ None)
     → KeepsListed m l → KeepsListed (record m { slots = seal_file file m.slots }) l
 keeps-sealed file m l bare keeps live =
     ⊎_elim
@@ -354,7 +356,7 @@ keeps-sealed file m l bare keeps live =
 
 pub keeps-forgotten : (file : ℕ) (m : MetaImage) (l : ListedCopy)
     → ((block : BlockId) (slot : ℕ) → block.file ≡ file →
-      (slot_at m.slots block slot).current ≡ None)
+    (slot_at m.slots block slot).current ≡ None)
     → KeepsListed m l → KeepsListed (record m { slots = forget_file file m.slots }) l
 keeps-forgotten file m l bare keeps live =
     ⊎_elim

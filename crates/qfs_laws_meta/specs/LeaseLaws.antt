@@ -47,7 +47,7 @@ leases-stay past m n next given keeps h = record {
       l) (KeepsListed n) (λ l b. keeps l (on_file past l m.leases h.once h.given b.0) b.1)
       past.listed
       (each_both (λ (l : ListedCopy). IsTrue (list_any (is_lease_of l) past.leases)) (KeepsListed m)
-          past.listed h.listed h.kept);
+      past.listed h.listed h.kept);
 }
   where
     less : (a b c : ℕ) → a < b → c ≡ b → a < c
@@ -55,7 +55,7 @@ leases-stay past m n next given keeps h = record {
 
 own-given : (number actor file until : ℕ)
     → same_lease (record { lease = number; actor = actor; file = file })
-      (record { lease = number; actor = actor; file = file; until = until }) ≡ true
+    (record { lease = number; actor = actor; file = file; until = until }) ≡ true
 unfolding same_lease
 own-given number actor file until = grind (arith, nat_tests)
 
@@ -78,7 +78,7 @@ granted-next block slot server actor lease m = refl
 granted-leases : (block : BlockId) (slot server actor lease : ℕ) (m : MetaImage) (past : Past)
     → Each (λ l. IsTrue (list_any (was_given l) past.leases)) m.leases
     → Each (λ l. IsTrue (list_any (was_given l) past.leases))
-      (grant_slot block slot server actor lease m).leases
+    (grant_slot block slot server actor lease m).leases
 unfolding grant_slot with_slots
 granted-leases block slot server actor lease m past given = given
 
@@ -107,7 +107,7 @@ leases-given past actor file until m h =
           × KeepsListed m l) _ (λ l b. keeps-given actor file until m l (below l b.0) b.1)
           past.listed
           (each_both (λ (l : ListedCopy). IsTrue (list_any (is_lease_of l) past.leases))
-              (KeepsListed m) past.listed h.listed h.kept);
+          (KeepsListed m) past.listed h.listed h.kept);
     }
   where
     apart : (a b : ℕ) → a < b → (a == b) ≡ false
@@ -125,7 +125,7 @@ leases-given past actor file until m h =
 pub kept-leases : (past : Past) (m : MetaImage) (change : Change) → MayMake past m change
     → NeedsBare m change → LivesRise past m
     → Each (λ (l : ListedCopy). Granted past l.of_slot.block l.of_slot.slot l.of_slot.copy)
-      past.listed
+    past.listed
     → LeasesHold past m → LeasesHold (told change m past) (apply m change)
 unfolding apply write_entry add_file with_slots with_copy server_down server_leaving server_asleep finish_lease bring_up
 kept-leases past m (GiveLease actor file until) may bare lives known h =
@@ -141,9 +141,9 @@ kept-leases past m (RemoveFile path file) may bare lives known h =
     leases-stay past m _ refl h.given (λ l on. keeps-forgotten file m l may.bare) h
 kept-leases past m (GrantSlot block slot server actor lease) may bare lives known h =
     let k = leases-stay past m (grant_slot block slot server actor lease m)
-        (granted-next block slot server actor lease m)
-        (granted-leases block slot server actor lease m past h.given)
-        (λ l on. keeps-granted block slot server actor lease m l) h in
+    (granted-next block slot server actor lease m)
+    (granted-leases block slot server actor lease m past h.given)
+    (λ l on. keeps-granted block slot server actor lease m l) h in
     record { once = k.once; numbers = k.numbers; given = k.given; listed = k.listed; kept = k.kept }
 kept-leases past m (FailGrant block slot) may bare lives known h =
     let frame = (losing-frame m (FailGrant block slot) tt).is in
@@ -188,7 +188,7 @@ kept-leases past m (ServerUp server life) may bare lives known h = record {
       (granted-has (λ (g : SlotCopy). g.copy.life ≤ (server_at m.servers g.copy.server).life) past
       l.of_slot.block l.of_slot.slot l.of_slot.copy lives b.0) b.1) past.listed
       (each_both (λ (l : ListedCopy). Granted past l.of_slot.block l.of_slot.slot l.of_slot.copy)
-          (KeepsListed m) past.listed known h.kept);
+      (KeepsListed m) past.listed known h.kept);
 }
 kept-leases past m (ServerDown server) may bare lives known h =
     leases-stay past m _ refl h.given (λ l on. keeps-server server_down (λ v. refl) server m l may)

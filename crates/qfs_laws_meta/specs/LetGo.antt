@@ -58,14 +58,21 @@ NoLease past m c =
 pub free-of : (past : Past) (m : MetaImage) (c : Condemned) → IsLetGo past m c
     → IsFree c.copy c.block c.slot m.slots
 free-of past m c go =
-    record { current = not-some c.copy c.block c.slot _ go.not_current; pending = not-some c.copy
-    c.block c.slot _ go.not_granted }
+    record {
+      current = not-some c.copy c.block c.slot _ go.not_current;
+      pending = not-some c.copy
+          c.block c.slot _ go.not_granted;
+    }
 
 pub let_go : (past : Past) (m : MetaImage) (c : Condemned) → IsFree c.copy c.block c.slot m.slots
     → NoLease past m c → IsLetGo past m c
 let_go past m c free none =
-    record { not_current = some-not c.copy c.block c.slot _ free.current; not_granted = some-not
-    c.copy c.block c.slot _ free.pending; not_listed = none }
+    record {
+      not_current = some-not c.copy c.block c.slot _ free.current;
+      not_granted = some-not
+          c.copy c.block c.slot _ free.pending;
+      not_listed = none;
+    }
 
 free-lost : (copy : Copy) (block : BlockId) (slot : ℕ) (change : SlotRecord → SlotRecord)
     → Loses change → (other : BlockId) (number : ℕ) (rows : List SlotRow)
@@ -111,19 +118,19 @@ free-granted past block slot server actor lease m c may behind was free = record
       placed-cases (λ st. Each (Differs c.copy c.block c.slot) (option_to_list st.current)) block
       c.block slot c.slot _ m.slots
       (λ b s. subst (λ (st : SlotRecord). Each (Differs c.copy c.block c.slot)
-          (option_to_list st.current)) (sym (λ i. slot_at m.slots (b i) (s i))) free.current)
-          (λ _. free.current);
+      (option_to_list st.current)) (sym (λ i. slot_at m.slots (b i) (s i))) free.current)
+      (λ _. free.current);
   pending =
       placed-cases (λ st. Each (Differs c.copy c.block c.slot)
       (option_to_list (granted_copy st.grant))) block c.block slot c.slot _ m.slots
       (λ b s. (
         (λ e.
             let under = (granted-has (IsBehind m) past c.block c.slot c.copy behind was
-                (subst (λ (k : BlockId). IsTrue (file_stands k.file m.tree)) b may.stands)).1 in
+            (subst (λ (k : BlockId). IsTrue (file_stands k.file m.tree)) b may.stands)).1 in
             let at : (slot_at m.slots block slot).next ≡ (slot_at m.slots c.block c.slot).next =
-                (λ i. (slot_at m.slots (b i) (s i)).next) in
+            (λ i. (slot_at m.slots (b i) (s i)).next) in
             let v : (slot_at m.slots block slot).next ≡ c.copy.version = ap
-                (λ (k : Copy). k.version) e in
+            (λ (k : Copy). k.version) e in
             omega arith),
         tt,
       ))
@@ -146,7 +153,7 @@ given-lease actor file until own m older live =
     let new : Lease = record { lease = m.next_lease; actor = actor; file = file; until = until } in
     let apart : is_lease own new ≡ false = is_lease-is own new ∙ later m.next_lease own older in
     let before : (list_any (is_lease own) m.leases || (is_lease own new || false)) ≡ true = sym
-        (any_of_append (is_lease own) m.leases (new ∷ [])) ∙ live in
+    (any_of_append (is_lease own) m.leases (new ∷ [])) ∙ live in
     drop_last _ _ apart before
   where
     later : (a b : ℕ) → b < a → (a == b) ≡ false
@@ -159,7 +166,7 @@ given-lease actor file until own m older live =
 -- the slots that a change leaves keep a copy let go
 frees : (past : Past) (m n : MetaImage) → n.leases ≡ m.leases
     → ((c : Condemned) → Granted past c.block c.slot c.copy → IsFree c.copy c.block c.slot m.slots →
-      IsFree c.copy c.block c.slot n.slots)
+    IsFree c.copy c.block c.slot n.slots)
     → Each (λ (c : Condemned). Granted past c.block c.slot c.copy) past.ordered → Each
     (IsLetGo past m) past.ordered → Each (IsLetGo past n) past.ordered
 frees past m n leases slots known each =
@@ -206,8 +213,12 @@ pub kept-let_go : (past : Past) (m : MetaImage) (change : Change) → MayMake pa
 unfolding apply write_entry add_file with_slots bring_up with_copy
 kept-let_go past m (GrantSlot block slot server actor lease) may behind known older h =
     each_weaker (IsLetGo past (grant_slot block slot server actor lease m)) _
-    (λ c go. record { not_current = go.not_current; not_granted = go.not_granted; not_listed =
-    go.not_listed }) past.ordered
+    (λ c go. record {
+      not_current = go.not_current;
+      not_granted = go.not_granted;
+      not_listed =
+          go.not_listed;
+    }) past.ordered
     (frees past m (grant_slot block slot server actor lease m)
     (granted-same block slot server actor lease m)
     (λ c was free. free-granted past block slot server actor lease m c may behind was free) known h)
@@ -232,13 +243,20 @@ kept-let_go past m (CondemnStray server life key) may behind known older h =
     subst (λ (n : MetaImage). Each (IsLetGo past n) past.ordered)
     (sym (stray-frame server life key m))
     (each_weaker (IsLetGo past m) _
-    (λ c go. record { not_current = go.not_current; not_granted = go.not_granted; not_listed =
-    go.not_listed }) past.ordered h)
+    (λ c go. record {
+      not_current = go.not_current;
+      not_granted = go.not_granted;
+      not_listed =
+          go.not_listed;
+    }) past.ordered h)
 kept-let_go past m (EndLease lease) may behind known older h =
-    each_weaker (IsLetGo past m) _ (λ c go. record
-    { not_current = ended-slots lease m c go.not_current; not_granted = ended-grants lease m c
-    go.not_granted; not_listed = each_weaker _ _
-    (λ l none live. none (ended-lease lease l.lease m live)) past.listed go.not_listed })
+    each_weaker (IsLetGo past m) _ (λ c go. record {
+      not_current = ended-slots lease m c go.not_current;
+      not_granted = ended-grants lease m c
+          go.not_granted;
+      not_listed = each_weaker _ _
+          (λ l none live. none (ended-lease lease l.lease m live)) past.listed go.not_listed;
+    })
     past.ordered h
 kept-let_go past m (GiveLease actor file until) may behind known older h =
     each_weaker (IsLetGo past m) _ (λ c go. record {
@@ -249,7 +267,7 @@ kept-let_go past m (GiveLease actor file until) may behind known older h =
           × (IsTrue (is_live_lease l.lease m.leases) → is_copy c.block c.slot c.copy l.of_slot ≢
           true)) _ (λ l b live. b.1 (given-lease actor file until l.lease m b.0 live)) past.listed
           (each_both (λ (l : ListedCopy). l.lease < m.next_lease) _ past.listed older
-              go.not_listed);
+          go.not_listed);
     }) past.ordered h
 kept-let_go past m (AddDirectory path) may behind known older h =
     each_weaker (IsLetGo past m) _ (λ c go. record

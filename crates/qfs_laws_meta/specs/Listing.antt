@@ -37,8 +37,8 @@ listed-current servers (Some other) copy e = one (is_listed servers other) e
 
 nine-from : (servers : List ServerView) (slots : List SlotRow) (block : BlockId) (k n : ℕ)
     → Each (IsCurrentAt slots block)
-      (enumerate_from k (map (λ slot. listed_copy servers (slot_at slots block slot).current)
-      (range_with_len k n)))
+    (enumerate_from k (map (λ slot. listed_copy servers (slot_at slots block slot).current)
+    (range_with_len k n)))
 nine-from servers slots block k zero = tt
 nine-from servers slots block k (suc n) =
     ((λ copy e. listed-current servers _ copy e), nine-from servers slots block (k + 1) n)
@@ -54,9 +54,11 @@ set-each : (P : ℕ × Option Copy → Type 0) (k i : ℕ) (xs : NineCopies) (v 
 set-each P k i [] v p each = tt
 set-each P k zero (x ∷ xs) v p each =
     (let e : k + 0 ≡ k = omega arith in subst (λ n. P (n, v)) e p, each.1)
-set-each P k (suc i) (x ∷ xs) v p each =
-    (each.0, set-each P (k + 1) i xs v
-    (let e : k + suc i ≡ k + 1 + i = omega arith in subst (λ n. P (n, v)) e p) each.1)
+set-each P k (suc i) (x ∷ xs) v p each = (
+  each.0,
+  set-each P (k + 1) i xs v
+      (let e : k + suc i ≡ k + 1 + i = omega arith in subst (λ n. P (n, v)) e p) each.1,
+)
 
 pub others-current : (servers : List ServerView) (slots : List SlotRow) (block : BlockId) (slot : ℕ)
     → AreCurrent slots block (listed_others servers slots block slot)
@@ -84,7 +86,7 @@ one-current slots block slot copy is =
 -- what a lease lists of them
 pub listed-each : (past : Past) (m : MetaImage) (lease : ℕ) (block : BlockId) (nine : NineCopies)
     → IsTrue (list_any (λ (l : GivenLease). (l.lease == lease) && (l.file == block.file))
-      past.leases)
+    past.leases)
     → AreCurrent m.slots block nine
     → Each (ListsCurrent past m) (listed_in lease block nine)
 unfolding listed_in listed_copy_of is_lease_of
@@ -98,7 +100,7 @@ listed-each past m lease block nine given each = go (enumerate_from 0 nine) each
 
     go : (xs : List (ℕ × Option Copy)) → Each (IsCurrentAt m.slots block) xs
         → Each (ListsCurrent past m) (filter_map
-          (λ (s : ℕ × Option Copy). listed_copy_of lease block s.0 s.1) xs)
+        (λ (s : ℕ × Option Copy). listed_copy_of lease block s.0 s.1) xs)
     go [] each = tt
     go (x ∷ xs) each = one x.0 x.1 x.1 _ each.0 refl (go xs each.1)
 
@@ -111,9 +113,9 @@ file-each past m lease file count given = go 0 count
   where
     go : (k n : ℕ)
         → Each (ListsCurrent past m) (flat_map
-          (λ (b : ℕ × NineCopies). listed_in lease (record { file = file; index = b.0 }) b.1)
-          (enumerate_from k (map (λ index. listed_nine m.servers m.slots
-          (record { file = file; index = index })) (range_with_len k n))))
+        (λ (b : ℕ × NineCopies). listed_in lease (record { file = file; index = b.0 }) b.1)
+        (enumerate_from k (map (λ index. listed_nine m.servers m.slots
+        (record { file = file; index = index })) (range_with_len k n))))
     go k zero = tt
     go k (suc n) =
         each_append (ListsCurrent past m)

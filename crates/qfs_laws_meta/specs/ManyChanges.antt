@@ -91,11 +91,11 @@ emptied-one : (m : MetaImage) (row : SlotRow) (block : BlockId) (slot : ℕ)
 unfolding apply empty_slot change_record with_slots emptied_slot never_granted
 emptied-one m row block slot either =
     let n : MetaImage = condemn_any row.block row.slot
-        (condemn_any row.block row.slot m (slot_at m.slots row.block row.slot).current)
-        (granted_copy (slot_at m.slots row.block row.slot).grant) in
+    (condemn_any row.block row.slot m (slot_at m.slots row.block row.slot).current)
+    (granted_copy (slot_at m.slots row.block row.slot).grant) in
     let same : n.slots ≡ m.slots = condemned-slots row.block row.slot _
-        (granted_copy (slot_at m.slots row.block row.slot).grant) ∙ condemned-slots row.block
-        row.slot m (slot_at m.slots row.block row.slot).current in
+    (granted_copy (slot_at m.slots row.block row.slot).grant) ∙ condemned-slots row.block
+    row.slot m (slot_at m.slots row.block row.slot).current in
     subst (λ rows. (slot_at (change_slot row.block row.slot emptied_slot rows) block
     slot).current ≡ None) (sym same)
     (slot-cases (λ st. st.current ≡ None) row.block block row.slot slot emptied_slot m.slots
@@ -126,7 +126,7 @@ emptied-all file (row ∷ rows) m bare =
 
 slots-listed : (file : ℕ) (rows : List SlotRow) (block : BlockId) (slot : ℕ) → block.file ≡ file
     → ((slot_at rows block slot).current ≡ None)
-      ⊎ (list_any (is_slot block slot) (slots_of file rows) ≡ true)
+    ⊎ (list_any (is_slot block slot) (slots_of file rows) ≡ true)
 unfolding slots_of never_granted slot_at
 slots-listed file [] block slot own = inl refl
 slots-listed file (row ∷ rows) block slot own =
@@ -137,7 +137,7 @@ slots-listed file (row ∷ rows) block slot own =
       | true ↦ λ is.
           let k = is_slot-is block slot row is in
           let f : (is_of_file file row) ≡ true = of_file-is file row ∙ eq-eqb _ _
-              (ap (λ (b : BlockId). b.file) k.0 ∙ own) in
+          (ap (λ (b : BlockId). b.file) k.0 ∙ own) in
           inr (subst (λ t. list_any (is_slot block slot) (cond t (row ∷ rest) rest) ≡ true) (sym f)
           (ap (λ t. t || list_any (is_slot block slot) rest) is))
       | false ↦ λ off.
@@ -162,7 +162,7 @@ remove-fine actor past m path =
     let empties : List Change = map empty_row rows in
     let n : MetaImage = apply_all empties m in
     let trees : n.tree ≡ m.tree = keep-tree empties m
-        (each-tree empty_row (λ row. losing-tree (empty_row row) tt) rows) in
+    (each-tree empty_row (λ row. losing-tree (empty_row row) tt) rows) in
     let free : Each IsFree empties = each-map empty_row (λ row p k. (tt, refl)) rows in (
       make-append past m empties (RemoveFile path file ∷ []) (free-make empties free past m) (
         record {
@@ -188,12 +188,17 @@ abort-make : (past : Past) (m : MetaImage) (file : ℕ) (rows : List SlotRow) �
 abort-make past m file rows may =
     let gives : List Change = map give_row rows in
     let trees : (apply_all gives m).tree ≡ m.tree = keep-tree gives m
-        (each-tree give_row (λ row. losing-tree (give_row row) tt) rows) in
+    (each-tree give_row (λ row. losing-tree (give_row row) tt) rows) in
     make-append past m gives (AbortFile file ∷ [])
-    (free-make gives (each-map give_row (λ row p k. (tt, refl)) rows) past m)
-    (record { unclosed = subst (λ t. IsTrue
-    (list_any (λ (row : TreeRow). is_unclosed_row row && has_file file row) t)) (sym trees)
-    may.unclosed; number = may.number }, tt)
+    (free-make gives (each-map give_row (λ row p k. (tt, refl)) rows) past m) (
+      record {
+        unclosed = subst (λ t. IsTrue
+            (list_any (λ (row : TreeRow). is_unclosed_row row && has_file file row) t)) (sym trees)
+            may.unclosed;
+        number = may.number;
+      },
+      tt,
+    )
 
 abort-told : (past : Past) (m : MetaImage) (file : ℕ) (rows : List SlotRow)
     → told_all (map give_row rows ++ AbortFile file ∷ []) m past ≡ past
@@ -262,7 +267,7 @@ files-unclosed actor tree next fits h =
 
     own : (rows : List TreeRow)
         → Each (λ (row : TreeRow). is_unclosed_row row ≡ true → list_any
-          (λ (other : TreeRow). is_unclosed_row other && has_file row.file other) rows ≡ true) rows
+        (λ (other : TreeRow). is_unclosed_row other && has_file row.file other) rows ≡ true) rows
     own [] = tt
     own (row ∷ rows) = (
       (λ is. ap (λ b. b || list_any (λ (other : TreeRow). is_unclosed_row other && has_file row.file
@@ -290,10 +295,10 @@ still-unclosed : (tree : List TreeRow) (file other : ℕ) → file < other → U
 unfolding take_file
 still-unclosed tree file other low u = (
   any_filter (λ (row : TreeRow). is_unclosed_row row && has_file other row)
-  (λ (row : TreeRow). not (has_file file row))
+      (λ (row : TreeRow). not (has_file file row))
       (λ row is. let e : row.file ≡ other = own-file other row
-          (and_parts (is_unclosed_row row) (has_file other row) is).1 in ap not
-          (has_file-is file row ∙ ne_eqb row.file file (λ same. omega arith))) tree u.0,
+      (and_parts (is_unclosed_row row) (has_file other row) is).1 in ap not
+      (has_file-is file row ∙ ne_eqb row.file file (λ same. omega arith))) tree u.0,
   u.1,
 )
 
@@ -336,13 +341,15 @@ drop-free actor m =
 
 drop-tree : (actor : ℕ) (m : MetaImage)
     → Each KeepsTree (DropActor actor ∷ map EndLease (leases_of actor m.leases) ++ recovery_changes
-      actor m.tree m.slots)
+    actor m.tree m.slots)
 unfolding recovery_changes apply finish_lease
-drop-tree actor m =
-    ((λ n. refl), each_append KeepsTree (map EndLease (leases_of actor m.leases)) _
-    (each-tree EndLease (λ lease n. refl) (leases_of actor m.leases))
-    (each-tree give_row (λ row. losing-tree (give_row row) tt)
-    (filter (is_recovery_of actor m.tree) m.slots)))
+drop-tree actor m = (
+  (λ n. refl),
+  each_append KeepsTree (map EndLease (leases_of actor m.leases)) _
+      (each-tree EndLease (λ lease n. refl) (leases_of actor m.leases))
+      (each-tree give_row (λ row. losing-tree (give_row row) tt)
+      (filter (is_recovery_of actor m.tree) m.slots)),
+)
 
 dropping : (actor by : ℕ) (past : Past) (m : MetaImage) → IsActor actor → Fits m
     → IsTrue (counters_fit m)
@@ -350,13 +357,13 @@ dropping : (actor by : ℕ) (past : Past) (m : MetaImage) → IsActor actor → 
 unfolding drop_changes unclosed_changes remember
 dropping actor by past m who f counters =
     let rest : List Change = map EndLease (leases_of actor m.leases) ++ recovery_changes actor
-        m.tree m.slots in
+    m.tree m.slots in
     let xs : List Change = DropActor actor ∷ rest in
     let n : MetaImage = apply m (DropActor actor) in
     let ys : List Change = flat_map (λ file. abort_changes file m.slots)
-        (unclosed_files actor m.tree) in
+    (unclosed_files actor m.tree) in
     let whole : DropActor actor ∷ map EndLease (leases_of actor m.leases) ++ recovery_changes actor
-        m.tree m.slots ++ ys ≡ xs ++ ys = refl in
+    m.tree m.slots ++ ys ≡ xs ++ ys = refl in
     let trees = keep-tree xs m (drop-tree actor m) in
     let same : told_all xs m past ≡ past = free-told rest (drop-free actor m) past n in
     subst (λ cs. AllMake past m cs × (Keeps (told_all cs m past) (apply_all cs m) → Keeps past
@@ -366,7 +373,7 @@ dropping actor by past m who f counters =
           (aborts past m.slots (unclosed_files actor m.tree) (apply_all xs m)
           (files-rise actor m.tree)
           (subst (λ t. Each (Unclosed t) (unclosed_files actor m.tree)) (sym trees)
-              (files-unclosed actor m.tree m.next_file (next-fits m counters) f.tree)))),
+          (files-unclosed actor m.tree m.next_file (next-fits m counters) f.tree)))),
       λ h. subst (λ p. Keeps p (apply_all (xs ++ ys) m))
           (told-append past m xs ys ∙ ap (told_all ys (apply_all xs m)) same ∙ aborts-told past
           m.slots (unclosed_files actor m.tree) (apply_all xs m)) h,
@@ -380,7 +387,7 @@ undropped actor by past m who f counters = dropping actor by past m who f counte
 
 again : (actor by : ℕ) (past : Past) (m : MetaImage) (turn : ℕ)
     → Fine by past m (Makes (changes_unless_dropped actor m (Some turn))
-      (Told.Done (length m.history)))
+    (Told.Done (length m.history)))
 unfolding changes_unless_dropped remember
 again actor by past m turn = (tt, λ h. h)
 
@@ -405,18 +412,22 @@ rising-one test (x ∷ rows) row rising found =
     (x.condemned.number ≡ row.condemned.number → x ≡ row) × Each
     (λ (r : CondemnedRow). r.condemned.number ≡ row.condemned.number → r ≡ row) rows) [
       | true ↦ λ found.
-          let e : x ≡ row = cc in
-          ((λ _. e), each_weaker (λ (r : CondemnedRow). nat_cmp x.condemned.number
-          r.condemned.number ≡ Less) (λ (r : CondemnedRow).
-          r.condemned.number ≡ row.condemned.number → r ≡ row)
-          (λ r above same. absurd (let l = ranked x.condemned.number r.condemned.number Less
-          (sym above) in let n : x.condemned.number ≡ row.condemned.number = ap
-          (λ (k : CondemnedRow). k.condemned.number) e in omega arith)) rows rising.0)
+          let e : x ≡ row = cc in (
+            (λ _. e),
+            each_weaker (λ (r : CondemnedRow). nat_cmp x.condemned.number
+                r.condemned.number ≡ Less) (λ (r : CondemnedRow).
+                r.condemned.number ≡ row.condemned.number → r ≡ row)
+                (λ r above same. absurd (let l = ranked x.condemned.number r.condemned.number Less
+                (sym above) in let n : x.condemned.number ≡ row.condemned.number = ap
+                (λ (k : CondemnedRow). k.condemned.number) e in omega arith)) rows rising.0,
+          )
       | false ↦ λ found.
           let b = (found_has (λ (r : CondemnedRow). nat_cmp x.condemned.number
-              r.condemned.number ≡ Less) test rows row found rising.0).0 in
-          ((λ same. absurd (let l = ranked x.condemned.number row.condemned.number Less (sym b) in
-          omega arith)), rising-one test rows row rising.1 found)
+          r.condemned.number ≡ Less) test rows row found rising.0).0 in (
+            (λ same. absurd (let l = ranked x.condemned.number row.condemned.number Less (sym b) in
+                omega arith)),
+            rising-one test rows row rising.1 found,
+          )
     ]) found
 
 unblocked-nil : (leases : List ℕ) → is_unblocked leases ≡ true → leases ≡ []
@@ -434,9 +445,9 @@ unfolding is_condemned_of
 row-weight row =
     let b = same_block-self row.condemned.block in
     let s : (row.condemned.slot == row.condemned.slot) ≡ true = eq-eqb row.condemned.slot
-        row.condemned.slot refl in
+    row.condemned.slot refl in
     let v : nat_eq row.condemned.copy.version row.condemned.copy.version ≡ true = eq-eqb
-        row.condemned.copy.version row.condemned.copy.version refl in
+    row.condemned.copy.version row.condemned.copy.version refl in
     (λ i. weigh_if (b i && s i) (one_if (v i)))
 
 not-held : (past : Past) (m : MetaImage) (test : CondemnedRow → Bool) (row : CondemnedRow)
@@ -453,13 +464,13 @@ no-such-copy : (copy : Copy) (o : Option Copy) → count_in copy.version o ≡ 0
 no-such-copy copy o none is =
     let w = copy-weight copy.version copy refl in
     let e : count_in copy.version (Some copy) ≡ 0 = subst (λ x. count_in copy.version x ≡ 0) is none
-        in
+    in
     omega arith
 
 order-found : (m : MetaImage) (after : ℕ) (row : CondemnedRow)
     → next_to_go m.servers after m.condemned ≡ Some row
     → find (λ (row : CondemnedRow). nat_lt after row.condemned.number && may_go m.servers row)
-      m.condemned ≡ Some row
+    m.condemned ≡ Some row
 unfolding next_to_go
 order-found m after row found = found
 
@@ -495,14 +506,14 @@ weighs-one : (r : CondemnedRow) (block : BlockId) (slot v : ℕ) → r.condemned
 unfolding is_condemned_of
 weighs-one r block slot v b s e =
     let x : same_block r.condemned.block block ≡ true = ap (λ k. same_block k block) b
-        ∙ same_block-self block in
+    ∙ same_block-self block in
     let y : (r.condemned.slot == slot) ≡ true = eq-eqb _ _ s in
     let z : nat_eq r.condemned.copy.version v ≡ true = eq-eqb _ _ e in
     (λ i. weigh_if (x i && y i) (one_if (z i)))
 
 two-rows : (m : MetaImage) (l : ListedCopy) (row : CondemnedRow)
     → (l.of_slot.block ≡ row.condemned.block) × (l.of_slot.slot ≡ row.condemned.slot)
-      × (l.of_slot.copy ≡ row.condemned.copy)
+    × (l.of_slot.copy ≡ row.condemned.copy)
     → held row.condemned.copy.version (slot_at m.slots row.condemned.block row.condemned.slot) +
     condemned_count row.condemned.copy.version row.condemned.block row.condemned.slot m.condemned ≤
     1
@@ -519,12 +530,12 @@ two-rows m l row same once blocked free =
     let slots : r.condemned.slot ≡ row.condemned.slot = eqb-true _ _ b.1 ∙ same.1 in
     let copies : r.condemned.copy ≡ row.condemned.copy = same_copy-is _ _ a.1 ∙ same.2 in
     let w = weighs-one r row.condemned.block row.condemned.slot row.condemned.copy.version blocks
-        slots (ap (λ (k : Copy). k.version) copies) in omega arith)
+    slots (ap (λ (k : Copy). k.version) copies) in omega arith)
     (λ r is.
     let a = and_parts _ _ (and_parts _ _ is).0 in
     let b = and_parts _ _ a.0 in
     let w = weighs-one r row.condemned.block row.condemned.slot row.condemned.copy.version
-        (same_block-is _ _ b.0) (eqb-true _ _ b.1) (eqb-true _ _ a.1) in omega arith)
+    (same_block-is _ _ b.0) (eqb-true _ _ b.1) (eqb-true _ _ a.1) in omega arith)
     (λ r p q. let none = unblocked-nil r.blockers (and_parts _ _ q).1 in let some =
     (and_parts _ _ p).1 in true≢false (sym some ∙ ap (list_any (nat_eq l.lease)) none))
     m.condemned (omega arith) blocked free
@@ -533,19 +544,22 @@ marked-let_go : (past : Past) (m : MetaImage) (row : CondemnedRow) → IsLetGo p
     → IsLetGo past (apply m (MarkOrdered row.condemned.number)) row.condemned
 unfolding apply
 marked-let_go past m row go =
-    record { not_current = go.not_current; not_granted = go.not_granted; not_listed = go.not_listed
+    record {
+      not_current = go.not_current;
+      not_granted = go.not_granted;
+      not_listed = go.not_listed;
     }
 
 order-may : (m : MetaImage) (after : ℕ) (row : CondemnedRow) → Fits m
     → next_to_go m.servers after m.condemned ≡ Some row
     → Each (λ (r : CondemnedRow). r.condemned.number ≡ row.condemned.number → r.blockers ≡ [])
-      m.condemned
+    m.condemned
 unfolding next_to_go may_go
 order-may m after row f found =
     let passes = (found_has (λ _. Unit {0}) _ m.condemned row found
-        (each_of_all _ (λ _. tt) m.condemned)).1 in
+    (each_of_all _ (λ _. tt) m.condemned)).1 in
     let p = and_parts (nat_lt after row.condemned.number)
-        (is_listed m.servers row.condemned.copy && is_unblocked row.blockers) passes in
+    (is_listed m.servers row.condemned.copy && is_unblocked row.blockers) passes in
     let q = and_parts (is_listed m.servers row.condemned.copy) (is_unblocked row.blockers) p.1 in
     each_weaker (λ (r : CondemnedRow). r.condemned.number ≡ row.condemned.number → r ≡ row) _
     (λ r one same. ap (λ (k : CondemnedRow). k.blockers) (one same) ∙ unblocked-nil row.blockers
@@ -559,20 +573,20 @@ order-let_go past m after row h found =
     let c : Condemned = row.condemned in
     let free = not-held past m _ row h.knows found in
     let passes = (found_has (λ _. Unit {0}) _ m.condemned row found
-        (each_of_all _ (λ _. tt) m.condemned)).1 in
+    (each_of_all _ (λ _. tt) m.condemned)).1 in
     let p = and_parts (nat_lt after row.condemned.number) (may_go m.servers row) passes in
     let q = and_parts (is_listed m.servers row.condemned.copy) (is_unblocked row.blockers) p.1 in
     let live = (and_parts (is_live m.servers row.condemned.copy)
-        (server_at m.servers row.condemned.copy.server).up q.0).0 in
+    (server_at m.servers row.condemned.copy.server).up q.0).0 in
     let not_current : (slot_at m.slots c.block c.slot).current ≢ Some c.copy = no-such-copy c.copy _
-        (omega arith) in
+    (omega arith) in
     record {
       not_current = not_current;
       not_granted = no-such-copy c.copy _ (omega arith);
       not_listed = each_weaker (KeepsListed m) _ (λ l keeps lease is.
           let same = is_copy-is c.block c.slot c.copy l.of_slot is in
           let alive : is_live m.servers l.of_slot.copy ≡ true = ap (is_live m.servers) same.2 ∙ live
-              in
+          in
           ⊎_elim
           (λ current. not_current (sym (λ i. (slot_at m.slots (same.0 i) (same.1 i)).current)
           ∙ current ∙ ap Some same.2))
@@ -588,7 +602,7 @@ order-fine actor past m after h =
     need-fine actor past m Told.Nothing _ _ refl (λ row found. (
       (order-may m after row h.fits found, tt),
       λ k. ordered-kept past (apply m (MarkOrdered row.condemned.number)) row.condemned
-      (marked-let_go past m row (order-let_go past m after row h found))
+          (marked-let_go past m row (order-let_go past m after row h found))
           (found_has (RowGranted past) _ m.condemned row (order-found m after row found)
-              h.knows.condemned).0 k,
+          h.knows.condemned).0 k,
     ))

@@ -81,9 +81,9 @@ unfolding change_state is_of_block
 lost-fewer servers block n change loses row =
     let f = loses.fewer (stands_on servers n) row.state in
     let a = total-append (stands_on servers n) (option_to_list row.state.current)
-        (option_to_list (granted_copy row.state.grant)) in
+    (option_to_list (granted_copy row.state.grant)) in
     let b = total-append (stands_on servers n) (option_to_list (change row.state).current)
-        (option_to_list (granted_copy (change row.state).grant)) in
+    (option_to_list (granted_copy (change row.state).grant)) in
     elim (is_eq (block_cmp block row.block)) as
     (λ t. weigh_if t (total (stands_on servers n) (copies_of (change row.state))) ≤ weigh_if t
     (total (stands_on servers n) (copies_of row.state))) [
@@ -113,12 +113,12 @@ one-granted block slot server actor lease m rising may h other n =
     let life : ℕ = (server_at m.servers server).life in
     let w : SlotRow → ℕ = row_weight m.servers other n in
     let e = total-placed w block slot (granted_slot server life actor lease old) m.slots rising
-        (none (is_eq (block_cmp other block))) in
+    (none (is_eq (block_cmp other block))) in
     let o = h other n in
     let free : total (stands_on m.servers n) (option_to_list (granted_copy old.grant)) ≡ 0 = ap
-        (λ g. total (stands_on m.servers n) (option_to_list (granted_copy g))) may.free in
+    (λ g. total (stands_on m.servers n) (option_to_list (granted_copy g))) may.free in
     let a = total-append (stands_on m.servers n) (option_to_list old.current)
-        (option_to_list (granted_copy old.grant)) in
+    (option_to_list (granted_copy old.grant)) in
     let new : Copy = record { server = server; life = life; version = old.next } in
     let b = total-append (stands_on m.servers n) (option_to_list old.current) (new ∷ []) in
     (elim (is_eq (block_cmp other block)) as (λ t. is_eq (block_cmp other block) ≡ t
@@ -131,16 +131,16 @@ one-granted block slot server actor lease m rising may h other n =
           (with_slot block slot (granted_slot server life actor lease old) m.slots) ≤ 1) [
             | true ↦ λ same.
                 let none : live_count m.servers other n m.slots ≡ 0 = subst
-                    (λ k. live_count m.servers k n m.slots ≡ 0)
-                    (sym (block_cmp-Equal other block (equal-is _ is)))
-                    (subst (λ k. live_count m.servers block k m.slots ≡ 0) (eqb-true server n same)
-                    (sym (live-count block server m) ∙ may.apart)) in
+                (λ k. live_count m.servers k n m.slots ≡ 0)
+                (sym (block_cmp-Equal other block (equal-is _ is)))
+                (subst (λ k. live_count m.servers block k m.slots ≡ 0) (eqb-true server n same)
+                (sym (live-count block server m) ∙ may.apart)) in
                 let one : stands_on m.servers n new ≤ 1 = most (is_live m.servers new)
-                    (nat_eq server n) in
+                (nat_eq server n) in
                 omega arith
             | false ↦ λ differs.
                 let zero_new : stands_on m.servers n new ≡ 0 = nothing (is_live m.servers new)
-                    (nat_eq server n) differs in
+                (nat_eq server n) differs in
                 omega arith
           ]) refl
       | false ↦ λ _ e. omega arith
@@ -192,7 +192,7 @@ risen-live server life n m is rises copy known =
     (server_up life) m.servers server copy.server is
     (λ same.
     let e : (server_at m.servers server).life ≡ (server_at m.servers copy.server).life = ap
-        (λ k. (server_at m.servers k).life) same in
+    (λ k. (server_at m.servers k).life) same in
     (elim (copy.life == life) as (λ b. (copy.life == life) ≡ b → weigh_if b
     (one_if (nat_eq copy.server n)) ≤ weigh_if (copy.life == (server_at m.servers copy.server).life)
     (one_if (nat_eq copy.server n))) [
@@ -228,7 +228,7 @@ losing-one m change is h =
 granted-one : (block : BlockId) (slot server actor lease : ℕ) (m : MetaImage)
     → OneEach m.servers (grant_slot block slot server actor lease m).slots
     → OneEach (grant_slot block slot server actor lease m).servers
-      (grant_slot block slot server actor lease m).slots
+    (grant_slot block slot server actor lease m).slots
 unfolding grant_slot with_slots
 granted-one block slot server actor lease m h = h
 

@@ -31,7 +31,7 @@ granted-current : (past : Past) (m : MetaImage) (block : BlockId) (slot : ℕ) (
     → Knows past m → (slot_at m.slots block slot).current ≡ Some copy → Granted past block slot copy
 granted-current past m block slot copy k at =
     let each : Each (Granted past block slot) (option_to_list (Some copy)) = subst
-        (λ o. Each (Granted past block slot) (option_to_list o)) at (k.current block slot) in
+    (λ o. Each (Granted past block slot) (option_to_list o)) at (k.current block slot) in
     each.0
 
 pub listed-kept : (past : Past) (m : MetaImage) (copies : List ListedCopy)
@@ -70,7 +70,7 @@ listed-kept past m copies each h = record {
     not_listed = each_append _ past.listed copies go.not_listed (each_weaker (ListsCurrent past m) _
         (λ l at live is. let same = is_copy-is c.block c.slot c.copy l.of_slot is in
         go.not_current (sym (λ i. (slot_at m.slots (same.0 i) (same.1 i)).current) ∙ at.0 ∙ ap Some
-            same.2)) copies each);
+        same.2)) copies each);
   }) past.ordered h.ordered;
   one = h.one;
   tree = h.tree;
@@ -96,14 +96,27 @@ ordered-kept past m c go was h = record {
     ordered = each_push _ past.ordered c h.knows.ordered was;
   };
   lives = h.lives;
-  leases = record { once = h.leases.once; numbers = h.leases.numbers; given = h.leases.given;
-      listed = h.leases.listed; kept = h.leases.kept };
+  leases = record {
+    once = h.leases.once;
+    numbers = h.leases.numbers;
+    given = h.leases.given;
+    listed = h.leases.listed;
+    kept = h.leases.kept;
+  };
   ordered =
       each_push _ past.ordered c (each_weaker (IsLetGo past m) _
-      (λ c go. record { not_current = go.not_current; not_granted = go.not_granted; not_listed =
-      go.not_listed }) past.ordered h.ordered)
-      (record { not_current = go.not_current; not_granted = go.not_granted; not_listed =
-          go.not_listed });
+      (λ c go. record {
+        not_current = go.not_current;
+        not_granted = go.not_granted;
+        not_listed =
+            go.not_listed;
+      }) past.ordered h.ordered)
+      (record {
+        not_current = go.not_current;
+        not_granted = go.not_granted;
+        not_listed =
+            go.not_listed;
+      });
   one = h.one;
   tree = h.tree;
 }

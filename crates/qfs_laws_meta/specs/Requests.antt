@@ -118,18 +118,36 @@ turned past m h = record {
     first_lease = h.fits.first_lease;
     tree = h.fits.tree;
     table = h.fits.table;
-    rows = record { first = h.fits.rows.first; leases = h.fits.rows.leases; rows = h.fits.rows.rows
-        };
+    rows = record {
+      first = h.fits.rows.first;
+      leases = h.fits.rows.leases;
+      rows = h.fits.rows.rows;
+    };
     dropped = h.fits.dropped;
     history = h.fits.history;
   };
-  knows = record { once = h.knows.once; of_files = h.knows.of_files; behind = h.knows.behind;
-    counted = h.knows.counted; different = h.knows.different; current = h.knows.current; pending =
-        h.knows.pending; condemned = h.knows.condemned; ordered = h.knows.ordered; listed =
-        h.knows.listed };
+  knows = record {
+    once = h.knows.once;
+    of_files = h.knows.of_files;
+    behind = h.knows.behind;
+    counted = h.knows.counted;
+    different = h.knows.different;
+    current = h.knows.current;
+    pending =
+        h.knows.pending;
+    condemned = h.knows.condemned;
+    ordered = h.knows.ordered;
+    listed =
+        h.knows.listed;
+  };
   lives = h.lives;
-  leases = record { once = h.leases.once; numbers = h.leases.numbers; given = h.leases.given;
-      listed = h.leases.listed; kept = h.leases.kept };
+  leases = record {
+    once = h.leases.once;
+    numbers = h.leases.numbers;
+    given = h.leases.given;
+    listed = h.leases.listed;
+    kept = h.leases.kept;
+  };
   ordered = each_weaker _ _ (λ c go. record
       { not_current = go.not_current; not_granted = go.not_granted; not_listed = go.not_listed })
       past.ordered h.ordered;
@@ -167,8 +185,11 @@ step-stays actor past m (Makes changes reply) Ended.Done None fine h counters =
     taken : (b : Bool) → counters_fit (apply_all changes m) ≡ b
         → Stays actor past (take_step m (apply_all changes m) reply b)
     taken true is =
-        record { keeps = turned (remember actor past reply) (apply_all changes m)
-        (fine.1 (kept-all past m changes fine.0 h)); counters = is }
+        record {
+          keeps = turned (remember actor past reply) (apply_all changes m)
+              (fine.1 (kept-all past m changes fine.0 h));
+          counters = is;
+        }
     taken false is = quiet-stays actor past m Told.NoMemory refl h counters
 step-stays actor past m (Tells reply) Ended.Failed None fine h counters =
     quiet-stays actor past m reply fine h counters

@@ -46,35 +46,46 @@ module _ (rules : Rules) (actor : ℕ) (past : Past) (m : MetaImage) where
   unfolding decide_mkdir
   mkdir-fair path =
       file-fair rules actor past m (Ask.Mkdir path) _ _ _ (λ why is. (is, refl))
-      (λ free. ((free, refl), plain-goes rules actor past m (Ask.Mkdir path)
-      (AddDirectory path ∷ []) (Told.Done (length m.history)) (tt, tt)))
+      (λ free. (
+        (free, refl),
+        plain-goes rules actor past m (Ask.Mkdir path)
+            (AddDirectory path ∷ []) (Told.Done (length m.history)) (tt, tt),
+      ))
 
   pub rmdir-fair : (path : PathNames)
       → Fair rules actor past m (Ask.Rmdir path) (decide_rmdir path m)
   unfolding decide_rmdir
   rmdir-fair path =
       file-fair rules actor past m (Ask.Rmdir path) _ _ _ (λ why is. (is, refl))
-      (λ free. ((free, refl), plain-goes rules actor past m (Ask.Rmdir path)
-      (TakeDirectory path ∷ []) (Told.Done (length m.history)) (tt, tt)))
+      (λ free. (
+        (free, refl),
+        plain-goes rules actor past m (Ask.Rmdir path)
+            (TakeDirectory path ∷ []) (Told.Done (length m.history)) (tt, tt),
+      ))
 
   pub remove-fair : (path : PathNames)
       → Fair rules actor past m (Ask.Remove path) (decide_remove path m)
   unfolding decide_remove remove_changes
   remove-fair path =
       file-fair rules actor past m (Ask.Remove path) _ _ _ (λ why is. (is, refl))
-      (λ free. ((free, refl),
-      plain-goes rules actor past m (Ask.Remove path) _ (Told.Done (length m.history))
-      (each_append IsPlain (map (λ (row : SlotRow). EmptySlot row.block row.slot)
-      (slots_of _ m.slots)) _ (plain-map (λ (row : SlotRow). EmptySlot row.block row.slot)
-      (λ row. tt) (slots_of _ m.slots)) (tt, tt))))
+      (λ free. (
+        (free, refl),
+        plain-goes rules actor past m (Ask.Remove path) _ (Told.Done (length m.history))
+            (each_append IsPlain (map (λ (row : SlotRow). EmptySlot row.block row.slot)
+            (slots_of _ m.slots)) _ (plain-map (λ (row : SlotRow). EmptySlot row.block row.slot)
+            (λ row. tt) (slots_of _ m.slots)) (tt, tt)),
+      ))
 
   pub rename-fair : (from to : PathNames)
       → Fair rules actor past m (Ask.Rename from to) (decide_rename from to m)
   unfolding decide_rename
   rename-fair from to =
       file-fair rules actor past m (Ask.Rename from to) _ _ _ (λ why is. (is, refl))
-      (λ free. ((free, refl), plain-goes rules actor past m (Ask.Rename from to)
-      (MovePath from to ∷ []) (Told.Done (length m.history)) (tt, tt)))
+      (λ free. (
+        (free, refl),
+        plain-goes rules actor past m (Ask.Rename from to)
+            (MovePath from to ∷ []) (Told.Done (length m.history)) (tt, tt),
+      ))
 
   pub list-fair : (path : PathNames) → Fair rules actor past m (Ask.List path) (decide_list path m)
   unfolding decide_list
@@ -84,18 +95,21 @@ module _ (rules : Rules) (actor : ℕ) (past : Past) (m : MetaImage) where
 
   pub create-fair : (path : PathNames) (command len : ℕ)
       → Fair rules actor past m (Ask.Create path command len)
-        (decide_create actor path command len m)
+      (decide_create actor path command len m)
   unfolding decide_create
   create-fair path command len =
       file-fair rules actor past m (Ask.Create path command len) _ _ _ (λ why is. (is, refl))
-      (λ free. ((free, refl, refl), plain-goes rules actor past m (Ask.Create path command len)
-      (AddFile path actor command len ∷ []) (Told.Created m.next_file (length m.history)) (tt, tt)))
+      (λ free. (
+        (free, refl, refl),
+        plain-goes rules actor past m (Ask.Create path command len)
+            (AddFile path actor command len ∷ []) (Told.Created m.next_file (length m.history)) (tt, tt),
+      ))
 
   -- ---- puts that end
 
   closing : (file : ℕ) (row : TreeRow)
       → Goes rules actor past m (Ask.Close file) (CloseFile file actor row.command ∷ [])
-        (Told.Done (length m.history))
+      (Told.Done (length m.history))
   unfolding apply_all
   closing file row may =
       Of.tells-as m (apply m (CloseFile file actor row.command)) (λ block slot own. (own, tt))
@@ -109,8 +123,11 @@ module _ (rules : Rules) (actor : ℕ) (past : Past) (m : MetaImage) where
       need-fair rules actor past m (Ask.Close file) Told.Gone _ _ (λ none. none) (λ row found.
       refuse-fair rules actor past m (Ask.Close file) _ _
       (λ reply is. left row found _ refl reply is)
-      (λ full. ((refl, record { row = row; unclosed = found; complete = whole _ full }), closing
-      file row)))
+      (λ full. (
+        (refl, record { row = row; unclosed = found; complete = whole _ full }),
+        closing
+            file row,
+      )))
     where
       whole : (o : Option SlotId) → incomplete o ≡ None → o ≡ None
       whole None e = refl
@@ -137,16 +154,22 @@ module _ (rules : Rules) (actor : ℕ) (past : Past) (m : MetaImage) where
   unfolding decide_abort abort_unclosed
   abort-fair file =
       need-fair rules actor past m (Ask.Abort file) Told.Gone _ _ (λ none. none)
-      (λ row found. ((refl, row, found), plain-goes rules actor past m (Ask.Abort file)
-      (abort_changes file m.slots) (Told.Done (length m.history)) (aborting-plain file m.slots)))
+      (λ row found. (
+        (refl, row, found),
+        plain-goes rules actor past m (Ask.Abort file)
+            (abort_changes file m.slots) (Told.Done (length m.history)) (aborting-plain file m.slots),
+      ))
 
   pub release-fair : (lease : ℕ)
       → Fair rules actor past m (Ask.Release lease) (decide_release actor lease m)
   unfolding decide_release
   release-fair lease =
       unless-fair rules actor past m (Ask.Release lease) _ _ _ (λ off. off)
-      (λ on. ((refl, on), plain-goes rules actor past m (Ask.Release lease) (EndLease lease ∷ [])
-      (Told.Done (length m.history)) (tt, tt)))
+      (λ on. (
+        (refl, on),
+        plain-goes rules actor past m (Ask.Release lease) (EndLease lease ∷ [])
+            (Told.Done (length m.history)) (tt, tt),
+      ))
 
   -- ---- recoveries and moves that end
 
@@ -161,7 +184,7 @@ module _ (rules : Rules) (actor : ℕ) (past : Past) (m : MetaImage) where
 
   confirming : (block : BlockId) (slot version lease : ℕ) (live : Bool)
       → Goes rules actor past m (Ask.Confirm block slot version lease)
-        (cond live (EndLease lease ∷ []) [] ++ ConfirmSlot block slot ∷ []) Told.Confirmed
+      (cond live (EndLease lease ∷ []) [] ++ ConfirmSlot block slot ∷ []) Told.Confirmed
   unfolding apply_all
   confirming block slot version lease true may =
       let n : MetaImage = apply m (EndLease lease) in
@@ -175,16 +198,18 @@ module _ (rules : Rules) (actor : ℕ) (past : Past) (m : MetaImage) where
 
   pub confirm-fair : (block : BlockId) (slot version lease : ℕ)
       → Fair rules actor past m (Ask.Confirm block slot version lease)
-        (decide_confirm actor block slot version lease m)
+      (decide_confirm actor block slot version lease m)
   unfolding decide_confirm confirm_grant end_own_lease end_live_lease
   confirm-fair block slot version lease = one (file_stands block.file m.tree) refl
     where
       one : (b : Bool) → file_stands block.file m.tree ≡ b
           → Fair rules actor past m (Ask.Confirm block slot version lease)
-            (confirm_grant actor block slot version lease m b)
-      one false is =
-          (is, plain-goes rules actor past m (Ask.Confirm block slot version lease) _ Told.Vanished
-          (ending-plain (holds_lease actor lease m.leases) lease))
+          (confirm_grant actor block slot version lease m b)
+      one false is = (
+        is,
+        plain-goes rules actor past m (Ask.Confirm block slot version lease) _ Told.Vanished
+            (ending-plain (holds_lease actor lease m.leases) lease),
+      )
       one true is =
           unless-fair rules actor past m (Ask.Confirm block slot version lease) _ _ _
           (λ off. (off, refl, refl)) (λ on.
@@ -192,15 +217,17 @@ module _ (rules : Rules) (actor : ℕ) (past : Past) (m : MetaImage) where
 
   pub abandon-fair : (block : BlockId) (slot version lease : ℕ)
       → Fair rules actor past m (Ask.Abandon block slot version lease)
-        (decide_abandon actor block slot version lease m)
+      (decide_abandon actor block slot version lease m)
   unfolding decide_abandon abandon_changes end_own_lease give_up_own
-  abandon-fair block slot version lease =
-      (refl, plain-goes rules actor past m (Ask.Abandon block slot version lease) _
-      (Told.Done (length m.history)) (each_append IsPlain
-      (cond (holds_lease actor lease m.leases) (EndLease lease ∷ []) []) _
-      (ending-plain (holds_lease actor lease m.leases) lease)
-      (giving-plain (is_own_grant actor version lease (slot_at m.slots block slot).grant) block
-      slot)))
+  abandon-fair block slot version lease = (
+    refl,
+    plain-goes rules actor past m (Ask.Abandon block slot version lease) _
+        (Told.Done (length m.history)) (each_append IsPlain
+        (cond (holds_lease actor lease m.leases) (EndLease lease ∷ []) []) _
+        (ending-plain (holds_lease actor lease m.leases) lease)
+        (giving-plain (is_own_grant actor version lease (slot_at m.slots block slot).grant) block
+        slot)),
+  )
 
   -- ---- deletions
 
@@ -209,14 +236,19 @@ module _ (rules : Rules) (actor : ℕ) (past : Past) (m : MetaImage) where
   unfolding decide_order order_row
   order-fair after =
       need-fair rules actor past m (Ask.OrderNext after) Told.Nothing _ _ (λ none. none)
-      (λ row found. ((row, found, refl, refl), plain-goes rules actor past m (Ask.OrderNext after)
-      (MarkOrdered row.condemned.number ∷ []) (Told.Ordered row.condemned m.turn) (tt, tt)))
+      (λ row found. (
+        (row, found, refl, refl),
+        plain-goes rules actor past m (Ask.OrderNext after)
+            (MarkOrdered row.condemned.number ∷ []) (Told.Ordered row.condemned m.turn) (tt, tt),
+      ))
 
   pub swept-fair : (number : ℕ) → Fair rules actor past m (Ask.Swept number) (decide_swept number m)
   unfolding decide_swept
-  swept-fair number =
-      (refl, plain-goes rules actor past m (Ask.Swept number) (TakeCondemned number ∷ [])
-      (Told.Done (length m.history)) (tt, tt))
+  swept-fair number = (
+    refl,
+    plain-goes rules actor past m (Ask.Swept number) (TakeCondemned number ∷ [])
+        (Told.Done (length m.history)) (tt, tt),
+  )
 
   -- ---- servers and the clock
 
@@ -225,21 +257,28 @@ module _ (rules : Rules) (actor : ℕ) (past : Past) (m : MetaImage) where
   unfolding decide_hello
   hello-fair server life keys =
       unless-fair rules actor past m (Ask.Hello server life keys) _ _ _ (λ off. (off, refl))
-      (λ on. ((on, refl), plain-goes rules actor past m (Ask.Hello server life keys)
-      (ServerUp server life ∷ map (CondemnStray server life) keys) (Told.Done (length m.history))
-      (tt, plain-map (CondemnStray server life) (λ key. tt) keys)))
+      (λ on. (
+        (on, refl),
+        plain-goes rules actor past m (Ask.Hello server life keys)
+            (ServerUp server life ∷ map (CondemnStray server life) keys) (Told.Done (length m.history))
+            (tt, plain-map (CondemnStray server life) (λ key. tt) keys),
+      ))
 
   pub bye-fair : (server : ℕ) → Fair rules actor past m (Ask.Bye server) (decide_bye server m)
   unfolding decide_bye
-  bye-fair server =
-      (refl, plain-goes rules actor past m (Ask.Bye server) (ServerDown server ∷ [])
-      (Told.Done (length m.history)) (tt, tt))
+  bye-fair server = (
+    refl,
+    plain-goes rules actor past m (Ask.Bye server) (ServerDown server ∷ [])
+        (Told.Done (length m.history)) (tt, tt),
+  )
 
   pub leave-fair : (server : ℕ) → Fair rules actor past m (Ask.Leave server) (decide_leave server m)
   unfolding decide_leave
-  leave-fair server =
-      (refl, plain-goes rules actor past m (Ask.Leave server) (ServerLeaves server ∷ [])
-      (Told.Done (length m.history)) (tt, tt))
+  leave-fair server = (
+    refl,
+    plain-goes rules actor past m (Ask.Leave server) (ServerLeaves server ∷ [])
+        (Told.Done (length m.history)) (tt, tt),
+  )
 
   pub hibernate-fair : (server ticks : ℕ)
       → Fair rules actor past m (Ask.Hibernate server ticks) (decide_hibernate server ticks m)
@@ -251,10 +290,12 @@ module _ (rules : Rules) (actor : ℕ) (past : Past) (m : MetaImage) where
   pub tick-fair : Fair rules actor past m Ask.Tick (decide_tick m)
   unfolding decide_tick
   tick-fair =
-      let now : ℕ = min (m.clock + 1) LAST_U64 in
-      (refl, plain-goes rules actor past m Ask.Tick
-      (ClockTicks ∷ map EndLease (leases_over now m.leases)) (Told.Clock now)
-      (tt, plain-map EndLease (λ lease. tt) (leases_over now m.leases)))
+      let now : ℕ = min (m.clock + 1) LAST_U64 in (
+        refl,
+        plain-goes rules actor past m Ask.Tick
+            (ClockTicks ∷ map EndLease (leases_over now m.leases)) (Told.Clock now)
+            (tt, plain-map EndLease (λ lease. tt) (leases_over now m.leases)),
+      )
 
   drop-plain : (dropped : ℕ) (turn : Option ℕ)
       → Each IsPlain (changes_unless_dropped dropped m turn)
@@ -263,21 +304,23 @@ module _ (rules : Rules) (actor : ℕ) (past : Past) (m : MetaImage) where
   drop-plain dropped None = (
     tt,
     each_append IsPlain (map EndLease (leases_of dropped m.leases) ++ map
-    (λ (row : SlotRow). GiveUp row.block row.slot) (filter (is_recovery_of dropped m.tree) m.slots))
-    (flat_map (λ file. abort_changes file m.slots) (unclosed_files dropped m.tree))
+        (λ (row : SlotRow). GiveUp row.block row.slot) (filter (is_recovery_of dropped m.tree) m.slots))
+        (flat_map (λ file. abort_changes file m.slots) (unclosed_files dropped m.tree))
         (each_append IsPlain (map EndLease (leases_of dropped m.leases)) _
         (plain-map EndLease (λ lease. tt) (leases_of dropped m.leases))
         (plain-map (λ (row : SlotRow). GiveUp row.block row.slot) (λ row. tt)
         (filter (is_recovery_of dropped m.tree) m.slots)))
         (plain-flat (λ file. abort_changes file m.slots) (λ file. aborting-plain file m.slots)
-            (unclosed_files dropped m.tree)),
+        (unclosed_files dropped m.tree)),
   )
 
   pub drop-fair : (dropped : ℕ) → Fair rules actor past m (Ask.Drop dropped) (decide_drop dropped m)
   unfolding decide_drop
-  drop-fair dropped =
-      (refl, plain-goes rules actor past m (Ask.Drop dropped) _ (Told.Done (length m.history))
-      (drop-plain dropped (dropped_at dropped m.dropped)))
+  drop-fair dropped = (
+    refl,
+    plain-goes rules actor past m (Ask.Drop dropped) _ (Told.Done (length m.history))
+        (drop-plain dropped (dropped_at dropped m.dropped)),
+  )
 
   pub left_on-fair : (server : ℕ)
       → Fair rules actor past m (Ask.LeftOn server) (decide_left_on server m)

@@ -79,9 +79,19 @@ pub create-fine : (actor : ℕ) (past : Past) (m : MetaImage) (path : PathNames)
     → len ≤ MOST_FILE_BYTES → Fine actor past m (decide_create actor path command len m)
 unfolding decide_create remember
 create-fine actor past m path command len counters a is c l =
-    file-fine actor past m _ _ _ (λ free.
-    ((record { adds = record { is_path = is; free = free }; number = next-fits m counters;
-    is_actor = a; command_fits = c; len_fits = l }, tt), λ h. h))
+    file-fine actor past m _ _ _ (λ free. (
+      (
+        record {
+          adds = record { is_path = is; free = free };
+          number = next-fits m counters;
+          is_actor = a;
+          command_fits = c;
+          len_fits = l;
+        },
+        tt,
+      ),
+      λ h. h,
+    ))
 
 -- ---- a put that ends
 
@@ -115,9 +125,19 @@ pub close-fine : (layout : Shape) (actor : ℕ) (past : Past) (m : MetaImage) (f
 unfolding decide_close close_complete remember
 close-fine layout actor past m file f counters =
     need-fine actor past m Told.Gone _ _ refl (λ row found.
-    refuse-fine actor past m _ _ (λ reply is. incomplete-quiet actor past _ reply is) (λ _.
-    ((record { row = row; found = found; made = refl; number =
-    (unclosed-fits actor file m row f (next-fits m counters) found).0 }, tt), λ h. h)))
+    refuse-fine actor past m _ _ (λ reply is. incomplete-quiet actor past _ reply is) (λ _. (
+      (
+        record {
+          row = row;
+          found = found;
+          made = refl;
+          number =
+              (unclosed-fits actor file m row f (next-fits m counters) found).0;
+        },
+        tt,
+      ),
+      λ h. h,
+    )))
 
 -- ---- changes that may always be made, and tell nothing
 
@@ -144,9 +164,11 @@ each-map f free (x ∷ xs) = (free x, each-map f free xs)
 pub free-fine : (actor : ℕ) (past : Past) (m : MetaImage) (changes : List Change)
     (reply : MetaReply)
     → Each IsFree changes → Quiet actor past reply → Fine actor past m (Makes changes reply)
-free-fine actor past m changes reply free quiet =
-    (free-make changes free past m, λ h. subst (λ p. Keeps p (apply_all changes m))
-    (free-told changes free past m ∙ sym quiet) h)
+free-fine actor past m changes reply free quiet = (
+  free-make changes free past m,
+  λ h. subst (λ p. Keeps p (apply_all changes m))
+      (free-told changes free past m ∙ sym quiet) h,
+)
 
 pub release-fine : (actor : ℕ) (past : Past) (m : MetaImage) (lease : ℕ)
     → Fine actor past m (decide_release actor lease m)
@@ -167,9 +189,11 @@ pub tick-fine : (actor : ℕ) (past : Past) (m : MetaImage) → Fine actor past 
 unfolding decide_tick remember
 tick-fine actor past m =
     let now : ℕ = risen LAST_U64 m.clock in
-    free-fine actor past m (ClockTicks ∷ map EndLease (leases_over now m.leases)) (Told.Clock now)
-    ((λ p n. (tt, refl)), each_map (λ _. Unit {0}) IsFree EndLease (λ lease _ p n. (tt, refl))
-    (leases_over now m.leases) (each_of_all _ (λ _. tt) (leases_over now m.leases))) refl
+    free-fine actor past m (ClockTicks ∷ map EndLease (leases_over now m.leases)) (Told.Clock now) (
+      (λ p n. (tt, refl)),
+      each_map (λ _. Unit {0}) IsFree EndLease (λ lease _ p n. (tt, refl))
+          (leases_over now m.leases) (each_of_all _ (λ _. tt) (leases_over now m.leases)),
+    ) refl
 
 pub left_on-fine : (actor : ℕ) (past : Past) (m : MetaImage) (server : ℕ)
     → Fine actor past m (decide_left_on server m)
@@ -229,17 +253,20 @@ up-servers m server life is =
 
 pub hello-fine : (actor : ℕ) (past : Past) (m : MetaImage) (server life : ℕ) (keys : List ChunkKey)
     → (is_server (length m.servers) server && list_all (λ (key : ChunkKey). is_slot_number key.slot)
-      keys) ≡ true
+    keys) ≡ true
     → Each (WasGrantedOn past server life) keys
     → Fine actor past m (decide_hello server life keys m)
 unfolding decide_hello remember
 hello-fine actor past m server life keys range granted =
     let p = and_parts (is_server (length m.servers) server)
-        (list_all (λ (key : ChunkKey). is_slot_number key.slot) keys) range in
+    (list_all (λ (key : ChunkKey). is_slot_number key.slot) keys) range in
     let is = server-is _ _ p.0 in
     unless-fine actor past m _ _ _ refl (λ rises. (
-      ((is, leb-true _ _ rises), strays past server life keys (apply m (ServerUp server life))
-          (up-servers m server life is) (all-each _ keys p.1) granted),
+      (
+        (is, leb-true _ _ rises),
+        strays past server life keys (apply m (ServerUp server life))
+            (up-servers m server life is) (all-each _ keys p.1) granted,
+      ),
       λ h. subst (λ q. Keeps q (apply_all
           (ServerUp server life ∷ map (CondemnStray server life) keys) m))
           (strays-told past server life keys (apply m (ServerUp server life))) h,

@@ -50,23 +50,23 @@ use Rattle.qfs_laws_tree.specs.Tree.{of-tree, tree-of}
 
 known-count : (v : ℕ) (block : BlockId) (slot : ℕ) (m : MetaImage)
     → copies v (map (λ (c : Copy). c.version) (known_copies block slot m.slots m.condemned)) ≡ held
-      v (slot_at m.slots block slot) + condemned_count v block slot m.condemned
+    v (slot_at m.slots block slot) + condemned_count v block slot m.condemned
 unfolding known_copies condemned_of
 known-count v block slot m =
     let state : SlotRecord = slot_at m.slots block slot in
     let rows : List Copy = map (λ (row : CondemnedRow). row.condemned.copy)
-        (filter (is_condemned_of block slot) m.condemned) in
+    (filter (is_condemned_of block slot) m.condemned) in
     let a = total-map (λ k. one_if (nat_eq k v)) (λ (c : Copy). c.version)
-        (option_to_list state.current ++ option_to_list (granted_copy state.grant) ++ rows) in
+    (option_to_list state.current ++ option_to_list (granted_copy state.grant) ++ rows) in
     let b = total-append (version_of v)
-        (option_to_list state.current ++ option_to_list (granted_copy state.grant)) rows in
+    (option_to_list state.current ++ option_to_list (granted_copy state.grant)) rows in
     let c = total-append (version_of v) (option_to_list state.current)
-        (option_to_list (granted_copy state.grant)) in
+    (option_to_list (granted_copy state.grant)) in
     let d : total (version_of v) rows ≡ condemned_count v block slot m.condemned = total-map
-        (version_of v) (λ (row : CondemnedRow). row.condemned.copy)
-        (filter (is_condemned_of block slot) m.condemned) ∙ total-filter
-        (λ (row : CondemnedRow). version_of v row.condemned.copy) (is_condemned_of block slot)
-        m.condemned in
+    (version_of v) (λ (row : CondemnedRow). row.condemned.copy)
+    (filter (is_condemned_of block slot) m.condemned) ∙ total-filter
+    (λ (row : CondemnedRow). version_of v row.condemned.copy) (is_condemned_of block slot)
+    m.condemned in
     a ∙ b ∙ (λ i. c i + d i)
 
 own-condemned : (row : CondemnedRow)
@@ -78,15 +78,15 @@ own-condemned row =
 
 split : (past : Past) (m : MetaImage) (block : BlockId) (slot : ℕ)
     → Each (λ copy. IsTrue (was_granted past.granted block slot copy))
-      (known_copies block slot m.slots m.condemned)
+    (known_copies block slot m.slots m.condemned)
     → Each (Granted past block slot) (current_in m.slots block slot) × Each
     (Granted past block slot) (pending_in m.slots block slot) × Each (Granted past block slot)
     (condemned_of block slot m.condemned)
 unfolding known_copies
 split past m block slot each =
     let left = each-left (Granted past block slot)
-        (current_in m.slots block slot ++ pending_in m.slots block slot)
-        (condemned_of block slot m.condemned) each in (
+    (current_in m.slots block slot ++ pending_in m.slots block slot)
+    (condemned_of block slot m.condemned) each in (
       each-left (Granted past block slot) (current_in m.slots block slot)
           (pending_in m.slots block slot) left,
       each-right (Granted past block slot) (current_in m.slots block slot)
@@ -112,7 +112,7 @@ joined past m block slot c g d =
 rows-have : (P : BlockId → ℕ → Copy → Type 0) (rows : List CondemnedRow)
     → ((block : BlockId) (slot : ℕ) → Each (P block slot) (condemned_of block slot rows))
     → Each (λ (row : CondemnedRow). P row.condemned.block row.condemned.slot row.condemned.copy)
-      rows
+    rows
 unfolding condemned_of
 rows-have P rows each =
     go rows (λ block slot. each_of_filter (λ (row : CondemnedRow). P block slot row.condemned.copy)
@@ -122,19 +122,21 @@ rows-have P rows each =
   where
     go : (rows : List CondemnedRow)
         → ((block : BlockId) (slot : ℕ) → Each
-          (λ (row : CondemnedRow). is_condemned_of block slot row ≡ true → P block slot
-          row.condemned.copy) rows)
+        (λ (row : CondemnedRow). is_condemned_of block slot row ≡ true → P block slot
+        row.condemned.copy) rows)
         → Each (λ (row : CondemnedRow). P row.condemned.block row.condemned.slot row.condemned.copy)
-          rows
+        rows
     go [] each = tt
-    go (row ∷ rows) each =
-        ((each row.condemned.block row.condemned.slot).0 (own-condemned row), go rows
-        (λ block slot. (each block slot).1))
+    go (row ∷ rows) each = (
+      (each row.condemned.block row.condemned.slot).0 (own-condemned row),
+      go rows
+          (λ block slot. (each block slot).1),
+    )
 
 have-rows : (P : BlockId → ℕ → Copy → Type 0) (rows : List CondemnedRow) (block : BlockId)
     (slot : ℕ)
     → Each (λ (row : CondemnedRow). P row.condemned.block row.condemned.slot row.condemned.copy)
-      rows
+    rows
     → Each (P block slot) (condemned_of block slot rows)
 unfolding condemned_of
 have-rows P rows block slot each =
@@ -190,8 +192,12 @@ keeps-of past m h = record {
     first_lease = h.image.fits.first_lease;
     tree = tree-of m.next_file m.tree h.image.fits.tree;
     table = table-of (length m.servers) m.next_lease m.tree m.slots h.image.fits.slots;
-    rows = record { first = h.image.fits.first_condemned; leases = h.image.fits.leases; rows =
-        h.image.fits.condemned };
+    rows = record {
+      first = h.image.fits.first_condemned;
+      leases = h.image.fits.leases;
+      rows =
+          h.image.fits.condemned;
+    };
     dropped = h.image.fits.dropped;
     history = h.image.fits.history;
   };
@@ -206,19 +212,22 @@ keeps-of past m h = record {
 pub sound-of : (past : Past) (m : MetaImage) → IsTrue (counters_fit m) → Keeps past m
     → IsSound past m
 sound-of past m counters h = record {
-  image = record { fits = record {
-    some_server = h.fits.some_server;
-    few_servers = h.fits.few_servers;
-    first_file = h.fits.first_file;
-    first_lease = h.fits.first_lease;
-    first_condemned = h.fits.rows.first;
-    tree = of-tree m.next_file m.tree h.fits.tree;
-    slots = of-table (length m.servers) m.next_lease m.tree m.slots h.fits.table;
-    leases = h.fits.rows.leases;
-    condemned = h.fits.rows.rows;
-    dropped = h.fits.dropped;
-    history = h.fits.history;
-  }; counters = counters };
+  image = record {
+    fits = record {
+      some_server = h.fits.some_server;
+      few_servers = h.fits.few_servers;
+      first_file = h.fits.first_file;
+      first_lease = h.fits.first_lease;
+      first_condemned = h.fits.rows.first;
+      tree = of-tree m.next_file m.tree h.fits.tree;
+      slots = of-table (length m.servers) m.next_lease m.tree m.slots h.fits.table;
+      leases = h.fits.rows.leases;
+      condemned = h.fits.rows.rows;
+      dropped = h.fits.dropped;
+      history = h.fits.history;
+    };
+    counters = counters;
+  };
   granted_once = of-knows past m h.knows;
   lives = h.lives;
   leases = h.leases;
@@ -301,9 +310,9 @@ stays-sound rules actor request outcome past m sound left a may =
     let h = keeps-of past m sound in
     let c = sound.image.counters in
     let fine = unless-fine actor past m (in_range (length m.servers) request) Told.Nothing
-        (decide_request rules actor m request) refl
-        (λ range. request-fine rules actor past m request h c (versions-left past m left h) a may
-        range) in
+    (decide_request rules actor m request) refl
+    (λ range. request-fine rules actor past m request h c (versions-left past m left h) a may
+    range) in
     let s = step-stays actor past m (decide rules actor m request) outcome
-        (dropped_at actor m.dropped) fine h c in
+    (dropped_at actor m.dropped) fine h c in
     sound-of _ _ s.counters s.keeps

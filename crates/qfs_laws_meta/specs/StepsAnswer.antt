@@ -78,7 +78,7 @@ unfolding meta_step decide unless
 steps-answer rules actor request outcome past m sound left who may range =
     let h = keeps-of past m sound in
     let fine : Fine actor past m (decide_request rules actor m request) = request-fine rules actor
-        past m request h sound.image.counters (versions-left past m left h) who may range in
+    past m request h sound.image.counters (versions-left past m left h) who may range in
     step-answers rules actor outcome past m request
     (unless (in_range (length m.servers) request) Told.Nothing
     (decide_request rules actor m request)) (dropped_at actor m.dropped) refl

@@ -171,13 +171,13 @@ dropped change drops block slot rows = record {
       (λ st. st.current ≡ Some copy → (slot_at rows other number).current ≡ Some copy) block other
       slot number change rows
       (λ _ is. absurd (cc)) (λ _ _ is. drops.current (slot_at rows other number) copy is)
-          (λ _ is. is);
+      (λ _ is. is);
   granted =
       λ other number copy. slot-cases
       (λ st. granted_copy st.grant ≡ Some copy → granted_copy
       (slot_at rows other number).grant ≡ Some copy) block other slot number change rows
       (λ _ is. absurd (none is)) (λ _ _ is. drops.granted (slot_at rows other number) copy is)
-          (λ _ is. is);
+      (λ _ is. is);
 }
   where
     none : {copy : Copy} → granted_copy None ≡ Some copy → ⊥

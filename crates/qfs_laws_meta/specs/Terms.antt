@@ -79,9 +79,9 @@ without-twice p q (x ∷ xs) =
       | false ↦ elim (p x) as (λ b. cond (not b) (x ∷ without p (without q xs))
           (without p (without q xs)) ≡ cond (not b) (x ∷ without (λ x. q x || p x) xs)
           (without (λ x. q x || p x) xs)) [
-        | true ↦ rest
-        | false ↦ ap (λ l. x ∷ l) rest
-      ]
+            | true ↦ rest
+            | false ↦ ap (λ l. x ∷ l) rest
+          ]
     ]
 
 without-same : {X : Type 0} (p q : X → Bool) (xs : List X) → Each (λ x. p x ≡ q x) xs
@@ -128,7 +128,7 @@ later-none row test [] each = refl
 later-none row test (x ∷ rows) each =
     let rest = later-none row test rows each.1 in
     let off : is_lease x.lease row ≡ false = is_lease-is x.lease row ∙ apart row.lease x.lease
-        (ranked row.lease x.lease Less (sym each.0)) in
+    (ranked row.lease x.lease Less (sym each.0)) in
     elim (test x) as (λ b. list_any (λ (x : Lease). is_lease x.lease row)
     (cond b (x ∷ filter test rows) (filter test rows)) ≡ false) [
       | true ↦ (λ i. off i || rest i)
@@ -138,17 +138,17 @@ later-none row test (x ∷ rows) each =
 -- a lease has the number of one that ends just where its own time has come
 over-is : (clock : ℕ) (leases : List Lease) → IsRising lease_cmp leases
     → Each (λ (l : Lease). list_any (λ (x : Lease). is_lease x.lease l)
-      (filter (has_run_out clock) leases) ≡ has_run_out clock l) leases
+    (filter (has_run_out clock) leases) ≡ has_run_out clock l) leases
 over-is clock [] rising = tt
 over-is clock (row ∷ rows) rising = (
   elim (has_run_out clock row) as
-  (λ b. list_any (λ (x : Lease). is_lease x.lease row)
-  (cond b (row ∷ filter (has_run_out clock) rows) (filter (has_run_out clock) rows)) ≡ b) [
-    | true ↦ ap (λ b. b || list_any (λ (x : Lease). is_lease x.lease row)
-        (filter (has_run_out clock) rows))
-        (is_lease-is row.lease row ∙ eq-eqb row.lease row.lease refl)
-    | false ↦ later-none row (has_run_out clock) rows rising.0
-  ],
+      (λ b. list_any (λ (x : Lease). is_lease x.lease row)
+      (cond b (row ∷ filter (has_run_out clock) rows) (filter (has_run_out clock) rows)) ≡ b) [
+        | true ↦ ap (λ b. b || list_any (λ (x : Lease). is_lease x.lease row)
+            (filter (has_run_out clock) rows))
+            (is_lease-is row.lease row ∙ eq-eqb row.lease row.lease refl)
+        | false ↦ later-none row (has_run_out clock) rows rising.0
+      ],
   behind rows rising.0 (over-is clock rows rising.1),
 )
   where
@@ -161,15 +161,15 @@ over-is clock (row ∷ rows) rising = (
     behind [] above each = tt
     behind (l ∷ ls) above each = (
       elim (has_run_out clock row) as
-      (λ b. list_any (λ (x : Lease). is_lease x.lease l)
-      (cond b (row ∷ filter (has_run_out clock) rows)
-      (filter (has_run_out clock) rows)) ≡ has_run_out clock l) [
-        | true ↦ ap (λ b. b || list_any (λ (x : Lease). is_lease x.lease l)
-            (filter (has_run_out clock) rows))
-            (is_lease-is row.lease l ∙ other l.lease row.lease
-            (ranked row.lease l.lease Less (sym above.0))) ∙ each.0
-        | false ↦ each.0
-      ],
+          (λ b. list_any (λ (x : Lease). is_lease x.lease l)
+          (cond b (row ∷ filter (has_run_out clock) rows)
+          (filter (has_run_out clock) rows)) ≡ has_run_out clock l) [
+            | true ↦ ap (λ b. b || list_any (λ (x : Lease). is_lease x.lease l)
+                (filter (has_run_out clock) rows))
+                (is_lease-is row.lease l ∙ other l.lease row.lease
+                (ranked row.lease l.lease Less (sym above.0))) ∙ each.0
+            | false ↦ each.0
+          ],
       behind ls above.1 each.1,
     )
       where
@@ -183,10 +183,10 @@ ticks-end-leases rules actor past m sound none =
     let n : MetaImage = record m { clock = now } in
     let numbers : List ℕ = leases_over now m.leases in
     let fits : counters_fit (apply_all (map EndLease numbers) n) ≡ true = ended-counters numbers n
-        ∙ still m now ∙ sound.image.counters in
+    ∙ still m now ∙ sound.image.counters in
     let ends : TicksLeases m (next_turn (apply_all (map EndLease numbers) n)) (Told.Clock now) =
-        ticked m n numbers refl refl (ended-leases numbers n ∙ without-same (any_of numbers)
-        (has_run_out now) m.leases
+    ticked m n numbers refl refl (ended-leases numbers n ∙ without-same (any_of numbers)
+    (has_run_out now) m.leases
     (each_weaker _ _ (λ (l : Lease) e. mapped now m.leases l ∙ e) m.leases
     (over-is now m.leases sound.image.fits.leases.in_order))) in
     taken m n numbers now (dropped_at actor m.dropped) none fits ends
@@ -196,7 +196,7 @@ ticks-end-leases rules actor past m sound none =
 
     mapped : (now : ℕ) (leases : List Lease) (l : Lease)
         → any_of (leases_over now leases) l ≡ list_any (λ (x : Lease). is_lease x.lease l)
-          (filter (has_run_out now) leases)
+        (filter (has_run_out now) leases)
     mapped now leases l =
         unfold leases_over in any-mapped (λ n. is_lease n l) (λ (x : Lease). x.lease)
         (filter (has_run_out now) leases)
@@ -273,8 +273,8 @@ unfolding remember
 orders-nothing-listed rules actor after past m c turn sound left who is =
     let next : MetaImage = (meta_step rules actor (Ask.OrderNext after) Ended.Done m).meta in
     let behind : IsSound (record past { ordered = past.ordered ++ c ∷ [] }) next = subst
-        (λ reply. IsSound (remember actor past reply) next) is
-        (stays-sound rules actor (Ask.OrderNext after) Ended.Done past m sound left who tt) in
+    (λ reply. IsSound (remember actor past reply) next) is
+    (stays-sound rules actor (Ask.OrderNext after) Ended.Done past m sound left who tt) in
     (each-right (IsLetGo (record past { ordered = past.ordered ++ c ∷ [] }) next) past.ordered
     (c ∷ []) behind.ordered).0.not_listed
 
@@ -305,7 +305,7 @@ counts-fit m n c fits room =
     let a = and_parts _ (nat_lt (length m.history) (LAST_U32 + 1)) fits in
     let b = and_parts _ (nat_lt m.next_condemned (LAST_U64 + 1)) a.0 in
     let d = and_parts (nat_lt m.next_file (LAST_U32 + 1)) (nat_lt m.next_lease (LAST_U64 + 1)) b.0
-        in
+    in
     let file = ltb-true _ _ d.0 in
     let given = ltb-true _ _ d.1 in
     let long = ltb-true _ _ a.1 in
@@ -334,7 +334,7 @@ confirms-without-lease rules actor block slot version lease m none small closed 
   where
     carried : (live : Bool)
         → (carry_out m (Makes (cond live (EndLease lease ∷ []) [] ++ ConfirmSlot block slot ∷ [])
-          Told.Confirmed)).reply ≡ Told.Confirmed
+        Told.Confirmed)).reply ≡ Told.Confirmed
     carried true =
         unfold carry_out take_step finish_lease in ap
         (λ b. (take_step m (confirm_slot block slot (finish_lease lease m)
@@ -348,8 +348,8 @@ confirms-without-lease rules actor block slot version lease m none small closed 
 
     gated : (refusal : MetaReply) (test : Bool) → test ≡ true
         → (end_step m (unless test refusal
-          (Makes (cond (is_live_lease lease m.leases) (EndLease lease ∷ []) [] ++ ConfirmSlot block
-          slot ∷ []) Told.Confirmed)) Ended.Done).reply ≡ Told.Confirmed
+        (Makes (cond (is_live_lease lease m.leases) (EndLease lease ∷ []) [] ++ ConfirmSlot block
+        slot ∷ []) Told.Confirmed)) Ended.Done).reply ≡ Told.Confirmed
     gated refusal true e = unfold end_step in carried (is_live_lease lease m.leases)
     gated refusal false e = absurd (cc)
 

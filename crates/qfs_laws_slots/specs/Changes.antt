@@ -25,9 +25,16 @@ use Rattle.qfs_laws_tables.specs.Distinct.{copies}
 -- what is told of a change, before the reply lists copies or orders a deletion
 abbrev pub told : Change → MetaImage → Past → Past
 told (GrantSlot block slot server actor lease) m past =
-    with_copy (record { block = block; slot = slot; copy = record
-    { server = server; life = (server_at m.servers server).life; version =
-    (slot_at m.slots block slot).next } }) past
+    with_copy (record {
+      block = block;
+      slot = slot;
+      copy = record {
+        server = server;
+        life = (server_at m.servers server).life;
+        version =
+            (slot_at m.slots block slot).next;
+      };
+    }) past
 told (GiveLease actor file until) m past =
     record past { leases = past.leases ++ record { lease = m.next_lease; actor = actor; file = file } ∷ [] }
 told _ m past = past

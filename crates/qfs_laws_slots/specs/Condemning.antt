@@ -90,7 +90,7 @@ condemned-count v block other slot number m found =
     (λ _. omega arith) (λ _ _ _. omega arith)
     (λ copy is live.
     let more = total-append (weight_of v other number) m.condemned
-        (condemned_row m.next_condemned block slot copy m.leases ∷ []) in
+    (condemned_row m.next_condemned block slot copy m.leases ∷ []) in
     subst (λ o. condemned_count v other number
     (m.condemned ++ condemned_row m.next_condemned block slot copy m.leases ∷ []) ≤ condemned_count
     v other number m.condemned + weigh_if (same_slot block slot other number) (count_in v o))
@@ -151,7 +151,7 @@ swept-count v block slot number rows =
 
 pub risen-count : (v : ℕ) (block : BlockId) (slot server : ℕ) (rows : List CondemnedRow) (b : Bool)
     → condemned_count v block slot (forget_if_risen server rows b) ≤ condemned_count v block slot
-      rows
+    rows
 unfolding forget_if_risen
 risen-count v block slot server rows true =
     total-filter-le (weight_of v block slot) (λ (row : CondemnedRow). not (is_on_server server row))

@@ -38,7 +38,7 @@ granted-has P past block slot copy each was =
     any_each (P (record { block = block; slot = slot; copy = copy })) P (is_copy block slot copy)
     (λ g p is. let same = is_copy-is block slot copy g is in
     let e : g ≡ record { block = block; slot = slot; copy = copy } = λ i. record
-        { block = same.0 i; slot = same.1 i; copy = same.2 i } in
+    { block = same.0 i; slot = same.1 i; copy = same.2 i } in
     subst P e p)
     past.granted each was
 
@@ -61,10 +61,10 @@ same_version-of block slot c x g h is at version =
     let a = is_copy-is block slot c g is in
     let b = is_copy-is block slot x h at in
     let blocks : same_block g.block h.block ≡ true = subst (λ k. same_block k h.block ≡ true)
-        (sym a.0) (subst (λ k. same_block block k ≡ true) (sym b.0) (same_block-self block)) in
+    (sym a.0) (subst (λ k. same_block block k ≡ true) (sym b.0) (same_block-self block)) in
     let slots : g.slot ≡ h.slot = a.1 ∙ sym b.1 in
     let versions : g.copy.version ≡ h.copy.version = ap (λ (k : Copy). k.version) a.2 ∙ version
-        ∙ sym (ap (λ (k : Copy). k.version) b.2) in
+    ∙ sym (ap (λ (k : Copy). k.version) b.2) in
     grind (arith, nat_tests)
 
 away : (block : BlockId) (slot : ℕ) (c x : Copy) (g : SlotCopy) (hs : List SlotCopy)
@@ -91,13 +91,13 @@ one_copy block slot c x (g ∷ gs) distinct version a b =
       | true ↦ λ is _. (elim (is_copy block slot x g) as
           (λ t. is_copy block slot x g ≡ t → (t || list_any (is_copy block slot x) gs) ≡ true →
           c ≡ x) [
-        | true ↦ λ at _. sym (is_copy-is block slot c g is).2 ∙ (is_copy-is block slot x g at).2
-        | false ↦ λ at b. absurd (away block slot c x g gs is version distinct.0 b)
-      ]) refl b
+            | true ↦ λ at _. sym (is_copy-is block slot c g is).2 ∙ (is_copy-is block slot x g at).2
+            | false ↦ λ at b. absurd (away block slot c x g gs is version distinct.0 b)
+          ]) refl b
       | false ↦ λ is a. (elim (is_copy block slot x g) as
           (λ t. is_copy block slot x g ≡ t → (t || list_any (is_copy block slot x) gs) ≡ true →
           c ≡ x) [
-        | true ↦ λ at _. absurd (away block slot x c g gs at (sym version) distinct.0 a)
-        | false ↦ λ at b. one_copy block slot c x gs distinct.1 version a b
-      ]) refl b
+            | true ↦ λ at _. absurd (away block slot x c g gs at (sym version) distinct.0 a)
+            | false ↦ λ at b. one_copy block slot c x gs distinct.1 version a b
+          ]) refl b
     ]) refl a

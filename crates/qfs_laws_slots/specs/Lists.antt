@@ -69,7 +69,7 @@ below-all bound next file (lease ∷ leases) each =
     let rest = below-all bound next file leases each.1 in
     let l = each.0 in
     let same : nat_lt lease.lease bound ≡ nat_lt lease.lease (min bound next) = same_test
-        lease.lease bound next l in
+    lease.lease bound next l in
     elim (lease.file == file) as (λ b.
     filter (λ n. nat_lt n bound) (map (λ (l : Lease). l.lease)
     (cond b (lease ∷ filter (λ (l : Lease). l.file == file) leases)
@@ -86,7 +86,7 @@ below-all bound next file (lease ∷ leases) each =
 
 below-given : (bound next actor file until own : ℕ) (leases : List Lease) → bound ≤ next
     → below bound own leases ≡ below bound own
-      (leases ++ record { lease = next; actor = actor; file = file; until = until } ∷ [])
+    (leases ++ record { lease = next; actor = actor; file = file; until = until } ∷ [])
 unfolding leases_on
 below-given bound next actor file until own [] low =
     let out : nat_lt next bound ≡ false = grind (arith, nat_tests) in
@@ -99,7 +99,7 @@ below-given bound next actor file until own [] low =
 below-given bound next actor file until own (lease ∷ leases) low =
     let rest = below-given bound next actor file until own leases low in
     let new : List Lease = record { lease = next; actor = actor; file = file; until = until } ∷ []
-        in
+    in
     elim (lease.file == own) as (λ b.
     filter (λ n. nat_lt n bound) (map (λ (l : Lease). l.lease)
     (cond b (lease ∷ filter (λ (l : Lease). l.file == own) leases)
@@ -115,14 +115,16 @@ pub blockers-given : (actor file until next : ℕ) (leases : List Lease) (row : 
     → Each (λ (lease : Lease). lease.lease < next) leases → HasBlockers leases row
     → HasBlockers (give_lease next actor file until leases) row
 unfolding give_lease
-blockers-given actor file until next leases row each h =
-    (min h.0 next, h.1 ∙ below-all h.0 next row.condemned.block.file leases each ∙ below-given
-    (min h.0 next) next actor file until row.condemned.block.file leases (omega arith))
+blockers-given actor file until next leases row each h = (
+  min h.0 next,
+  h.1 ∙ below-all h.0 next row.condemned.block.file leases each ∙ below-given
+      (min h.0 next) next actor file until row.condemned.block.file leases (omega arith),
+)
 
 -- a lease that ended is gone from both
 below-ended : (bound lease file : ℕ) (leases : List Lease)
     → without (λ n. n == lease) (below bound file leases) ≡ below bound file
-      (end_lease lease leases)
+    (end_lease lease leases)
 unfolding leases_on end_lease
 below-ended bound lease file [] = refl
 below-ended bound lease file (l ∷ leases) =
@@ -156,9 +158,11 @@ below-ended bound lease file (l ∷ leases) =
 pub blockers-ended : (lease : ℕ) (leases : List Lease) (row : CondemnedRow) → HasBlockers leases row
     → HasBlockers (end_lease lease leases) (unblock lease row)
 unfolding unblock
-blockers-ended lease leases row h =
-    (h.0, ap (without (λ n. n == lease)) h.1 ∙ below-ended h.0 lease row.condemned.block.file
-    leases)
+blockers-ended lease leases row h = (
+  h.0,
+  ap (without (λ n. n == lease)) h.1 ∙ below-ended h.0 lease row.condemned.block.file
+      leases,
+)
 
 -- all live leases on the file block what is condemned now
 blockers-new : (next : ℕ) (file : ℕ) (leases : List Lease)

@@ -26,8 +26,12 @@ IsLosing change = ⊥
 
 -- only the slots, the condemned copies and their next number change
 pub record IsSlotFrame (m n : MetaImage) : Type 0 where
-  pub is : n ≡ record m { slots = n.slots; condemned = n.condemned; next_condemned =
-      n.next_condemned }
+  pub is : n ≡ record m {
+    slots = n.slots;
+    condemned = n.condemned;
+    next_condemned =
+        n.next_condemned;
+  }
 
 pub condemned-slots : (block : BlockId) (slot : ℕ) (m : MetaImage) (found : Option Copy)
     → (condemn_any block slot m found).slots ≡ m.slots
@@ -112,9 +116,11 @@ module _ (Q : List SlotRow → Type 0) (keeps : (change : SlotRecord → SlotRec
 
 -- a stray copy changes no slot
 pub stray-frame : (server life : ℕ) (key : ChunkKey) (m : MetaImage)
-    → (condemn_stray server life key m) ≡ record m
-      { condemned = (condemn_stray server life key m).condemned; next_condemned =
-      (condemn_stray server life key m).next_condemned }
+    → (condemn_stray server life key m) ≡ record m {
+      condemned = (condemn_stray server life key m).condemned;
+      next_condemned =
+          (condemn_stray server life key m).next_condemned;
+    }
 unfolding condemn_stray condemn_unknown
 stray-frame server life key m = one _
   where
@@ -122,9 +128,11 @@ stray-frame server life key m = one _
     copy = record { server = server; life = life; version = key.version }
 
     one : (b : Bool)
-        → condemn_unknown key.block key.slot copy m b ≡ record m
-          { condemned = (condemn_unknown key.block key.slot copy m b).condemned; next_condemned =
-          (condemn_unknown key.block key.slot copy m b).next_condemned }
+        → condemn_unknown key.block key.slot copy m b ≡ record m {
+          condemned = (condemn_unknown key.block key.slot copy m b).condemned;
+          next_condemned =
+              (condemn_unknown key.block key.slot copy m b).next_condemned;
+        }
     one true = refl
     one false =
         condemn-cases (λ n. n ≡ record m

@@ -27,8 +27,8 @@ pub record Loses (change : SlotRecord → SlotRecord) : Type 1 where
       → Each P (option_to_list (granted_copy (change state).grant))
   pub fewer : (w : Copy → ℕ) (state : SlotRecord)
       → total w (option_to_list (change state).current) + total w
-        (option_to_list (granted_copy (change state).grant)) ≤ total w
-        (option_to_list state.current) + total w (option_to_list (granted_copy state.grant))
+      (option_to_list (granted_copy (change state).grant)) ≤ total w
+      (option_to_list state.current) + total w (option_to_list (granted_copy state.grant))
 
 pub loses-current : (P : BlockId → ℕ → Copy → Type 0) (change : SlotRecord → SlotRecord)
     → Loses change → (block other : BlockId) (slot number : ℕ) (slots : List SlotRow)
@@ -56,30 +56,55 @@ loses-pending P change loses block other slot number slots c g =
 pub ungranted-loses : Loses ungranted_slot
 unfolding ungranted_slot granted_copy
 ungranted-loses =
-    record { next = λ _. refl; current = λ P state c g. c; pending = λ P state c g. tt; fewer =
-    λ w state. omega arith }
+    record {
+      next = λ _. refl;
+      current = λ P state c g. c;
+      pending = λ P state c g. tt;
+      fewer =
+          λ w state. omega arith;
+    }
 
 pub failed-loses : (server : ℕ) → Loses (failed_slot server)
 unfolding failed_slot
 failed-loses server =
-    record { next = λ _. refl; current = λ P state c g. c; pending = λ P state c g. g; fewer =
-    λ w state. omega arith }
+    record {
+      next = λ _. refl;
+      current = λ P state c g. c;
+      pending = λ P state c g. g;
+      fewer =
+          λ w state. omega arith;
+    }
 
 pub confirmed-loses : Loses confirmed_slot
 unfolding confirmed_slot granted_copy
 confirmed-loses =
-    record { next = λ _. refl; current = λ P state c g. g; pending = λ P state c g. tt; fewer =
-    λ w state. omega arith }
+    record {
+      next = λ _. refl;
+      current = λ P state c g. g;
+      pending = λ P state c g. tt;
+      fewer =
+          λ w state. omega arith;
+    }
 
 pub emptied-loses : Loses emptied_slot
 unfolding emptied_slot granted_copy
 emptied-loses =
-    record { next = λ _. refl; current = λ P state c g. tt; pending = λ P state c g. tt; fewer =
-    λ w state. omega arith }
+    record {
+      next = λ _. refl;
+      current = λ P state c g. tt;
+      pending = λ P state c g. tt;
+      fewer =
+          λ w state. omega arith;
+    }
 
 -- a file that is sealed: its grants are as many as they were
 pub sealed-loses : Loses sealed_slot
 unfolding sealed_slot granted_copy
 sealed-loses =
-    record { next = λ _. refl; current = λ P state c g. g; pending = λ P state c g. tt; fewer =
-    λ w state. omega arith }
+    record {
+      next = λ _. refl;
+      current = λ P state c g. g;
+      pending = λ P state c g. tt;
+      fewer =
+          λ w state. omega arith;
+    }

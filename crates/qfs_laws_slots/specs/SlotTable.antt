@@ -97,8 +97,8 @@ table-of servers next tree slots h = record {
       (λ (row : SlotRow). IfSome row.state.grant (IsGrant next) × IsRising nat_cmp row.state.failed)
       slots h.on_servers
       (each_both (λ (row : SlotRow). IfSome row.state.grant (IsGrant next))
-          (λ (row : SlotRow). IsRising nat_cmp row.state.failed) slots h.grants
-          h.failed_in_order))));
+      (λ (row : SlotRow). IsRising nat_cmp row.state.failed) slots h.grants
+      h.failed_in_order))));
 }
 
 pub of-table : (servers next : ℕ) (tree : List TreeRow) (slots : List SlotRow)
@@ -115,9 +115,13 @@ of-table servers next tree slots h = record {
       (each_weaker _ _ (λ c p. p.1) (option_to_list row.state.current) f.state.current)) slots
       h.rows;
   on_servers = each_weaker (RowFits servers next tree) (NamesServers servers)
-      (λ row f. record { current = each-if _ row.state.current
-      (each_weaker _ _ (λ c p. p.0) (option_to_list row.state.current) f.state.current); granted =
-      each-if _ (granted_copy row.state.grant) f.state.pending; failed = f.state.failed }) slots
+      (λ row f. record {
+        current = each-if _ row.state.current
+            (each_weaker _ _ (λ c p. p.0) (option_to_list row.state.current) f.state.current);
+        granted =
+            each-if _ (granted_copy row.state.grant) f.state.pending;
+        failed = f.state.failed;
+      }) slots
       h.rows;
   grants = each_weaker (RowFits servers next tree)
       (λ (row : SlotRow). IfSome row.state.grant (IsGrant next))
@@ -173,11 +177,14 @@ table-changed servers next tree block slot change slots fits h = record {
   in_order = change_rises slot_cmp (is_slot block slot) (change_state change) (λ a b. refl)
       (λ a b. refl) slots h.in_order;
   rows = each_change (RowFits servers next tree) _ (is_slot block slot) (change_state change)
-      (λ row is f. let k = is_slot-is block slot row is in record
-      { small = f.small; of_file = f.of_file; state = subst
-      (λ (k : BlockId). StateFits servers next tree k.file (change row.state)) (sym k.0)
-      (fits row.state (subst (λ (k : BlockId). StateFits servers next tree k.file row.state) k.0
-      f.state)) })
+      (λ row is f. let k = is_slot-is block slot row is in record {
+        small = f.small;
+        of_file = f.of_file;
+        state = subst
+            (λ (k : BlockId). StateFits servers next tree k.file (change row.state)) (sym k.0)
+            (fits row.state (subst (λ (k : BlockId). StateFits servers next tree k.file row.state) k.0
+            f.state));
+      })
       (λ row _ f. f) slots h.rows;
 }
 
@@ -191,17 +198,29 @@ failed-fits : (servers next : ℕ) (tree : List TreeRow) (block : BlockId) (serv
     → IsServer servers server → Fits servers next tree block (failed_slot server)
 unfolding failed_slot
 failed-fits servers next tree block server is state f =
-    record { current = f.current; pending = f.pending; grant = f.grant; failed = each_inserted
-    (IsServer servers) state.failed server is f.failed; rising = inserted_rises state.failed server
-    f.rising }
+    record {
+      current = f.current;
+      pending = f.pending;
+      grant = f.grant;
+      failed = each_inserted
+          (IsServer servers) state.failed server is f.failed;
+      rising = inserted_rises state.failed server
+          f.rising;
+    }
 
 confirmed-fits : (servers next : ℕ) (tree : List TreeRow) (block : BlockId)
     → IsTrue (is_some (closed_file block.file tree)) → Fits servers next tree block confirmed_slot
 unfolding confirmed_slot granted_copy
 confirmed-fits servers next tree block closed state f =
-    record { current = each_weaker _ _ (λ c is. (is, closed))
-    (option_to_list (granted_copy state.grant)) f.pending; pending = tt; grant = tt; failed =
-    f.failed; rising = f.rising }
+    record {
+      current = each_weaker _ _ (λ c is. (is, closed))
+          (option_to_list (granted_copy state.grant)) f.pending;
+      pending = tt;
+      grant = tt;
+      failed =
+          f.failed;
+      rising = f.rising;
+    }
 
 emptied-fits : (servers next : ℕ) (tree : List TreeRow) (block : BlockId)
     → Fits servers next tree block emptied_slot
@@ -228,10 +247,10 @@ unfolding fail_grant change_record with_slots granted_copy
 failed-table servers next tree block slot m None is h = h
 failed-table servers next tree block slot m (Some grant) is h =
     let pending : Each (λ (copy : Copy). IsServer servers copy.server)
-        (option_to_list (granted_copy (Some grant))) = subst
-        (λ g. Each (λ (copy : Copy). IsServer servers copy.server)
-        (option_to_list (granted_copy g))) is
-        (slot-fits servers next tree m.slots block slot h).pending in
+    (option_to_list (granted_copy (Some grant))) = subst
+    (λ g. Each (λ (copy : Copy). IsServer servers copy.server)
+    (option_to_list (granted_copy g))) is
+    (slot-fits servers next tree m.slots block slot h).pending in
     table-changed servers next tree block slot (failed_slot grant.copy.server) _
     (failed-fits servers next tree block grant.copy.server pending.0)
     (given_up-table servers next tree block slot m (Some grant) h)
@@ -262,17 +281,25 @@ pub table-granted : (block : BlockId) (slot server actor lease : ℕ) (m : MetaI
     → MayGrant m block slot server actor lease
     → HasTable (length m.servers) m.next_lease m.tree m.slots
     → HasTable (length m.servers) m.next_lease m.tree
-      (grant_slot block slot server actor lease m).slots
+    (grant_slot block slot server actor lease m).slots
 unfolding grant_slot with_slots with_slot granted_slot granted_copy
 table-granted block slot server actor lease m may h =
     let old = slot-fits (length m.servers) m.next_lease m.tree m.slots block slot h in
     record {
       in_order = place_rises slot_cmp_total _ m.slots h.in_order;
       rows = each_place (RowFits (length m.servers) m.next_lease m.tree) slot_cmp _ m.slots
-          (record { small = may.slot_number; of_file = may.stands; state = record
-          { current = old.current; pending = (may.server_number, tt); grant =
-          (record { actor = may.is_actor; lease = may.lease_given }, tt); failed = old.failed;
-          rising = old.rising } }) h.rows;
+          (record {
+            small = may.slot_number;
+            of_file = may.stands;
+            state = record {
+              current = old.current;
+              pending = (may.server_number, tt);
+              grant =
+                  (record { actor = may.is_actor; lease = may.lease_given }, tt);
+              failed = old.failed;
+              rising = old.rising;
+            };
+          }) h.rows;
     }
 
 -- ---- the tree changes
@@ -289,18 +316,27 @@ onward-fits : (servers next : ℕ) (tree more : List TreeRow) (row : SlotRow)
 onward-fits servers next tree more row on f = record {
   small = f.small;
   of_file = on.0 f.of_file;
-  state = record { current = each_weaker _ _ (λ c p. (p.0, on.1 p.1))
-      (option_to_list row.state.current) f.state.current; pending = f.state.pending; grant =
-      f.state.grant; failed = f.state.failed; rising = f.state.rising };
+  state = record {
+    current = each_weaker _ _ (λ c p. (p.0, on.1 p.1))
+        (option_to_list row.state.current) f.state.current;
+    pending = f.state.pending;
+    grant =
+        f.state.grant;
+    failed = f.state.failed;
+    rising = f.state.rising;
+  };
 }
 
 pub table-onward : (servers next : ℕ) (tree more : List TreeRow) (slots : List SlotRow)
     → ((file : ℕ) → Onward tree more file) → HasTable servers next tree slots
     → HasTable servers next more slots
 table-onward servers next tree more slots on h =
-    record { in_order = h.in_order; rows = each_weaker (RowFits servers next tree)
-    (RowFits servers next more) (λ row. onward-fits servers next tree more row (on row.block.file))
-    slots h.rows }
+    record {
+      in_order = h.in_order;
+      rows = each_weaker (RowFits servers next tree)
+          (RowFits servers next more) (λ row. onward-fits servers next tree more row (on row.block.file))
+          slots h.rows;
+    }
 
 -- more leases may be given
 pub table-later : (servers next more : ℕ) (tree : List TreeRow) (slots : List SlotRow) → next ≤ more
@@ -339,11 +375,20 @@ table-sealed servers next file tree more slots on closed h = record {
       (λ row is f. record {
         small = f.small;
         of_file = (on row.block.file).0 f.of_file;
-        state = record { current = each_weaker _ _
-            (λ c s. (s, subst (λ k. IsTrue (is_some (closed_file k more)))
-            (sym (eqb-true row.block.file file (sym (of_file-is file row) ∙ is))) closed))
-            (option_to_list (granted_copy row.state.grant)) f.state.pending; pending = tt; grant =
-            tt; failed = tt; rising = tt };
+        state = record {
+          current = each_weaker _ _
+              (λ c s. (
+                s,
+                subst (λ k. IsTrue (is_some (closed_file k more)))
+                    (sym (eqb-true row.block.file file (sym (of_file-is file row) ∙ is))) closed,
+              ))
+              (option_to_list (granted_copy row.state.grant)) f.state.pending;
+          pending = tt;
+          grant =
+              tt;
+          failed = tt;
+          rising = tt;
+        };
       })
       (λ row _ f. onward-fits servers next tree more row (on row.block.file) f) slots h.rows;
 }
@@ -361,9 +406,9 @@ table-forgotten servers next file tree more slots on h = record {
       (on row.block.file (sym (of_file-is file row) ∙ not-true _ b.0)) b.1)
       (without (is_of_file file) slots)
       (each_both _ (RowFits servers next tree) (without (is_of_file file) slots)
-          (each_passes (λ (row : SlotRow). not (is_of_file file row)) slots)
-          (each_filter (RowFits servers next tree) (λ (row : SlotRow). not (is_of_file file row))
-          slots h.rows));
+      (each_passes (λ (row : SlotRow). not (is_of_file file row)) slots)
+      (each_filter (RowFits servers next tree) (λ (row : SlotRow). not (is_of_file file row))
+      slots h.rows));
 }
 
 -- a file that isn't closed has no current copies
@@ -374,7 +419,7 @@ bare-of m file h open' block slot own =
   where
     none : (o : Option Copy)
         → Each (λ (copy : Copy). IsServer (length m.servers) copy.server × IsTrue
-          (is_some (closed_file block.file m.tree))) (option_to_list o)
+        (is_some (closed_file block.file m.tree))) (option_to_list o)
         → o ≡ None
     none None each = refl
     none (Some copy) each =

@@ -265,7 +265,7 @@ changed-cases P test change (row ∷ rows) block slot none if_so if_not =
     slot row
     (λ b s.
     let here : is_slot block slot row ≡ true = subst (λ k. is_slot k slot row ≡ true) b
-        (subst (λ k. is_slot row.block k row ≡ true) s (is_slot-self row)) in
+    (subst (λ k. is_slot row.block k row ≡ true) s (is_slot-self row)) in
     let at : slot_at (row ∷ rows) block slot ≡ row.state = slot_at-here block slot row rows here in
     elim (test row) as (λ t. test row ≡ t → P
     (slot_at (change_row (change_state change) row t ∷ rest) block slot)) [
@@ -275,7 +275,7 @@ changed-cases P test change (row ∷ rows) block slot none if_so if_not =
     ] refl)
     (λ away.
     let at : slot_at (row ∷ rows) block slot ≡ slot_at rows block slot = slot_at-behind block slot
-        row rows away in
+    row rows away in
     subst P (sym (slot_at-behind block slot (change_row (change_state change) row (test row)) rest
     (key_kept change block slot row (test row) ∙ away)))
     (changed-cases P test change rows block slot (λ a. none (at ∙ a))
@@ -336,7 +336,7 @@ changed-other block other slot number change (row ∷ rows) apart =
     number ≡ slot_at (row ∷ rows) other number) other number row
     (λ b s.
     let here : is_slot other number row ≡ true = subst (λ k. is_slot k number row ≡ true) b
-        (subst (λ k. is_slot row.block k row ≡ true) s (is_slot-self row)) in
+    (subst (λ k. is_slot row.block k row ≡ true) s (is_slot-self row)) in
     let test : is_slot block slot row ≡ false = same_test block other slot number row b s apart in
     ap (λ t. slot_at (change_row (change_state change) row t ∷ rest) other number) test
     ∙ slot_at-here other number row rest here ∙ sym (slot_at-here other number row rows here))
@@ -395,15 +395,15 @@ forgotten-cases P file block slot (row ∷ rows) none other =
       | false ↦ λ is. (elim (is_slot block slot row) as
           (λ b. is_slot block slot row ≡ b → P
           (record_in (cond b (Some row) (find (is_slot block slot) rest)))) [
-        | true ↦ λ here.
-            let k = is_slot-is block slot row here in
-            subst P (ap (λ b. record_in (cond b (Some row) (find (is_slot block slot) rows))) here)
-            (other (ap (λ (k : BlockId). k.file == file) (sym k.0) ∙ sym (of_file-is file row)
-            ∙ is))
-        | false ↦ λ away. forgotten-cases P file block slot rows none
-            (λ differs. subst P (ap (λ b. record_in
-            (cond b (Some row) (find (is_slot block slot) rows))) away) (other differs))
-      ]) refl
+            | true ↦ λ here.
+                let k = is_slot-is block slot row here in
+                subst P (ap (λ b. record_in (cond b (Some row) (find (is_slot block slot) rows))) here)
+                (other (ap (λ (k : BlockId). k.file == file) (sym k.0) ∙ sym (of_file-is file row)
+                ∙ is))
+            | false ↦ λ away. forgotten-cases P file block slot rows none
+                (λ differs. subst P (ap (λ b. record_in
+                (cond b (Some row) (find (is_slot block slot) rows))) away) (other differs))
+          ]) refl
     ]) refl
   where
     behind : is_of_file file row ≡ true → (block.file == file) ≡ false
@@ -427,16 +427,16 @@ has-forgotten file block slot (row ∷ rows) other had =
     (cond (not (is_of_file file row)) (row ∷ rest) rest)))) block slot row
     (λ b s.
     let stays : is_of_file file row ≡ false = of_file-is file row ∙ ap
-        (λ (k : BlockId). k.file == file) b ∙ other in
+    (λ (k : BlockId). k.file == file) b ∙ other in
     let here : is_slot block slot row ≡ true = subst (λ k. is_slot k slot row ≡ true) b
-        (subst (λ k. is_slot row.block k row ≡ true) s (is_slot-self row)) in
+    (subst (λ k. is_slot row.block k row ≡ true) s (is_slot-self row)) in
     subst (λ f. IsTrue (is_some (find (is_slot block slot) (cond (not f) (row ∷ rest) rest))))
     (sym stays)
     (subst (λ t. IsTrue (is_some (cond t (Some row) (find (is_slot block slot) rest)))) (sym here)
     refl))
     (λ away.
     let before : IsTrue (is_some (find (is_slot block slot) rows)) = subst
-        (λ t. IsTrue (is_some (cond t (Some row) (find (is_slot block slot) rows)))) away had in
+    (λ t. IsTrue (is_some (cond t (Some row) (find (is_slot block slot) rows)))) away had in
     let after = has-forgotten file block slot rows other before in
     elim (is_of_file file row) as (λ f. IsTrue
     (is_some (find (is_slot block slot) (cond (not f) (row ∷ rest) rest)))) [
@@ -465,26 +465,26 @@ total-placed w block slot state (row ∷ rows) rising none =
     (slot_at (row ∷ rows) block slot) ≡ w row + total w rows + w new) [
       | Less ↦ λ is.
           let gone : Each (λ row. is_slot block slot row ≡ false) rows = each_weaker _ _
-              (λ later above. not_slot new later Less (slot_cmp_total.trans new row later is above)
-              less-not) rows rising.0 in
+          (λ later above. not_slot new later Less (slot_cmp_total.trans new row later is above)
+          less-not) rows rising.0 in
           let at : slot_at (row ∷ rows) block slot ≡ never_granted = slot_at-none block slot
-              (row ∷ rows) (not_slot new row Less is less-not, gone) in
+          (row ∷ rows) (not_slot new row Less is less-not, gone) in
           let e = ap old at in
           omega arith
       | Equal ↦ λ is.
           let same = ties new row is in
           let here : is_slot block slot row ≡ true = subst (λ k. is_slot k slot row ≡ true)
-              (sym same.0) (subst (λ k. is_slot row.block k row ≡ true) (sym same.1)
-              (is_slot-self row)) in
+          (sym same.0) (subst (λ k. is_slot row.block k row ≡ true) (sym same.1)
+          (is_slot-self row)) in
           let at : slot_at (row ∷ rows) block slot ≡ row.state = slot_at-here block slot row rows
-              here in
+          here in
           let whole : w row ≡ old row.state = λ i. w
-              (record { block = sym same.0 i; slot = sym same.1 i; state = row.state }) in
+          (record { block = sym same.0 i; slot = sym same.1 i; state = row.state }) in
           let e = ap old at in
           omega arith
       | Greater ↦ λ is.
           let at : slot_at (row ∷ rows) block slot ≡ slot_at rows block slot = slot_at-behind block
-              slot row rows (not_slot new row Greater is greater-not) in
+          slot row rows (not_slot new row Greater is greater-not) in
           let e = ap old at in
           let rest = total-placed w block slot state rows rising.1 none in
           omega arith
@@ -496,14 +496,14 @@ rows-found [] rising = tt
 rows-found (row ∷ rows) rising = (
   slot_at-here row.block row.slot row rows (is_slot-self row),
   each_weaker (λ (later : SlotRow). (slot_cmp row later ≡ Less)
-  × (slot_at rows later.block later.slot ≡ later.state))
-  (λ (later : SlotRow). slot_at (row ∷ rows) later.block later.slot ≡ later.state)
+      × (slot_at rows later.block later.slot ≡ later.state))
+      (λ (later : SlotRow). slot_at (row ∷ rows) later.block later.slot ≡ later.state)
       (λ later b. slot_at-behind later.block later.slot row rows
       (not_slot later row Greater (slot_cmp_total.antisymm later row ∙ ap ordering_reverse b.0)
       greater-not) ∙ b.1) rows
       (each_both (λ later. slot_cmp row later ≡ Less)
-          (λ (later : SlotRow). slot_at rows later.block later.slot ≡ later.state) rows rising.0
-          (rows-found rows rising.1)),
+      (λ (later : SlotRow). slot_at rows later.block later.slot ≡ later.state) rows rising.0
+      (rows-found rows rising.1)),
 )
   where
     greater-not : Greater ≡ Equal → ⊥

@@ -82,11 +82,16 @@ unfolding is_unclosed_row
 unclosed-rows next file test tree row h found own is =
     let u = unclosed-not row.file row.closed is in
     let some : 0 < file = subst (λ n. 0 < n) own u.1 in
-    let ones = file-one file test tree row some (h.once file) found own in
-    (record { some = some; unclosed = each_weaker (λ (r : TreeRow). r.file ≡ file → r ≡ row)
-    (λ (r : TreeRow). r.file ≡ file → r.closed ≡ false)
-    (λ r e o. ap (λ (x : TreeRow). x.closed) (e o) ∙ u.0) tree ones; there = there tree found },
-    ones)
+    let ones = file-one file test tree row some (h.once file) found own in (
+      record {
+        some = some;
+        unclosed = each_weaker (λ (r : TreeRow). r.file ≡ file → r ≡ row)
+            (λ (r : TreeRow). r.file ≡ file → r.closed ≡ false)
+            (λ r e o. ap (λ (x : TreeRow). x.closed) (e o) ∙ u.0) tree ones;
+        there = there tree found;
+      },
+      ones,
+    )
   where
     there : (rows : List TreeRow) → find test rows ≡ Some row → list_any (has_file file) rows ≡ true
     there rows f = found-there file test rows row f own
@@ -101,13 +106,13 @@ not-closed file tree is =
   where
     one : (o : Option TreeRow)
         → find (λ (row : TreeRow). is_closed (kind_of row.file row.closed) && has_file file row)
-          tree ≡ o
+        tree ≡ o
         → is_some o ≡ false
     one None e = refl
     one (Some row) e =
         let r = found_has (λ (row : TreeRow). row.file ≡ file → row.closed ≡ false)
-            (λ (row : TreeRow). is_closed (kind_of row.file row.closed) && has_file file row) tree
-            row e is.unclosed in
+        (λ (row : TreeRow). is_closed (kind_of row.file row.closed) && has_file file row) tree
+        row e is.unclosed in
         let p = and_parts (is_closed (kind_of row.file row.closed)) (has_file file row) r.1 in
         absurd (closed-is row.file row.closed p.0 (r.0 (own-file file row p.1)))
 

@@ -32,9 +32,11 @@ follow-more : (puts : Puts) (created : ℕ) (files : List FileEntry) (history : 
     (fold (files_after puts) files history) entry)
     → FollowFrom puts created files (history ++ entry ∷ [])
 follow-more puts created files [] entry before may = (may, tt)
-follow-more puts created files (first ∷ rest) entry before may =
-    (before.0, follow-more puts (created + creates first) (files_after puts files first) rest entry
-    before.1 may)
+follow-more puts created files (first ∷ rest) entry before may = (
+  before.0,
+  follow-more puts (created + creates first) (files_after puts files first) rest entry
+      before.1 may,
+)
 
 count-more : (history : List Entry) (entry : Entry)
     → created_count (history ++ entry ∷ []) ≡ created_count history + creates entry
@@ -181,8 +183,8 @@ history-moved m from to may h =
       where
         over : (puts : Puts) (rows : List TreeRow)
             → map (file_entry puts) (map (λ (row : TreeRow). at_path (moved from to row.path) row)
-              rows) ≡ map (λ (entry : FileEntry). entry_at (moved from to entry.path) entry)
-              (map (file_entry puts) rows)
+            rows) ≡ map (λ (entry : FileEntry). entry_at (moved from to entry.path) entry)
+            (map (file_entry puts) rows)
         over puts [] = refl
         over puts (row ∷ rows) =
             ap (λ es. file_entry puts (at_path (moved from to row.path) row) ∷ es) (over puts rows)
@@ -197,7 +199,7 @@ pub record IsUnclosedFile (file : ℕ) (tree : List TreeRow) : Type 0 where
 unclosed-content : (puts : Puts) (file : ℕ) (row : TreeRow) → 0 < file
     → (row.file ≡ file → row.closed ≡ false)
     → is_unclosed_content file (content_of puts row (kind_of row.file row.closed)) ≡ (row.file ==
-      file)
+    file)
 unfolding is_unclosed_content content_of
 unclosed-content puts file row some open' =
     (elim (row.file == file) as (λ t. (row.file == file) ≡ t → is_unclosed_content file
@@ -225,12 +227,12 @@ unclosed-same puts file row some open' =
   where
     one : (n : ℕ) (b : Bool) → row.file ≡ n → row.closed ≡ b
         → is_unclosed_content file (content_of puts row
-          (kind_of row.file row.closed)) ≡ (row.file == file)
+        (kind_of row.file row.closed)) ≡ (row.file == file)
     one n b p q = unclosed-content puts file row some open'
 
 any_entries : (puts : Puts) (file : ℕ) (rows : List TreeRow)
     → Each (λ (row : TreeRow). is_unclosed_entry file (file_entry puts row) ≡ has_file file row)
-      rows
+    rows
     → list_any (has_file file) rows ≡ true
     → list_any (is_unclosed_entry file) (map (file_entry puts) rows) ≡ true
 any_entries puts file [] same any = absurd (cc)
@@ -252,18 +254,21 @@ unfolding file_entry close_row close_entry content_of
 closed-entry puts file actor command row some own made =
     let e : row.file ≡ file = own-file file row own in
     let by = made e in
-    (λ i. record { path = row.path; content =
-    (ap (content_of puts (record row { closed = true })) (kind-closed row.file (omega arith))
-    ∙ (λ j. IsClosed (e j) (puts (by.0 j) (by.1 j)))) i })
+    (λ i. record {
+      path = row.path;
+      content =
+          (ap (content_of puts (record row { closed = true })) (kind-closed row.file (omega arith))
+          ∙ (λ j. IsClosed (e j) (puts (by.0 j) (by.1 j)))) i;
+    })
 
 pub history-aborted : (m : MetaImage) (file : ℕ) → IsUnclosedFile file m.tree → TreeIsHistory m
     → TreeIsHistory (apply m (AbortFile file))
 unfolding apply write_entry with_slots take_file may_follow files_after creates
 history-aborted m file is h =
     let same : (puts : Puts) → Each
-        (λ (row : TreeRow). is_unclosed_entry file (file_entry puts row) ≡ has_file file row)
-        m.tree = λ puts. each_weaker _ _ (λ row o. unclosed-same puts file row is.some o) m.tree
-        is.unclosed in
+    (λ (row : TreeRow). is_unclosed_entry file (file_entry puts row) ≡ has_file file row)
+    m.tree = λ puts. each_weaker _ _ (λ row o. unclosed-same puts file row is.some o) m.tree
+    is.unclosed in
     let k = history-more m (Wrote.Aborted file) (take_file file m.tree) m.next_file
     (λ puts. any_entries puts file m.tree (same puts) is.there)
     (λ puts. map-filter (file_entry puts) (λ (row : TreeRow). not (has_file file row))
@@ -274,14 +279,14 @@ history-aborted m file is h =
 
 pub history-closed : (m : MetaImage) (file actor command : ℕ) → IsUnclosedFile file m.tree
     → Each (λ (row : TreeRow). row.file ≡ file → (row.actor ≡ actor) × (row.command ≡ command))
-      m.tree
+    m.tree
     → TreeIsHistory m → TreeIsHistory (apply m (CloseFile file actor command))
 unfolding apply write_entry with_slots close_file may_follow files_after creates
 history-closed m file actor command is made h =
     let same : (puts : Puts) → Each
-        (λ (row : TreeRow). is_unclosed_entry file (file_entry puts row) ≡ has_file file row)
-        m.tree = λ puts. each_weaker _ _ (λ row o. unclosed-same puts file row is.some o) m.tree
-        is.unclosed in
+    (λ (row : TreeRow). is_unclosed_entry file (file_entry puts row) ≡ has_file file row)
+    m.tree = λ puts. each_weaker _ _ (λ row o. unclosed-same puts file row is.some o) m.tree
+    is.unclosed in
     let k = history-more m (Wrote.Closed file actor command) (close_file file m.tree) m.next_file
     (λ puts. any_entries puts file m.tree (same puts) is.there)
     (λ puts. map-changed (file_entry puts) (has_file file) (is_unclosed_entry file) close_row

@@ -60,8 +60,12 @@ within-taken from path n is =
     let e = within-is from (take n path) is in
     ⊎_elim
     (λ (low : n < length from). absurd
-    (let l = ap length e in omega (arith, length-take (length from) (take n path), length-take n
-    path)))
+    (let l = ap length e in omega (
+      arith,
+      length-take (length from) (take n path),
+      length-take n
+          path,
+    )))
     (λ (high : length from ≤ n). is-within from path (e ∙ take-take (length from) n path high))
     (cases_lt n (length from))
 
@@ -142,12 +146,12 @@ module _ (from to : PathNames) (tree : List TreeRow) (next : ℕ) (h : HasTree n
       let p = and_parts (path_eq row.path (from ++ x)) (row.file == 0) is in
       let at : row.path ≡ from ++ x = path-is row.path (from ++ x) p.0 in
       let e : to ++ drop (length from) row.path ≡ to ++ x = ap (λ q. to ++ drop (length from) q) at
-          ∙ ap (λ q. to ++ q) (drop-append_seam from x) in
+      ∙ ap (λ q. to ++ q) (drop-append_seam from x) in
       and_from _ _ (ap (λ q. path_eq q (to ++ x)) e ∙ path-self (to ++ x)) p.1)
       (filter is_moved tree)
       (any_filter (is_directory_at (from ++ x)) is_moved (λ row is.
       let at : row.path ≡ from ++ x = path-is row.path (from ++ x)
-          (and_parts (path_eq row.path (from ++ x)) (row.file == 0) is).0 in
+      (and_parts (path_eq row.path (from ++ x)) (row.file == 0) is).0 in
       ap (is_within from) at ∙ is-within from (from ++ x) (sym (take-append_seam from x))) tree
       has))
     where
@@ -185,13 +189,13 @@ module _ (from to : PathNames) (tree : List TreeRow) (next : ℕ) (h : HasTree n
       let j : ℕ = n - length to in
       let n_is : n ≡ length to + j = omega arith in
       let e : take n (to ++ x) ≡ to ++ take j x = ap (λ k. take k (to ++ x)) n_is ∙ take-append-add
-          to x j in
+      to x j in
       let f : take (length from + j) row.path ≡ from ++ take j x = ap (take (length from + j)) whole
-          ∙ take-append-add from x j in
+      ∙ take-append-add from x j in
       let some : 1 ≤ length from = from-long from moves.from_some in
       let within : length from + j < length row.path =
-          (let a = length-append to x in let b = ap length whole in let c = length-append from x in
-          omega arith) in
+      (let a = length-append to x in let b = ap length whole in let c = length-append from x in
+      omega arith) in
       subst (HasDirectory (place_all (row_cmp row_path) landed kept_rows)) (sym e)
       (lands (take j x) (subst (HasDirectory tree) f
       (lies (length from + j) (omega arith) within))))
@@ -200,8 +204,11 @@ module _ (from to : PathNames) (tree : List TreeRow) (next : ℕ) (h : HasTree n
   landed-is : (row : TreeRow) → is_moved row ≡ true → length (moved from to row.path) ≤ 32
       → RowIs next row → RowIs next (at_path (moved from to row.path) row)
   landed-is row is short r = record {
-    path = (short, All-append IsName to (drop (length from) row.path) moves.is_path.1
-        (All-drop IsName (length from) row.path r.path.1));
+    path = (
+      short,
+      All-append IsName to (drop (length from) row.path) moves.is_path.1
+          (All-drop IsName (length from) row.path r.path.1),
+    );
     no_root = λ e. not-empty to (drop (length from) row.path) moves.to_some e;
     plain = r.plain;
     number = r.number;
@@ -228,7 +235,7 @@ module _ (from to : PathNames) (tree : List TreeRow) (next : ℕ) (h : HasTree n
 
       both : (rows : List TreeRow)
           → (list_any test (map (λ (row : TreeRow). at_path (moved from to row.path) row)
-            (filter is_moved rows)) || list_any test (without is_moved rows)) ≡ list_any test rows
+          (filter is_moved rows)) || list_any test (without is_moved rows)) ≡ list_any test rows
       both [] = refl
       both (row ∷ rows) =
           let rest = both rows in
@@ -270,18 +277,18 @@ module _ (from to : PathNames) (tree : List TreeRow) (next : ℕ) (h : HasTree n
         (each_weaker (λ (row : TreeRow). (not (is_moved row) ≡ true) × Lies tree row.path) _
         (λ row b. kept-lies row b.0 b.1) kept_rows
         (each_both (λ (row : TreeRow). not (is_moved row) ≡ true)
-            (λ (row : TreeRow). Lies tree row.path) kept_rows
-            (each_passes (λ row. not (is_moved row)) tree)
-            (each_filter (λ (row : TreeRow). Lies tree row.path) (λ row. not (is_moved row)) tree
-            h.parents)));
+        (λ (row : TreeRow). Lies tree row.path) kept_rows
+        (each_passes (λ row. not (is_moved row)) tree)
+        (each_filter (λ (row : TreeRow). Lies tree row.path) (λ row. not (is_moved row)) tree
+        h.parents)));
     once = λ file. let o = h.once file in let e = total-placed_all tree_total (file_weight file)
         landed kept_rows landed-rise landed-apart in let f = both file tree in omega arith;
   }
     where
       both : (file : ℕ) (rows : List TreeRow)
           → total (file_weight file) (map (λ (row : TreeRow). at_path (moved from to row.path) row)
-            (filter is_moved rows)) + total (file_weight file) (without is_moved rows) ≡ total
-            (file_weight file) rows
+          (filter is_moved rows)) + total (file_weight file) (without is_moved rows) ≡ total
+          (file_weight file) rows
       both file [] = refl
       both file (row ∷ rows) =
           let rest = both file rows in
@@ -311,14 +318,14 @@ outside to tree row rising some none off lies =
           ⊎_elim
           (λ (short : length to < length row.path).
           let at = directory-kind tree to rising
-              (subst (HasDirectory tree) (sym e) (lies (length to) (from-long to some) short)) in
+          (subst (HasDirectory tree) (sym e) (lies (length to) (from-long to some) short)) in
           absurd (let f : Some Is.Directory ≡ None = sym at ∙ none in cc))
           (λ (long : length row.path ≤ length to).
           let l = ap length e in
           let same : length to ≡ length row.path = omega (arith, length-take (length to) row.path)
-              in
+          in
           let whole : row.path ≡ to = sym (take-length row.path) ∙ ap (λ n. take n row.path)
-              (sym same) ∙ sym e in
+          (sym same) ∙ sym e in
           absurd (true≢false (sym (path-self to) ∙ ap (λ p. path_eq p to) (sym whole) ∙ off)))
           (cases_lt (length to) (length row.path))
       | false ↦ λ _. refl
@@ -326,14 +333,16 @@ outside to tree row rising some none off lies =
 
 deep : (from to : PathNames) (rows : List TreeRow) → grows_too_deep (standing rows) from to ≡ false
     → Each (λ (row : TreeRow). is_within from row.path ≡ true → length (moved from to row.path) ≤
-      32) rows
+    32) rows
 unfolding grows_too_deep standing
 deep from to [] e = tt
 deep from to (row ∷ rows) e =
-    let p = or_parts _ _ e in
-    ((λ is. one (nat_lt most_names (length (moved from to row.path))) refl
-    (ap (λ b. b && nat_lt most_names (length (moved from to row.path))) (sym is) ∙ p.0)), deep from
-    to rows p.1)
+    let p = or_parts _ _ e in (
+      (λ is. one (nat_lt most_names (length (moved from to row.path))) refl
+          (ap (λ b. b && nat_lt most_names (length (moved from to row.path))) (sym is) ∙ p.0)),
+      deep from
+          to rows p.1,
+    )
   where
     one : (b : Bool) → nat_lt most_names (length (moved from to row.path)) ≡ b → b ≡ false
         → length (moved from to row.path) ≤ 32

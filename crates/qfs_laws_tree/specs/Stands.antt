@@ -184,7 +184,7 @@ unfolding row_at
 removed-onward next path file tree looks root own h other apart =
     let at = look-closed (standing tree) path looks in
     let off : (row : TreeRow) → find (stands_at row_path path) tree ≡ Some row → has_file other
-        row ≡ false = λ row is. has_file-is other row ∙ off_one row is in
+    row ≡ false = λ row is. has_file-is other row ∙ off_one row is in
     onward-any tree (take_path path tree) other
     (taken-keep tree path (stands_test other)
     (at_path-off tree path Is.Closed (stands_test other) h.in_order root at

@@ -145,8 +145,15 @@ unfolding files_in
 tree-of next tree h = record {
   in_order = h.in_order;
   rows = each_weaker _ (RowIs next)
-      (λ row p. record { path = p.0.0; no_root = p.0.1; plain = p.1.0.0; number = λ some. p.1.0.1
-      (lt-ltb 0 row.file some); len = p.1.1.0; maker = p.1.1.1 }) tree
+      (λ row p. record {
+        path = p.0.0;
+        no_root = p.0.1;
+        plain = p.1.0.0;
+        number = λ some. p.1.0.1
+            (lt-ltb 0 row.file some);
+        len = p.1.1.0;
+        maker = p.1.1.1;
+      }) tree
       (each_both (λ (row : TreeRow). IsPath row.path × (row.path ≢ []))
       (λ row. (IsPlain row × (nat_lt 0 row.file ≡ true → row.file < next))
       × ((row.len ≤ MOST_FILE_BYTES) × HasMaker row)) tree
@@ -215,13 +222,17 @@ file-one file test (x ∷ rows) row some once found is =
       | true ↦ λ found.
           let e : x ≡ row = cc in
           let weight : file_weight file x ≡ 1 = weighs file x some
-              (ap (λ (r : TreeRow). r.file) e ∙ is) in
-          ((λ _. e), each_weaker (λ r. file_weight file r ≡ 0) _
-          (λ r none own. absurd (let w = weighs file r some own in omega arith)) rows
-          (none-total (file_weight file) rows (omega arith)))
+          (ap (λ (r : TreeRow). r.file) e ∙ is) in (
+            (λ _. e),
+            each_weaker (λ r. file_weight file r ≡ 0) _
+                (λ r none own. absurd (let w = weighs file r some own in omega arith)) rows
+                (none-total (file_weight file) rows (omega arith)),
+          )
       | false ↦ λ found.
           let own : file_weight file row ≡ 1 = weighs file row some is in
-          let less = found-le-total (file_weight file) test rows row found in
-          ((λ at. absurd (let w = weighs file x some at in omega arith)), file-one file test rows
-          row some (omega arith) found is)
+          let less = found-le-total (file_weight file) test rows row found in (
+            (λ at. absurd (let w = weighs file x some at in omega arith)),
+            file-one file test rows
+                row some (omega arith) found is,
+          )
     ]) found

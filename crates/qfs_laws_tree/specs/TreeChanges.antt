@@ -80,7 +80,7 @@ older next file low [] each = refl
 older next file low (row ∷ rows) each =
     let rest = older next file low rows each.1 in
     let here : file_weight file row ≡ 0 = weightless next file row low each.0 (nat_lt 0 row.file)
-        refl (nat_eq row.file file) refl in
+    refl (nat_eq row.file file) refl in
     omega arith
 
 pub tree-added : (next more : ℕ) (new : TreeRow) (tree : List TreeRow)
@@ -91,24 +91,31 @@ tree-added next more new tree free is above later h =
     let f = add-free (standing tree) new.path free in
     let none = none-at tree new.path f.1 in
     let apart : Apart (row_cmp row_path) new tree = each_weaker _ _
-        (λ row off tie. true≢false (sym (path-self new.path) ∙ ap (λ p. path_eq p new.path)
-        (row-ties new row tie) ∙ off)) tree none.1 in
+    (λ row off tie. true≢false (sym (path-self new.path) ∙ ap (λ p. path_eq p new.path)
+    (row-ties new row tie) ∙ off)) tree none.1 in
     let still : (parent : PathNames) → HasDirectory tree parent → HasDirectory
-        (place (row_cmp row_path) new tree) parent = λ parent has. any-placed (row_cmp row_path)
-        (is_directory_at parent) new tree apart ∙ or_right (is_directory_at parent new) _ has in
+    (place (row_cmp row_path) new tree) parent = λ parent has. any-placed (row_cmp row_path)
+    (is_directory_at parent) new tree apart ∙ or_right (is_directory_at parent new) _ has in
     record {
       in_order = place_rises tree_total new tree h.in_order;
       rows = each_place (RowIs more) (row_cmp row_path) new tree is
           (each_weaker (RowIs next) (RowIs more)
-          (λ row r. record { path = r.path; no_root = r.no_root; plain = r.plain; number = λ some.
-          less _ _ _ (r.number some) above; len = r.len; maker = r.maker }) tree h.rows);
+          (λ row r. record {
+            path = r.path;
+            no_root = r.no_root;
+            plain = r.plain;
+            number = λ some.
+                less _ _ _ (r.number some) above;
+            len = r.len;
+            maker = r.maker;
+          }) tree h.rows);
       parents =
           each_place (λ (row : TreeRow). Lies (place (row_cmp row_path) new tree) row.path)
           (row_cmp row_path) new tree
           (λ n low high. still (take n new.path) (parents-lie tree new.path f.0 n low high))
           (each_weaker (λ (row : TreeRow). Lies tree row.path)
-              (λ (row : TreeRow). Lies (place (row_cmp row_path) new tree) row.path)
-              (λ row lies n low high. still (take n row.path) (lies n low high)) tree h.parents);
+          (λ (row : TreeRow). Lies (place (row_cmp row_path) new tree) row.path)
+          (λ row lies n low high. still (take n row.path) (lies n low high)) tree h.parents);
       once =
           λ file. let e = total-placed_apart (row_cmp row_path) (file_weight file) new tree apart in
           let o = h.once file in
@@ -136,7 +143,7 @@ tree-added next more new tree free is above later h =
     one true is file true at o e =
         let same : new.file ≡ file = eqb-true new.file file at in
         let z : weigh_if (nat_lt 0 new.file) (one_if (nat_eq new.file file)) ≡ 1 =
-            (λ i. weigh_if (is i) (one_if (at i))) in
+        (λ i. weigh_if (is i) (one_if (at i))) in
         let low = later (ltb-true 0 new.file is) in
         let none = older next file (omega arith) tree h.rows in
         omega arith
@@ -169,8 +176,8 @@ tree-filtered next P keep tree each still h = record {
       (λ (row : TreeRow). Lies (filter keep tree) row.path)
       (λ row b n low high. still row n b.0 low high (b.1 n low high)) (filter keep tree)
       (each_both P (λ (row : TreeRow). Lies tree row.path) (filter keep tree)
-          (each_filter P keep tree each) (each_filter (λ (row : TreeRow). Lies tree row.path) keep
-          tree h.parents));
+      (each_filter P keep tree each) (each_filter (λ (row : TreeRow). Lies tree row.path) keep
+      tree h.parents));
   once = λ file. let o = h.once file in let f = total-filter-le (file_weight file) keep tree in
       omega arith;
 }
@@ -196,7 +203,7 @@ tree-without_file next file tree some h =
 taken-path : (next : ℕ) (path : PathNames) (P : TreeRow → Type 0) (tree : List TreeRow)
     → Each P tree
     → ((row : TreeRow) (n : ℕ) → P row → n < length row.path → 1 ≤ n → HasDirectory tree
-      (take n row.path) → take n row.path ≡ path → ⊥)
+    (take n row.path) → take n row.path ≡ path → ⊥)
     → HasTree next tree → HasTree next (take_path path tree)
 unfolding take_path taken
 taken-path next path P tree each none h =
@@ -219,8 +226,8 @@ tree-removed next path tree looks h =
     (λ row n _ high low has same.
     let closed = look-closed (standing tree) path looks in
     let there : kind_at (standing tree) path ≡ Some Is.Directory = subst
-        (λ p. kind_at (standing tree) p ≡ Some Is.Directory) same
-        (directory-kind tree (take n row.path) h.in_order has) in
+    (λ p. kind_at (standing tree) p ≡ Some Is.Directory) same
+    (directory-kind tree (take n row.path) h.in_order has) in
     let e : Some Is.Directory ≡ Some Is.Closed = sym there ∙ closed in cc) h
 
 filled-false : (path : PathNames) (tree : List TreeRow) → is_filled (standing tree) path ≡ false
@@ -261,15 +268,22 @@ tree-closed next file tree some h = record {
   in_order = change_rises (row_cmp row_path) (has_file file) close_row (λ a b. refl) (λ a b. refl)
       tree h.in_order;
   rows = each_change (RowIs next) (RowIs next) (has_file file) close_row
-      (λ row is r. record { path = r.path; no_root = r.no_root; plain = λ z. absurd
-          (let e : row.file ≡ file = own-file file row is in omega arith); number = r.number; len =
-          r.len; maker = r.maker }) (λ row _ r. r) tree h.rows;
+      (λ row is r. record {
+        path = r.path;
+        no_root = r.no_root;
+        plain = λ z. absurd
+            (let e : row.file ≡ file = own-file file row is in omega arith);
+        number = r.number;
+        len =
+            r.len;
+        maker = r.maker;
+      }) (λ row _ r. r) tree h.rows;
   parents =
       each_change (λ (row : TreeRow). Lies tree row.path)
       (λ (row : TreeRow). Lies (change_where (has_file file) close_row tree) row.path)
       (has_file file) close_row
       (λ row _ lies n low high. still (take n row.path) (lies n low high))
-          (λ row _ lies n low high. still (take n row.path) (lies n low high)) tree h.parents;
+      (λ row _ lies n low high. still (take n row.path) (lies n low high)) tree h.parents;
   once = λ file'. let o = h.once file' in let e = same file' tree in omega arith;
 }
   where

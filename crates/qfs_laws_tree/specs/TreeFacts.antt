@@ -97,7 +97,7 @@ file-none (Some Is.Closed) e = refl
 
 pub add-free : (tree : List Standing) (path : PathNames) → add_refusal tree path ≡ None
     → Each (λ parent. kind_at tree parent ≡ Some Is.Directory) (parents_of path)
-      × (kind_at tree path ≡ None)
+    × (kind_at tree path ≡ None)
 unfolding add_refusal
 add-free tree path none =
     let p = or-none _ _ none in (parents-stand Not.NoParent tree path p.0, new-none _ p.1)
@@ -125,7 +125,7 @@ kind_in row = kind_of row.file row.closed
 
 pub kind-at : (tree : List TreeRow) (name : List ℕ) (names : PathNames)
     → kind_at (standing tree) (name ∷ names) ≡ option_map kind_in
-      (find (stands_at row_path (name ∷ names)) tree)
+    (find (stands_at row_path (name ∷ names)) tree)
 unfolding kind_at standing
 kind-at [] name names = refl
 kind-at (row ∷ rows) name names =
@@ -141,7 +141,7 @@ kind-at (row ∷ rows) name names =
 pub kind-row : (tree : List TreeRow) (path : PathNames) (kind : NameKind) → (path ≡ [] → ⊥)
     → kind_at (standing tree) path ≡ Some kind
     → (row : TreeRow) × (find (stands_at row_path path) tree ≡ Some row) × (row.path ≡ path)
-      × (kind_in row ≡ kind)
+    × (kind_in row ≡ kind)
 kind-row tree [] kind root at = absurd (root refl)
 kind-row tree (name ∷ names) kind root at =
     one (find (stands_at row_path (name ∷ names)) tree) refl (sym (kind-at tree name names) ∙ at)
@@ -149,12 +149,16 @@ kind-row tree (name ∷ names) kind root at =
     one : (o : Option TreeRow) → find (stands_at row_path (name ∷ names)) tree ≡ o
         → option_map kind_in o ≡ Some kind
         → (row : TreeRow) × (find (stands_at row_path (name ∷ names)) tree ≡ Some row)
-          × (row.path ≡ name ∷ names) × (kind_in row ≡ kind)
+        × (row.path ≡ name ∷ names) × (kind_in row ≡ kind)
     one None is at = absurd (cc)
-    one (Some row) is at =
-        (row, is, path-is row.path (name ∷ names)
-        (found_has (λ _. Unit {0}) (stands_at row_path (name ∷ names)) tree row is
-        (each_of_all (λ _. Unit {0}) (λ _. tt) tree)).1, cc)
+    one (Some row) is at = (
+      row,
+      is,
+      path-is row.path (name ∷ names)
+          (found_has (λ _. Unit {0}) (stands_at row_path (name ∷ names)) tree row is
+          (each_of_all (λ _. Unit {0}) (λ _. tt) tree)).1,
+      cc,
+    )
 
 -- where nothing stands, no row is
 pub none-at : (tree : List TreeRow) (path : PathNames) → kind_at (standing tree) path ≡ None
@@ -163,9 +167,11 @@ none-at tree [] none = absurd (root none)
   where
     root : kind_at (standing tree) [] ≡ None → ⊥
     root none = let e : Some Is.Directory ≡ None = unfold kind_at in none in cc
-none-at tree (name ∷ names) none =
-    ((λ e. cc), none_found (stands_at row_path (name ∷ names)) tree
-    (one (find (stands_at row_path (name ∷ names)) tree) (sym (kind-at tree name names) ∙ none)))
+none-at tree (name ∷ names) none = (
+  (λ e. cc),
+  none_found (stands_at row_path (name ∷ names)) tree
+      (one (find (stands_at row_path (name ∷ names)) tree) (sym (kind-at tree name names) ∙ none)),
+)
   where
     one : (o : Option TreeRow) → option_map kind_in o ≡ None → o ≡ None
     one None e = refl
