@@ -50,7 +50,7 @@ pub same_copy-self : (c : Copy) → same_copy c c ≡ true
 unfolding same_copy
 same_copy-self c = grind (arith, nat_tests)
 
-pub row_of : BlockId → ℕ → SlotRecord → SlotRow
+abbrev pub row_of : BlockId → ℕ → SlotRecord → SlotRow
 row_of block slot state = record { block = block; slot = slot; state = state }
 
 pub is_slot-self : (row : SlotRow) → is_slot row.block row.slot row ≡ true
