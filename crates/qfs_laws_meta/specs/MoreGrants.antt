@@ -18,7 +18,7 @@ use Rattle.qfs_base.specs.declared.request.SlotId.{SlotId}
 use Rattle.qfs_model_meta.specs.Apply.{apply, apply_all, change_record, fail_grant, give_up, with_slots}
 use Rattle.qfs_model_meta.specs.Condemned.{condemn}
 use Rattle.qfs_model_meta.specs.Counters.{counters_fit}
-use Rattle.qfs_model_meta.specs.FreedLaws.{decides_as_freed}
+use Rattle.qfs_laws_slots.specs.FreedLaws.{decides_as_freed}
 use Rattle.qfs_model_meta.specs.Grammar.{IsActor, IsServer}
 use Rattle.qfs_model_meta.specs.GrantedAgain.{freed}
 use Rattle.qfs_model_meta.specs.LeasedGrants.{closed_len, comes_after, grant_recovery, has_block, is_at_rest, is_live_on, move_source}
@@ -79,7 +79,7 @@ IsOfClosed tree id = IsTrue (is_some (closed_file id.block.file tree)) × (id.sl
 
 own-closed : (rows : List TreeRow)
     → Each (λ (row : TreeRow). is_closed_row row ≡ true → list_any (closed_test row.file)
-      rows ≡ true) rows
+    rows ≡ true) rows
 own-closed [] = tt
 own-closed (row ∷ rows) = (
   (λ is. ap (λ b. b || list_any (closed_test row.file) rows)
@@ -97,7 +97,7 @@ own-closed (row ∷ rows) = (
 
 closed-files : (tree : List TreeRow)
     → Each (λ file. IsTrue (is_some (closed_file file tree)))
-      (rising_files (filter is_closed_row tree))
+    (rising_files (filter is_closed_row tree))
 unfolding rising_files
 closed-files tree =
     numbers-each (λ file. IsTrue (is_some (closed_file file tree)))
@@ -128,7 +128,7 @@ unfolding decide_heal heal_slot next_to_heal is_to_heal lacks_grant grant_recove
 heal-fine layout term actor past m after f who left =
     need-fine actor past m Told.Nothing _ _ refl (λ id found.
     let r = found_has (IsOfClosed m.tree) _ (closed_slots layout m.tree) id found
-        (closed-slots layout m.tree) in
+    (closed-slots layout m.tree) in
     let p = and_parts (comes_after after id) _ r.1 in
     let q = and_parts (is_none (slot_at m.slots id.block id.slot).grant) _ p.1 in
     chosen-fine layout term actor past m id.block id.slot _ f who left
@@ -160,9 +160,9 @@ row-of : (m : MetaImage) (test : SlotRow → Bool) (row : SlotRow) → Fits m
     → (row.slot < 9) × (slot_at m.slots row.block row.slot ≡ row.state) × (test row ≡ true)
 row-of m test row f found =
     let r = found_has (RowFits (length m.servers) m.next_lease m.tree) test m.slots row found
-        f.table.rows in
+    f.table.rows in
     let s = found_has (λ (row : SlotRow). slot_at m.slots row.block row.slot ≡ row.state) test
-        m.slots row found (rows-found m.slots f.table.in_order) in
+    m.slots row found (rows-found m.slots f.table.in_order) in
     (r.0.small, s.0, r.1)
 
 pub evacuate-fine : (layout : Shape) (term actor : ℕ) (past : Past) (m : MetaImage) (server : ℕ)
@@ -182,11 +182,11 @@ evacuate-fine layout term actor past m server after f who left =
 -- the takers are servers
 takers-are : (m : MetaImage)
     → Each (λ (s : Numbered). IsServer (length m.servers) s.0)
-      (open_servers [] (census m.servers m.slots))
+    (open_servers [] (census m.servers m.slots))
 unfolding open_servers census
 takers-are m =
     let loads : List Load = map (λ (s : ℕ × ServerView). load_of m.slots s.0 s.1)
-        (enumerate_from 1 m.servers) in
+    (enumerate_from 1 m.servers) in
     let l = census-length m.slots 1 m.servers in
     each_filter (λ (s : Numbered). IsServer (length m.servers) s.0) (is_open [])
     (enumerate_from 1 loads) (each_weaker (IsNumbered 1 (1 + length loads))
@@ -209,13 +209,19 @@ balance-fine layout term actor past m f who left =
     need-fine actor past m Told.Nothing _ _ refl (λ row found.
     let r = row-of m _ row f found in
     let p = and_parts (is_at_rest layout m.tree row && is_live_on m.servers giver.0
-        row.state.current) _ r.2 in
+    row.state.current) _ r.2 in
     let q = at-rest layout m.tree row (and_parts (is_at_rest layout m.tree row) _ p.0).0 in
     leased-fine layout term actor past m row.block row.slot taker.0 _ f who left
     (source-current m.slots row row.state.current (ap (λ (st : SlotRecord). st.current) r.1))
-    (record { closed = q.1; small = r.0; server_number = reduced-is
-    (λ (s : Numbered). IsServer (length m.servers) s.0) _ taker (takers-are m) lightest_one; free =
-    ap (λ (st : SlotRecord). st.grant) r.1 ∙ q.0; apart = not-true _ p.1 })))))
+    (record {
+      closed = q.1;
+      small = r.0;
+      server_number = reduced-is
+          (λ (s : Numbered). IsServer (length m.servers) s.0) _ taker (takers-are m) lightest_one;
+      free =
+          ap (λ (st : SlotRecord). st.grant) r.1 ∙ q.0;
+      apart = not-true _ p.1;
+    })))))
 
 -- ---- the grant of a put
 
@@ -250,10 +256,10 @@ unfolding unclosed_file
 put-may actor n block slot server row f counters found small free left who chosen =
     let u = unclosed-fits actor block.file n row f counters found in
     let c = chosen-is n.servers n.slots
-        (barred_for_put n.servers n.slots block (slot_at n.slots block slot).failed) server chosen
-        in
+    (barred_for_put n.servers n.slots block (slot_at n.slots block slot).failed) server chosen
+    in
     let open' = not-closed block.file n.tree
-        (unclosed-rows n.next_file block.file _ n.tree row f.tree found u.2 u.1).0 in
+    (unclosed-rows n.next_file block.file _ n.tree row f.tree found u.2 u.1).0 in
     record {
       stands = subst IsTrue (sym (stands-any block.file n.tree))
           (found-any _ (stands_test block.file) n.tree row found
@@ -326,8 +332,7 @@ granted-free : (layout : Shape) (actor : ℕ) (past : Past) (m n : MetaImage) (b
     (apply n (GrantSlot block slot server actor 0)) → Keeps
     (remember actor past (put_granted layout row.len block slot m server))
     (apply n (GrantSlot block slot server actor 0)))
-granted-free layout actor past m n block slot server row f counters found small free left who chosen
-same = (
+granted-free layout actor past m n block slot server row f counters found small free left who chosen same = (
   put-may actor n block slot server row f counters found small free left who chosen,
   λ k. subst (λ reply. Keeps (remember actor past reply)
       (apply n (GrantSlot block slot server actor 0))) (sym same)
@@ -344,25 +349,23 @@ granted : (layout : Shape) (actor : ℕ) (past : Past) (m : MetaImage) (block : 
     server
     → Fine actor past m (grant_for_put layout actor row.len block slot m o server)
 unfolding grant_for_put failed_grant apply_all
-granted layout actor past m block slot again h counters who left small row found None is server
-chosen =
+granted layout actor past m block slot again h counters who left small row found None is server chosen =
     let decides = decides_as_freed block slot m in
     let still : freed block slot m ≡ m = ap (λ o. apply_all (failed_grant block slot o) m) is in
     let r = granted-free layout actor past m m block slot server row h.fits (next-fits m counters)
-        found (small-is slot small) is (version-left m.slots block slot left) who
+    found (small-is slot small) is (version-left m.slots block slot left) who
     (ap (λ (n : MetaImage). choose (census n.servers n.slots)
     (barred_for_put n.servers n.slots block (slot_at n.slots block slot).failed)) (sym still) ∙ sym
     decides.chosen ∙ chosen) refl in
     ((r.0, tt), r.1)
-granted layout actor past m block slot again h counters who left small row found (Some g) is server
-chosen =
+granted layout actor past m block slot again h counters who left small row found (Some g) is server chosen =
     let decides = decides_as_freed block slot m in
     let n : MetaImage = apply m (FailGrant block slot) in
     let after : freed block slot m ≡ n = ap (λ o. apply_all (failed_grant block slot o) m) is in
     let k : Keeps past n = kept past m (FailGrant block slot) tt h in
     let frame = (losing-frame m (FailGrant block slot) tt).is in
     let r = granted-free layout actor past m n block slot server row k.fits
-        (same-file m n (ap (λ (x : MetaImage). x.next_file) frame) counters)
+    (same-file m n (ap (λ (x : MetaImage). x.next_file) frame) counters)
     (ap (λ (x : MetaImage). unclosed_file actor block.file x.tree) frame ∙ found)
     (small-is slot small) (failed-none m block slot)
     (version-kept m (FailGrant block slot) tt block slot (version-left m.slots block slot left)) who
