@@ -1,8 +1,7 @@
 -- What each change tells of the state behind it.
-use Rattle.std.proofs.Common.{◌≡◌, ℕ, ◌+◌, ◌≤◌, ◌⊎◌, inl, inr, ◌==◌, Bool, true, false, ◌||◌, not, length, List, [], ◌∷◌, ◌++◌, Option, Some, None, refl, sym, ap, ◌∙◌, subst, arith}
+use Rattle.std.proofs.Common.{◌≡◌, ℕ, ◌≤◌, ◌⊎◌, inl, inr, Bool, true, false, ◌||◌, not, length, List, [], ◌∷◌, ◌++◌, Some, None, refl, sym, ap, ◌∙◌, subst, arith}
 use Rattle.std.proofs.lemmas.Bool.{eqb-true}
 use Rattle.std.specs.List.{list_any}
-use Rattle.std.specs.Prelude.{⊤}
 use Rattle.qfs_base.specs.declared.change.Change.{Change}
 use Rattle.qfs_base.specs.declared.change.Change.TheVariants.{AddDirectory, TakeDirectory, AddFile, CloseFile, AbortFile, RemoveFile, MovePath, GrantSlot, FailGrant, GiveUp, ConfirmSlot, EmptySlot, GiveLease, EndLease, MarkOrdered, TakeCondemned, CondemnStray, ServerUp, ServerDown, ServerLeaves, ServerSleeps, ClockTicks, DropActor}
 use Rattle.qfs_base.specs.declared.chunk.BlockId.{BlockId}
@@ -12,17 +11,15 @@ use Rattle.qfs_base.specs.declared.history.Entry.TheVariants as Wrote
 use Rattle.qfs_base.specs.declared.image.Lease.{Lease}
 use Rattle.qfs_base.specs.declared.image.MetaImage.{MetaImage}
 use Rattle.qfs_base.specs.declared.image.ServerView.{ServerView}
-use Rattle.qfs_base.specs.declared.image.SlotRecord.{SlotRecord}
-use Rattle.qfs_base.specs.declared.image.SlotRow.{SlotRow}
 use Rattle.qfs_model_meta.specs.Apply.{apply, write_entry, add_file, with_slots, change_record, grant_slot, confirm_slot, finish_lease, bring_up}
 use Rattle.qfs_model_meta.specs.Grammar.{IsServer}
 use Rattle.qfs_model_meta.specs.Leases.{is_lease, is_live_lease, give_lease, end_lease}
 use Rattle.qfs_model_meta.specs.Past.{Past}
 use Rattle.qfs_model_meta.specs.Servers.{server_at, change_server, server_up, server_down, server_leaving, server_asleep}
-use Rattle.qfs_model_meta.specs.Slots.{never_granted, slot_at, granted_copy, granted_slot, change_slot, seal_file, sealed_slot, confirmed_slot}
+use Rattle.qfs_model_meta.specs.Slots.{never_granted, slot_at, granted_copy, granted_slot, change_slot, sealed_slot, confirmed_slot}
 use Rattle.qfs_laws_tables.specs.SomeRow.{any_of_append, any_of_filter}
 use Rattle.qfs_laws_slots.specs.Changes.{MayMake}
-use Rattle.qfs_laws_slots.specs.Losing.{IsSlotFrame, losing-frame, stray-frame, condemned-slots}
+use Rattle.qfs_laws_slots.specs.Losing.{losing-frame, stray-frame, condemned-slots}
 use Rattle.qfs_laws_slots.specs.RowKeys.{own-lease}
 use Rattle.qfs_laws_slots.specs.Servers.{change-length}
 use Rattle.qfs_laws_slots.specs.Slots.{slot-cases, placed-cases, sealed-cases}

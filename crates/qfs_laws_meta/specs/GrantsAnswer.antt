@@ -1,15 +1,12 @@
 -- The requests that open files and grant slots: what they are answered, and what their changes tell.
-use Rattle.std.proofs.Common.{◌≡◌, ℕ, nat_lt, Bool, true, false, List, [], ◌∷◌, ◌++◌, length, find, Option, Some, None, inl, inr, refl, sym, ap, ◌∙◌, subst}
+use Rattle.std.proofs.Common.{◌≡◌, ℕ, Bool, true, false, List, [], ◌∷◌, ◌++◌, Option, Some, None, inl, inr, refl, sym, ap, ◌∙◌, subst}
 use Rattle.qfs_base.specs.NameTree.{PathNames}
-use Rattle.qfs_base.specs.declared.change.Change.{Change}
 use Rattle.qfs_base.specs.declared.change.Change.TheVariants.{GrantSlot, FailGrant, GiveLease}
 use Rattle.qfs_base.specs.declared.chunk.BlockId.{BlockId}
 use Rattle.qfs_base.specs.declared.chunk.Copy.{Copy}
 use Rattle.qfs_base.specs.declared.image.Grant.{Grant}
 use Rattle.qfs_base.specs.declared.image.MetaImage.{MetaImage}
 use Rattle.qfs_base.specs.declared.image.SlotRow.{SlotRow}
-use Rattle.qfs_base.specs.declared.image.TreeRow.{TreeRow}
-use Rattle.qfs_base.specs.declared.reply.Granted.{Granted}
 use Rattle.qfs_base.specs.declared.reply.MetaReply.{MetaReply}
 use Rattle.qfs_base.specs.declared.reply.MetaReply.TheVariants as Told
 use Rattle.qfs_base.specs.declared.request.MetaRequest.{MetaRequest}
@@ -22,18 +19,17 @@ use Rattle.qfs_model_meta.specs.GetRequests.{decide_open, opened}
 use Rattle.qfs_model_meta.specs.GrantedAgain.{freed}
 use Rattle.qfs_model_meta.specs.LeasedGrants.{pending_refusal, closed_len, lease_and_grant, grant_leased, grant_chosen, grant_recovery, move_source}
 use Rattle.qfs_model_meta.specs.Leases.{lease_end}
-use Rattle.qfs_model_meta.specs.Lists.{NineCopies, block_count, new_grant, no_sources, one_source, listed_others}
-use Rattle.qfs_model_meta.specs.MoveRequests.{decide_move, move_copy, decide_evacuate, evacuate_slot, next_to_move, decide_balance, give_to_lightest, even_out, fits_move, move_slot}
+use Rattle.qfs_model_meta.specs.Lists.{NineCopies, new_grant, no_sources, one_source, listed_others}
+use Rattle.qfs_model_meta.specs.MoveRequests.{decide_move, move_copy, decide_evacuate, evacuate_slot, decide_balance, give_to_lightest, even_out, fits_move, move_slot}
 use Rattle.qfs_model_meta.specs.Past.{Past, granted_slot_copy}
 use Rattle.qfs_model_meta.specs.PutRequests.{decide_grant, grant_in, grant_for_put, put_granted, taken_refusal, failed_grant}
-use Rattle.qfs_model_meta.specs.RepairRequests.{decide_recover, decide_heal, heal_slot, next_to_heal}
+use Rattle.qfs_model_meta.specs.RepairRequests.{decide_recover, decide_heal, heal_slot}
 use Rattle.qfs_model_meta.specs.Slots.{slot_at}
-use Rattle.qfs_model_meta.specs.TreeRows.{row_at, closed_file, unclosed_file}
+use Rattle.qfs_model_meta.specs.TreeRows.{row_at, closed_file}
 use Rattle.qfs_laws_slots.specs.Changes.{told}
 use Rattle.qfs_laws_meta.specs.ChangeTells.{Gives, change-tells}
-use Rattle.qfs_laws_meta.specs.Fair.{Fair, Goes, StepTells, ToldIn, plain-one, refuse-fair, unless-fair, need-fair, file-fair, path-fair}
+use Rattle.qfs_laws_meta.specs.Fair.{Fair, Goes, ToldIn, plain-one, refuse-fair, unless-fair, need-fair, file-fair, path-fair}
 use Rattle.qfs_laws_meta.specs.MayTell.{MayTell, IsTaken}
-use Rattle.qfs_laws_meta.specs.Requests.{AllMake}
 use Rattle.qfs_laws_meta.specs.Tells as Of
 
 -- ---- the grant of a put

@@ -1,5 +1,5 @@
 -- What each request may be answered, and what each answer says of the state that decided it.
-use Rattle.std.specs.Prelude.{List, ℕ, ⊤, ◌≡◌, ◌+◌, ◌⊎◌, ◌++◌, ◌&&◌, nat_lt, nat_le, Bool, true, false, length, find, Option, Some, None, is_some, min}
+use Rattle.std.specs.Prelude.{List, ℕ, ⊤, ◌≡◌, ◌+◌, ◌⊎◌, nat_lt, nat_le, Bool, true, false, length, find, Option, Some, None, min}
 use Rattle.qfs_base.specs.NameTree.{PathNames, add_refusal, rmdir_refusal, look_refusal, rename_refusal, directory_refusal, names_below}
 use Rattle.qfs_base.specs.Sizes.{LAST_U64}
 use Rattle.qfs_base.specs.Shape.{Shape}

@@ -1,12 +1,10 @@
 -- The requests that give up, take away or tell: what they are answered, and what their changes tell.
-use Rattle.std.proofs.Common.{◌≡◌, ℕ, ◌+◌, nat_lt, Bool, true, false, cond, List, [], ◌∷◌, ◌++◌, map, filter, length, Option, Some, None, refl, sym, ap, subst}
-use Rattle.std.proofs.lemmas.Bool.{and_parts}
-use Rattle.std.specs.Prelude.{IsTrue, is_some, min, flat_map}
+use Rattle.std.proofs.Common.{◌≡◌, ℕ, ◌+◌, Bool, true, false, cond, List, [], ◌∷◌, ◌++◌, map, filter, length, Option, Some, None, refl, subst}
+use Rattle.std.specs.Prelude.{min, flat_map}
 use Rattle.qfs_base.specs.Sizes.{LAST_U64}
 use Rattle.qfs_base.specs.Table.{Each}
 use Rattle.qfs_base.specs.NameTree.{PathNames}
-use Rattle.qfs_base.specs.declared.change.Change.{Change}
-use Rattle.qfs_base.specs.declared.change.Change.TheVariants.{AddDirectory, TakeDirectory, AddFile, CloseFile, AbortFile, RemoveFile, MovePath, GiveUp, ConfirmSlot, EmptySlot, EndLease, MarkOrdered, TakeCondemned, CondemnStray, ServerUp, ServerDown, ServerLeaves, ServerSleeps, ClockTicks, DropActor}
+use Rattle.qfs_base.specs.declared.change.Change.TheVariants.{AddDirectory, TakeDirectory, AddFile, CloseFile, MovePath, GiveUp, ConfirmSlot, EmptySlot, EndLease, MarkOrdered, TakeCondemned, CondemnStray, ServerUp, ServerDown, ServerLeaves, ClockTicks}
 use Rattle.qfs_base.specs.declared.chunk.BlockId.{BlockId}
 use Rattle.qfs_base.specs.declared.chunk.ChunkKey.{ChunkKey}
 use Rattle.qfs_base.specs.declared.image.MetaImage.{MetaImage}
@@ -26,16 +24,15 @@ use Rattle.qfs_model_meta.specs.Lists.{block_count}
 use Rattle.qfs_model_meta.specs.Past.{Past}
 use Rattle.qfs_model_meta.specs.PutRequests.{decide_create, decide_close, close_complete, incomplete, first_ungranted, decide_abort, abort_unclosed, abort_changes}
 use Rattle.qfs_model_meta.specs.ServerRequests.{decide_hello, decide_bye, decide_leave, decide_hibernate, decide_tick, decide_left_on}
-use Rattle.qfs_model_meta.specs.SettleRequests.{decide_confirm, confirm_grant, may_confirm, end_own_lease, end_live_lease, decide_abandon, abandon_changes, give_up_own, is_own_grant}
+use Rattle.qfs_model_meta.specs.SettleRequests.{decide_confirm, confirm_grant, end_own_lease, end_live_lease, decide_abandon, abandon_changes, give_up_own, is_own_grant}
 use Rattle.qfs_model_meta.specs.Slots.{slot_at, slots_of}
 use Rattle.qfs_model_meta.specs.SweepRequests.{decide_order, order_row, decide_swept}
 use Rattle.qfs_model_meta.specs.TreeRequests.{decide_mkdir, decide_rmdir, decide_remove, remove_changes, decide_rename, decide_list}
-use Rattle.qfs_model_meta.specs.TreeRows.{closed_file, file_stands, unclosed_file, unclosed_files}
+use Rattle.qfs_model_meta.specs.TreeRows.{file_stands, unclosed_file, unclosed_files}
 use Rattle.qfs_base.specs.EachLaws.{each_append}
 use Rattle.qfs_laws_meta.specs.ChangeTells.{change-tells}
-use Rattle.qfs_laws_meta.specs.Fair.{Fair, Goes, StepTells, IsPlain, plain-one, plain-goes, plain-map, plain-flat, refuse-fair, unless-fair, need-fair, file-fair}
-use Rattle.qfs_laws_meta.specs.MayTell.{MayTell, TellsClosed}
-use Rattle.qfs_laws_meta.specs.Requests.{AllMake}
+use Rattle.qfs_laws_meta.specs.Fair.{Fair, Goes, IsPlain, plain-one, plain-goes, plain-map, plain-flat, refuse-fair, unless-fair, need-fair, file-fair}
+use Rattle.qfs_laws_meta.specs.MayTell.{TellsClosed}
 use Rattle.qfs_laws_meta.specs.Tells as Of
 
 module _ (rules : Rules) (actor : ℕ) (past : Past) (m : MetaImage) where

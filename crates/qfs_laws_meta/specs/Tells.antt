@@ -1,32 +1,19 @@
 -- What a change tells of the state behind it: where its current copies, grants and live leases come from, and what rises.
-use Rattle.std.proofs.Common.{◌≡◌, ℕ, ◌+◌, ◌<◌, ◌≤◌, ◌⊎◌, inl, inr, ⊎_elim, ◌==◌, Bool, true, false, ◌||◌, not, length, List, [], ◌∷◌, ◌++◌, Option, Some, None, refl, sym, ap, ◌∙◌, subst, arith, append_assoc}
-use Rattle.std.proofs.lemmas.Bool.{eqb-true, true≢false}
-use Rattle.std.specs.List.{list_any}
-use Rattle.std.specs.Prelude.{⊤, IsTrue, is_some}
-use Rattle.qfs_base.specs.declared.change.Change.{Change}
-use Rattle.qfs_base.specs.declared.change.Change.TheVariants.{AddDirectory, TakeDirectory, AddFile, CloseFile, AbortFile, RemoveFile, MovePath, GrantSlot, FailGrant, GiveUp, ConfirmSlot, EmptySlot, GiveLease, EndLease, MarkOrdered, TakeCondemned, CondemnStray, ServerUp, ServerDown, ServerLeaves, ServerSleeps, ClockTicks, DropActor}
+use Rattle.std.proofs.Common.{◌≡◌, ℕ, ◌≤◌, ◌⊎◌, inl, inr, ⊎_elim, true, length, List, [], ◌∷◌, ◌++◌, Option, Some, None, refl, sym, ap, ◌∙◌, subst, arith, append_assoc}
 use Rattle.qfs_base.specs.declared.chunk.BlockId.{BlockId}
 use Rattle.qfs_base.specs.declared.chunk.Copy.{Copy}
 use Rattle.qfs_base.specs.declared.history.Entry.{Entry}
 use Rattle.qfs_base.specs.declared.image.Grant.{Grant}
-use Rattle.qfs_base.specs.declared.image.Lease.{Lease}
 use Rattle.qfs_base.specs.declared.image.MetaImage.{MetaImage}
-use Rattle.qfs_base.specs.declared.image.ServerView.{ServerView}
 use Rattle.qfs_base.specs.declared.image.SlotRecord.{SlotRecord}
 use Rattle.qfs_base.specs.declared.image.SlotRow.{SlotRow}
-use Rattle.qfs_model_meta.specs.Apply.{apply, apply_all, write_entry, add_file, with_slots, change_record, grant_slot, give_up, fail_grant, confirm_slot, empty_slot, finish_lease, bring_up}
-use Rattle.qfs_model_meta.specs.Condemned.{condemn, condemn_any}
-use Rattle.qfs_model_meta.specs.Grammar.{IsServer}
-use Rattle.qfs_model_meta.specs.Leases.{is_lease, is_live_lease, give_lease, end_lease}
-use Rattle.qfs_model_meta.specs.Past.{Past}
-use Rattle.qfs_model_meta.specs.Servers.{server_at, change_server, server_up, server_down, server_leaving, server_asleep}
-use Rattle.qfs_model_meta.specs.Slots.{never_granted, slot_at, granted_copy, granted_slot, change_slot, with_slot, seal_file, forget_file, sealed_slot, ungranted_slot, failed_slot, confirmed_slot, emptied_slot}
-use Rattle.qfs_laws_tables.specs.SomeRow.{any_of_append, any_of_filter}
-use Rattle.qfs_laws_slots.specs.Changes.{MayMake, told}
-use Rattle.qfs_laws_slots.specs.Losing.{IsLosing, losing-frame, stray-frame, condemned-slots}
-use Rattle.qfs_laws_slots.specs.RowKeys.{is_lease-is}
-use Rattle.qfs_laws_slots.specs.Servers.{server-cases, change-length}
-use Rattle.qfs_laws_slots.specs.Slots.{slot-cases, placed-cases, sealed-cases, forgotten-cases}
+use Rattle.qfs_model_meta.specs.Apply.{with_slots, change_record, give_up, fail_grant, empty_slot}
+use Rattle.qfs_model_meta.specs.Condemned.{condemn_any}
+use Rattle.qfs_model_meta.specs.Leases.{is_live_lease}
+use Rattle.qfs_model_meta.specs.Servers.{server_at}
+use Rattle.qfs_model_meta.specs.Slots.{never_granted, slot_at, granted_copy, change_slot, forget_file, ungranted_slot, failed_slot, emptied_slot}
+use Rattle.qfs_laws_slots.specs.Losing.{condemned-slots}
+use Rattle.qfs_laws_slots.specs.Slots.{slot-cases, forgotten-cases}
 
 -- ---- what is told
 

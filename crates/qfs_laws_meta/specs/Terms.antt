@@ -1,28 +1,25 @@
 -- Leases with a term: a tick ends just those whose time has come, an ended lease keeps nothing, a live one keeps what it lists
 -- from deletion, and a grant is confirmed whether or not its lease is still live.
 use Rattle.std.proofs.Common.{◌≡◌, ◌≢◌, ℕ, ◌+◌, ◌<◌, ◌≤◌, ◌==◌, nat_lt, nat_le, Bool, true, false, cond, not, ◌&&◌, ◌||◌, length, List, [], ◌∷◌, ◌++◌, map, filter, Option, Some, None, refl, sym, ap, ◌∙◌, subst, arith}
-use Rattle.std.proofs.lemmas.Bool.{and_parts, and_from, lt-ltb, ltb-true, ne_eqb, eq-eqb, true≢false}
+use Rattle.std.proofs.lemmas.Bool.{and_parts, and_from, lt-ltb, ltb-true, ne_eqb, eq-eqb}
 use Rattle.std.specs.Cmp.{ranked}
 use Rattle.std.specs.List.{list_any}
 use Rattle.std.specs.Prelude.{IsTrue, is_some, min}
 use Rattle.std.specs.declared.cmp.Ordering.TheVariants.{Less}
 use Rattle.qfs_base.specs.Sizes.{SLOTS, LAST_U32, LAST_U64}
 use Rattle.qfs_base.specs.Table.{Each, IsRising, without}
-use Rattle.qfs_base.specs.declared.change.Change.{Change}
-use Rattle.qfs_base.specs.declared.change.Change.TheVariants.{EndLease, ConfirmSlot, ClockTicks}
+use Rattle.qfs_base.specs.declared.change.Change.TheVariants.{EndLease, ConfirmSlot}
 use Rattle.qfs_base.specs.declared.chunk.BlockId.{BlockId}
 use Rattle.qfs_base.specs.declared.history.Outcome.TheVariants as Ended
 use Rattle.qfs_base.specs.declared.image.CondemnedRow.{CondemnedRow}
 use Rattle.qfs_base.specs.declared.image.Lease.{Lease}
 use Rattle.qfs_base.specs.declared.image.MetaImage.{MetaImage}
-use Rattle.qfs_base.specs.declared.image.SlotRecord.{SlotRecord}
 use Rattle.qfs_base.specs.declared.reply.Condemned.{Condemned}
 use Rattle.qfs_base.specs.declared.reply.MetaReply.{MetaReply}
 use Rattle.qfs_base.specs.declared.reply.MetaReply.TheVariants as Told
 use Rattle.qfs_base.specs.declared.request.MetaRequest.TheVariants as Ask
 use Rattle.qfs_base.specs.declared.rules.Rules.{Rules}
 use Rattle.qfs_model_meta.specs.Apply.{apply, apply_all, finish_lease, confirm_slot, change_record, with_slots}
-use Rattle.qfs_model_meta.specs.Condemned.{condemn_any}
 use Rattle.qfs_model_meta.specs.Counters.{counters_fit}
 use Rattle.qfs_model_meta.specs.Decide.{decide, decide_request}
 use Rattle.qfs_model_meta.specs.Decision.{Makes, unless}
@@ -33,7 +30,7 @@ use Rattle.qfs_model_meta.specs.Past.{Past, ListedCopy, is_copy, remember}
 use Rattle.qfs_model_meta.specs.Range.{in_range, is_slot_number}
 use Rattle.qfs_model_meta.specs.ServerRequests.{decide_tick}
 use Rattle.qfs_model_meta.specs.SettleRequests.{is_own_grant, end_live_lease, may_confirm, confirm_grant, decide_confirm}
-use Rattle.qfs_model_meta.specs.Slots.{slot_at, granted_copy, change_slot, confirmed_slot, never_granted}
+use Rattle.qfs_model_meta.specs.Slots.{slot_at, change_slot, confirmed_slot}
 use Rattle.qfs_model_meta.specs.Sound.{IsSound, IsLetGo}
 use Rattle.qfs_model_meta.specs.Step.{meta_step, serve_unless_dropped, end_step, carry_out, take_step, next_turn}
 use Rattle.qfs_model_meta.specs.TreeRows.{file_stands, closed_file}
@@ -41,7 +38,6 @@ use Rattle.qfs_base.specs.EachLaws.{each_weaker, each_filter}
 use Rattle.qfs_laws_tables.specs.EachRow.{each_map, each_of_all, each-right, each-self}
 use Rattle.qfs_laws_slots.specs.Condemning.{condemn_any-cases}
 use Rattle.qfs_laws_slots.specs.RowKeys.{is_lease-is}
-use Rattle.qfs_laws_slots.specs.Slots.{slot-cases, is_slot-self, row_of}
 use Rattle.qfs_laws_tree.specs.Stands.{stands_of_closed}
 use Rattle.qfs_laws_meta.specs.StaysSound.{stays-sound}
 

@@ -2,7 +2,7 @@
 use Rattle.qfs_base.specs.declared.image.ServerView.{ServerView}
 use Rattle.qfs_model_meta.specs.Grammar.{IsServer}
 use Rattle.qfs_model_meta.specs.Servers.{change_server, no_server, server_at}
-use Rattle.std.proofs.Common.{List, ap, arith, length, refl, subst, suc, sym, zero, ℕ, ⊎_elim, ◌≡◌, ◌⊎◌}
+use Rattle.std.proofs.Common.{List, ap, arith, length, refl, subst, suc, sym, zero, ℕ, ⊎_elim, ◌≡◌}
 use Rattle.std.proofs.lemmas.Bool.{cases_eq}
 use Rattle.std.proofs.lemmas.List.{get_or-set_other, get_or-set_same, length-set}
 use Rattle.std.specs.Prelude.{slice_index_or, slice_set}

@@ -1,7 +1,7 @@
 -- What holds of each row of a table, after rows are appended, mapped, kept by a test, changed or placed.
-use Rattle.qfs_base.specs.EachLaws.{each_append, each_filter, each_weaker}
+use Rattle.qfs_base.specs.EachLaws.{each_append, each_weaker}
 use Rattle.qfs_base.specs.Table.{Each, change_row, change_where, place, place_before}
-use Rattle.std.proofs.Common.{Bool, List, None, Option, Some, [], ap, arith, cond, false, filter, find, map, refl, subst, suc, sym, true, zero, ℕ, ⊎_elim, ◌++◌, ◌+◌, ◌-◌, ◌<◌, ◌||◌, ◌∷◌, ◌≡◌, ◌≤◌, ◌⊎◌}
+use Rattle.std.proofs.Common.{Bool, List, None, Option, Some, [], ap, arith, cond, false, filter, find, map, refl, subst, suc, sym, true, zero, ℕ, ⊎_elim, ◌++◌, ◌+◌, ◌<◌, ◌||◌, ◌∷◌, ◌≡◌, ◌≤◌, ◌⊎◌}
 use Rattle.std.proofs.lemmas.Bool.{and_parts, true≢false}
 use Rattle.std.specs.List.{list_all, list_any, range_with_len}
 use Rattle.std.specs.Prelude.{flat_map, is_none}

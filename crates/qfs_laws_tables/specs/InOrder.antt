@@ -1,6 +1,6 @@
 -- Tables in order, without repeats: what keeps them so.
 use Rattle.qfs_base.specs.Table.{Each, IsRising, change_row, change_where, place, place_all, place_before}
-use Rattle.std.proofs.Common.{Bool, List, [], ap, cond, false, filter, map, refl, true, ℕ, ◌++◌, ◌+◌, ◌-◌, ◌∙◌, ◌∷◌, ◌≡◌}
+use Rattle.std.proofs.Common.{Bool, List, [], ap, cond, false, filter, map, refl, true, ℕ, ◌++◌, ◌∙◌, ◌∷◌, ◌≡◌}
 use Rattle.std.specs.BTreeSet.{insert_key}
 use Rattle.std.specs.Cmp.{IsTotalOrder, nat_cmp_total}
 use Rattle.std.specs.Ordering.{match_ordering, nat_cmp, ordering_reverse}
@@ -8,7 +8,6 @@ use Rattle.std.specs.declared.cmp.Ordering.{Ordering}
 use Rattle.std.specs.declared.cmp.Ordering.TheVariants.{Equal, Greater, Less}
 use Rattle.qfs_base.specs.EachLaws.{each_filter, each_weaker}
 use Rattle.qfs_laws_tables.specs.EachRow.{each_both, each_change, each_map, each_place, each_push}
-use Rattle.qfs_laws_tables.specs.Sums.{total}
 
 module _ {X : Type 0} {order : X → X → Ordering} (total : IsTotalOrder order) where
   above_too : (new row : X) (rows : List X) → order new row ≡ Less

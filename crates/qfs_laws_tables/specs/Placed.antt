@@ -1,6 +1,6 @@
 -- Rows that are placed where none has their key, and maps of tables that are placed, kept by a test or changed.
 use Rattle.qfs_base.specs.Table.{Each, IsRising, change_row, change_where, place, place_all, place_before}
-use Rattle.std.proofs.Common.{Bool, List, [], ap, arith, cond, false, filter, map, refl, subst, sym, true, ℕ, ◌+◌, ◌-◌, ◌||◌, ◌∙◌, ◌∷◌, ◌≡◌}
+use Rattle.std.proofs.Common.{Bool, List, [], ap, arith, cond, false, filter, map, refl, subst, sym, true, ℕ, ◌+◌, ◌||◌, ◌∙◌, ◌∷◌, ◌≡◌}
 use Rattle.std.specs.Cmp.{IsTotalOrder}
 use Rattle.std.specs.List.{list_any}
 use Rattle.std.specs.Ordering.{ordering_reverse}

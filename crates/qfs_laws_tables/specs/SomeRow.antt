@@ -1,7 +1,7 @@
 -- Whether some row of a table passes a test, after rows are appended, mapped, kept by a test or changed.
 use Rattle.qfs_base.specs.Table.{Each, change_row, change_where}
 use Rattle.qfs_base.specs.declared.image.TreeRow.{TreeRow}
-use Rattle.std.proofs.Common.{Bool, List, None, Some, [], ap, cond, false, filter, find, map, refl, true, ◌++◌, ◌+◌, ◌-◌, ◌||◌, ◌∙◌, ◌∷◌, ◌≡◌}
+use Rattle.std.proofs.Common.{Bool, List, None, Some, [], ap, cond, false, filter, find, map, refl, true, ◌++◌, ◌||◌, ◌∙◌, ◌∷◌, ◌≡◌}
 use Rattle.std.specs.List.{list_any}
 use Rattle.std.specs.Prelude.{is_some}
 
