@@ -1,4 +1,5 @@
--- Decisions that answer as a request may be answered, and whose changes tell no more of the state behind them.
+-- Decisions that answer as a request may be answered, and whose changes tell no more of the state
+-- behind them.
 use Rattle.std.proofs.Common.{◌≡◌, ℕ, ◌⊎◌, inl, inr, Bool, true, false, cond, List, [], ◌∷◌, map, Option, Some, None, refl}
 use Rattle.std.specs.Prelude.{⊤, flat_map}
 use Rattle.qfs_base.specs.Table.{Each}
@@ -48,8 +49,9 @@ ToldIn reply block slot copy =
     (g : Granted) × (reply ≡ Told.Granted g)
     × (granted_slot_copy g ≡ record { block = block; slot = slot; copy = copy })
 
--- a current copy was current, or its grant is made so by this request; a grant was pending, or is told now; known lives rise;
--- a lease that is live was live, or has the next number; and the history goes on
+-- a current copy was current, or its grant is made so by this request; a grant was pending, or is
+-- told now; known lives rise; a lease that is live was live, or has the next number; and the
+-- history goes on
 abbrev pub StepTells : MetaRequest → MetaReply → MetaImage → MetaImage → Type 0
 StepTells request reply m n =
     Of.Tells (SealedBy reply request) (ToldIn reply) (λ lease. m.next_lease ≡ lease) m n

@@ -1,4 +1,5 @@
--- The requests that open files and grant slots: what they are answered, and what their changes tell.
+-- The requests that open files and grant slots: what they are answered, and what their changes
+-- tell.
 use Rattle.std.proofs.Common.{◌≡◌, ℕ, Bool, true, false, List, [], ◌∷◌, ◌++◌, Option, Some, None, inl, inr, refl, sym, ap, ◌∙◌, subst}
 use Rattle.qfs_base.specs.NameTree.{PathNames}
 use Rattle.qfs_base.specs.declared.change.Change.TheVariants.{GrantSlot, FailGrant, GiveLease}

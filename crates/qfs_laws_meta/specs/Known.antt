@@ -1,4 +1,5 @@
--- Each version of a slot is granted once, and each copy that is known was granted: what losses of copies keep of this.
+-- Each version of a slot is granted once, and each copy that is known was granted: what losses of
+-- copies keep of this.
 use Rattle.qfs_base.specs.Table.{Each}
 use Rattle.qfs_base.specs.declared.chunk.BlockId.{BlockId}
 use Rattle.qfs_base.specs.declared.chunk.Copy.{Copy}

@@ -598,7 +598,8 @@ unblocked-granted : (past : Past) (lease : ℕ) (row : CondemnedRow) → RowGran
 unfolding unblock
 unblocked-granted past lease row was = was
 
--- what the tree keeps: what stands after a change stood before it, and a file that was given up or removed is gone
+-- what the tree keeps: what stands after a change stood before it, and a file that was given up
+-- or removed is gone
 abbrev pub TreeBack : MetaImage → Change → Type 0
 TreeBack m (AbortFile file) =
     StandsBack m (apply m (AbortFile file))

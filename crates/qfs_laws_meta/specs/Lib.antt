@@ -24,3 +24,4 @@ pub mod Fair
 pub mod RequestsAnswer
 pub mod GrantsAnswer
 pub mod StepsAnswer
+pub mod FileRequests

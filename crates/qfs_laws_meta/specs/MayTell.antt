@@ -251,7 +251,8 @@ abbrev pub TellsRestarted : MetaImage → MetaReply → Type 0
 TellsRestarted m (Told.Restarted turn) = turn ≡ m.turn
 TellsRestarted m reply = ⊥
 
--- what a request of an actor may be answered in this state, but for the answers that any request may get
+-- what a request of an actor may be answered in this state, but for the answers that any request
+-- may get
 abbrev pub MayTell : Rules → ℕ → MetaImage → MetaReply → MetaRequest → Type 0
 MayTell rules actor m reply (Ask.Mkdir path) =
     TellsChange (add_refusal (standing m.tree) path) (length m.history) reply

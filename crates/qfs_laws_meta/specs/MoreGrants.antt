@@ -316,7 +316,8 @@ same-file : (m n : MetaImage) → n.next_file ≡ m.next_file → IsTrue (counte
     → n.next_file ≤ LAST_U32
 same-file m n e counters = let l = next-fits m counters in omega arith
 
--- a slot of an unclosed file is granted in a state in which no grant of it is pending, as it is told
+-- a slot of an unclosed file is granted in a state in which no grant of it is pending, as it is
+-- told
 granted-free : (layout : Shape) (actor : ℕ) (past : Past) (m n : MetaImage) (block : BlockId)
     (slot server : ℕ) (row : TreeRow)
     → Fits n → n.next_file ≤ LAST_U32

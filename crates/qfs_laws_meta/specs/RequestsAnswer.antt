@@ -1,4 +1,5 @@
--- The requests that give up, take away or tell: what they are answered, and what their changes tell.
+-- The requests that give up, take away or tell: what they are answered, and what their changes
+-- tell.
 use Rattle.std.proofs.Common.{◌≡◌, ℕ, ◌+◌, Bool, true, false, cond, List, [], ◌∷◌, ◌++◌, map, filter, length, Option, Some, None, refl, subst}
 use Rattle.std.specs.Prelude.{min, flat_map}
 use Rattle.qfs_base.specs.Sizes.{LAST_U64}

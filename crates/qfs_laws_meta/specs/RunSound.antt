@@ -59,7 +59,8 @@ one-more actor past (Told.Ordered condemned turn) = omega arith
 one-more actor past (Told.Done place) = omega arith
 one-more actor past _ = omega arith
 
--- the law: from a sound state, any such run leaves a sound state, as long as it is shorter than the versions that are left
+-- the law: from a sound state, any such run leaves a sound state, as long as it is shorter than
+-- the versions that are left
 abbrev pub RunsStaySound : Type 0
 RunsStaySound =
     (rules : Rules) (past : Past) (m : MetaImage) (asked : List Asking) → IsSound past m

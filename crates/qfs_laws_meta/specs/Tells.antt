@@ -1,4 +1,5 @@
--- What a change tells of the state behind it: where its current copies, grants and live leases come from, and what rises.
+-- What a change tells of the state behind it: where its current copies, grants and live leases
+-- come from, and what rises.
 use Rattle.std.proofs.Common.{◌≡◌, ℕ, ◌≤◌, ◌⊎◌, inl, inr, ⊎_elim, true, length, List, [], ◌∷◌, ◌++◌, Option, Some, None, refl, sym, ap, ◌∙◌, subst, arith, append_assoc}
 use Rattle.qfs_base.specs.declared.chunk.BlockId.{BlockId}
 use Rattle.qfs_base.specs.declared.chunk.Copy.{Copy}
@@ -23,8 +24,8 @@ current_at m block slot = (slot_at m.slots block slot).current
 abbrev pub granted_at : MetaImage → BlockId → ℕ → Option Copy
 granted_at m block slot = granted_copy (slot_at m.slots block slot).grant
 
--- from one state to another: `seals` says which slots' grants may become current, `gives` which copies may be granted, and
--- `lends` which leases may be given
+-- from one state to another: `seals` says which slots' grants may become current, `gives` which
+-- copies may be granted, and `lends` which leases may be given
 pub record Tells (seals : BlockId → ℕ → Type 0) (gives : BlockId → ℕ → Copy → Type 0) (lends : ℕ → Type 0) (m n : MetaImage) : Type 0 where
   pub current : (block : BlockId) (slot : ℕ) (copy : Copy) → current_at n block slot ≡ Some copy
       → (current_at m block slot ≡ Some copy)

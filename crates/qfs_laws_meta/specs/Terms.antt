@@ -1,5 +1,6 @@
--- Leases with a term: a tick ends just those whose time has come, an ended lease keeps nothing, a live one keeps what it lists
--- from deletion, and a grant is confirmed whether or not its lease is still live.
+-- Leases with a term: a tick ends just those whose time has come, an ended lease keeps nothing, a
+-- live one keeps what it lists from deletion, and a grant is confirmed whether or not its lease
+-- is still live.
 use Rattle.std.proofs.Common.{◌≡◌, ◌≢◌, ℕ, ◌+◌, ◌<◌, ◌≤◌, ◌==◌, nat_lt, nat_le, Bool, true, false, cond, not, ◌&&◌, ◌||◌, length, List, [], ◌∷◌, ◌++◌, map, filter, Option, Some, None, refl, sym, ap, ◌∙◌, subst, arith}
 use Rattle.std.proofs.lemmas.Bool.{and_parts, and_from, lt-ltb, ltb-true, ne_eqb, eq-eqb}
 use Rattle.std.specs.Cmp.{ranked}
@@ -47,7 +48,8 @@ use Rattle.qfs_laws_meta.specs.StaysSound.{stays-sound}
 abbrev pub time_has_come : ℕ → Lease → Bool
 time_has_come clock lease = not (lease.until == 0) && nat_le lease.until clock
 
--- the step of a tick that is carried out tells the clock, and leaves just those leases whose time hasn't come
+-- the step of a tick that is carried out tells the clock, and leaves just those leases whose time
+-- hasn't come
 pub record TicksLeases (m next : MetaImage) (reply : MetaReply) : Type 0 where
   pub clock : next.clock ≡ min (m.clock + 1) LAST_U64
   pub told : reply ≡ Told.Clock next.clock
@@ -276,7 +278,8 @@ orders-nothing-listed rules actor after past m c turn sound left who is =
 
 -- ---- a grant is confirmed without its lease
 
--- where its own grant is pending on a slot of a closed file, an actor's Confirm makes it current, whatever leases are live
+-- where its own grant is pending on a slot of a closed file, an actor's Confirm makes it current,
+-- whatever leases are live
 abbrev pub ConfirmsWithoutLease : Type 0
 ConfirmsWithoutLease =
     (rules : Rules) (actor : ℕ) (block : BlockId) (slot version lease : ℕ) (m : MetaImage)

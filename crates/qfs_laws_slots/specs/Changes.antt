@@ -1,4 +1,5 @@
--- What holds before each change that a request makes, and what a change tells the actors.
+-- What holds before each change that a request makes, and what a change tells the actors. Cited
+-- by the laws of the tree and of the metaserver.
 use Rattle.qfs_base.specs.NameTree.{PathNames, add_refusal, look_refusal, rename_refusal, rmdir_refusal}
 use Rattle.qfs_base.specs.Path.{IsPath}
 use Rattle.qfs_base.specs.Sizes.{LAST_U16, LAST_U32, MOST_FILE_BYTES, SLOTS}

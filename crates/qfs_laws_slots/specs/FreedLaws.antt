@@ -1,5 +1,6 @@
--- A grant in place of a failed one is decided as if that one was condemned first: the state once the server of a slot's pending
--- grant failed the put.
+-- A grant in place of a failed one is decided as if that one was condemned first: the state once
+-- the server of a slot's pending grant failed the put. Cited by the laws of the tree and of the
+-- metaserver.
 use Rattle.std.proofs.Common.{◌≡◌, ℕ, Bool, true, false, cond, List, [], ◌∷◌, ◌++◌, map, filter, count_by, ◌+◌, Option, Some, None, refl, ap, ◌∙◌, sym}
 use Rattle.std.specs.Prelude.{unwrap_or, find}
 use Rattle.std.specs.List.{flat_map, enumerate_from}

@@ -1,4 +1,5 @@
--- The changes by which slots lose copies: what they leave alone, and what they do to the table of slots.
+-- The changes by which slots lose copies: what they leave alone, and what they do to the table of
+-- slots. Cited by the laws of the tree and of the metaserver.
 use Rattle.qfs_base.specs.declared.change.Change.{Change}
 use Rattle.qfs_base.specs.declared.change.Change.TheVariants.{ConfirmSlot, EmptySlot, FailGrant, GiveUp}
 use Rattle.qfs_base.specs.declared.chunk.BlockId.{BlockId}

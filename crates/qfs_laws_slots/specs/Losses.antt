@@ -1,4 +1,5 @@
--- Changes of a slot's record that give it no copy.
+-- Changes of a slot's record that give it no copy. Cited by the laws of the tree and of the
+-- metaserver.
 use Rattle.qfs_base.specs.Table.{Each}
 use Rattle.qfs_base.specs.declared.chunk.BlockId.{BlockId}
 use Rattle.qfs_base.specs.declared.chunk.Copy.{Copy}

@@ -1,4 +1,5 @@
--- The tests of leases, condemned copies and files by their key, as equalities of numbers.
+-- The tests of leases, condemned copies and files by their key, as equalities of numbers. Cited
+-- by the laws of the tree and of the metaserver.
 use Rattle.qfs_base.specs.declared.image.CondemnedRow.{CondemnedRow}
 use Rattle.qfs_base.specs.declared.image.Lease.{Lease}
 use Rattle.qfs_base.specs.declared.image.TreeRow.{TreeRow}

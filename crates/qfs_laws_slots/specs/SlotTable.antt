@@ -1,4 +1,5 @@
--- The table of slots is one of the files of the tree: every change keeps it.
+-- The table of slots is one of the files of the tree: every change keeps it. Cited by the laws of
+-- the tree and of the metaserver.
 use Rattle.qfs_base.specs.Table.{Each, IsRising, without}
 use Rattle.qfs_base.specs.declared.change.Change.{Change}
 use Rattle.qfs_base.specs.declared.change.Change.TheVariants.{ConfirmSlot, EmptySlot, FailGrant, GiveUp}
@@ -29,7 +30,8 @@ use Rattle.qfs_laws_tables.specs.InOrder.{change_rises, each_inserted, filter_ri
 
 -- ---- what a row has
 
--- a record of a slot of a file: only a closed file has current copies, and the servers that it names are there
+-- a record of a slot of a file: only a closed file has current copies, and the servers that it
+-- names are there
 pub record StateFits (servers next : ℕ) (tree : List TreeRow) (file : ℕ) (state : SlotRecord) : Type 0 where
   pub current : Each (λ (copy : Copy). IsServer servers copy.server × IsTrue
       (is_some (closed_file file tree))) (option_to_list state.current)

@@ -1,4 +1,5 @@
--- The table of slots: what is known of each slot after one was placed, changed, sealed or forgotten.
+-- The table of slots: what is known of each slot after one was placed, changed, sealed or
+-- forgotten. Cited by the laws of the tree and of the metaserver.
 use Rattle.qfs_base.specs.Key.{block_cmp}
 use Rattle.qfs_base.specs.KeyLaws.{block_cmp-Equal, block_cmp_total}
 use Rattle.qfs_base.specs.Table.{Each, IsRising, change_row, change_where, place, place_before}

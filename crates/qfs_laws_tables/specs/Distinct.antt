@@ -1,4 +1,5 @@
--- Lists without repeats. Of numbers: each of them counts at most once.
+-- Lists without repeats. Of numbers: each of them counts at most once. Cited by the laws of
+-- slots, of the tree and of the metaserver.
 use Rattle.qfs_base.specs.Table.{Each}
 use Rattle.std.proofs.Common.{Bool, List, [], arith, false, nat_eq, refl, subst, sym, true, ℕ, ◌++◌, ◌+◌, ◌||◌, ◌∙◌, ◌∷◌, ◌≡◌, ◌≤◌}
 use Rattle.std.proofs.lemmas.Bool.{true≢false}
@@ -69,7 +70,8 @@ far e t x agrees (y ∷ ys) each any =
       | false ↦ λ is any. far e t x agrees ys each.1 any
     ]) refl any
 
--- where no two items agree, one that passes one test and one that passes another are the same if such items agree
+-- where no two items agree, one that passes one test and one that passes another are the same if
+-- such items agree
 pub distinct-both : {X : Type 0} (Y : Type 0) (eq : X → X → Bool) (p q : X → Bool)
     → ((x y : X) → p x ≡ true → q y ≡ true → eq x y ≡ true)
     → ((x y : X) → q x ≡ true → p y ≡ true → eq x y ≡ true)

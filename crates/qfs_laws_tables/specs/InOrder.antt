@@ -1,4 +1,5 @@
--- Tables in order, without repeats: what keeps them so.
+-- Tables in order, without repeats: what keeps them so. Cited by the laws of slots, of the tree
+-- and of the metaserver.
 use Rattle.qfs_base.specs.Table.{Each, IsRising, change_row, change_where, place, place_all, place_before}
 use Rattle.std.proofs.Common.{Bool, List, [], ap, cond, false, filter, map, refl, true, ℕ, ◌++◌, ◌∙◌, ◌∷◌, ◌≡◌}
 use Rattle.std.specs.BTreeSet.{insert_key}

@@ -1,4 +1,5 @@
--- Rows that are placed where none has their key, and maps of tables that are placed, kept by a test or changed.
+-- Rows that are placed where none has their key, and maps of tables that are placed, kept by a
+-- test or changed. Cited by the laws of slots, of the tree and of the metaserver.
 use Rattle.qfs_base.specs.Table.{Each, IsRising, change_row, change_where, place, place_all, place_before}
 use Rattle.std.proofs.Common.{Bool, List, [], ap, arith, cond, false, filter, map, refl, subst, sym, true, ℕ, ◌+◌, ◌||◌, ◌∙◌, ◌∷◌, ◌≡◌}
 use Rattle.std.specs.Cmp.{IsTotalOrder}

@@ -1,4 +1,5 @@
--- The sum of a weight over the rows of a table.
+-- The sum of a weight over the rows of a table. Cited by the laws of slots, of the tree and of
+-- the metaserver.
 use Rattle.qfs_base.specs.Table.{Each, change_row, change_where}
 use Rattle.qfs_base.specs.declared.image.SlotRow.{SlotRow}
 use Rattle.std.proofs.Common.{Bool, List, Some, [], ap, arith, cond, false, filter, find, map, refl, sym, true, ℕ, ◌++◌, ◌+◌, ◌||◌, ◌∙◌, ◌∷◌, ◌≡◌, ◌≤◌}

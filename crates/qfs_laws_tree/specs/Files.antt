@@ -1,4 +1,5 @@
--- Files that are closed or given up, and the paths at which they stand.
+-- Files that are closed or given up, and the paths at which they stand. Cited by the laws of the
+-- metaserver.
 use Rattle.qfs_base.specs.NameTree.{PathNames, is_filled, is_within, kind_at, look_refusal, rename_refusal, rmdir_refusal, source_refusal, stands_at}
 use Rattle.qfs_base.specs.Path.{IsPath}
 use Rattle.qfs_base.specs.Table.{Each, change_row, change_where}

@@ -1,4 +1,5 @@
--- The file history: after each change its entry may follow, and the files are the tree.
+-- The file history: after each change its entry may follow, and the files are the tree. Cited by
+-- the laws of the metaserver.
 use Rattle.qfs_base.specs.Files.{FileEntry, FollowFrom, IsClosed, Puts, close_entry, created_count, creates, entry_at, entry_path, files_after, files_of, files_standing, is_unclosed_content, is_unclosed_entry, kind_of_content, may_follow}
 use Rattle.qfs_base.specs.NameTree.{PathNames, add_refusal, added, is_within, look_refusal, moved, path_eq, rename_refusal, renamed, rmdir_refusal, row_cmp, stands_at, taken}
 use Rattle.qfs_base.specs.Table.{Each, place, place_all, without}
@@ -49,7 +50,7 @@ unfolding files_of
 files-more puts history entry = fold-append (files_after puts) [] history (entry ∷ [])
 
 -- the tree as the rules see it is that of the files
-standing-files : (puts : Puts) (tree : List TreeRow)
+pub standing-files : (puts : Puts) (tree : List TreeRow)
     → files_standing (map (file_entry puts) tree) ≡ standing tree
 unfolding files_standing standing file_entry content_of kind_of_content
 standing-files puts [] = refl

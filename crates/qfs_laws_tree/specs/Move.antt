@@ -1,4 +1,5 @@
--- The name tree after everything within a path moved to another.
+-- The name tree after everything within a path moved to another. Cited by the laws of the
+-- metaserver.
 use Rattle.qfs_base.specs.NameTree.{PathNames, grows_too_deep, is_within, kind_at, most_names, moved, path_cmp, path_eq, refused_if, rename_refusal, renamed, row_cmp}
 use Rattle.qfs_base.specs.Path.{IsName, IsPath}
 use Rattle.qfs_base.specs.Table.{Each, IsRising, place_all, without}

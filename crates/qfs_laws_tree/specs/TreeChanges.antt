@@ -1,4 +1,5 @@
--- The name tree: every change but the move keeps it, and what stands in it.
+-- The name tree: every change but the move keeps it, and what stands in it. Cited by the laws of
+-- the metaserver.
 use Rattle.qfs_base.specs.NameTree.{PathNames, add_refusal, added, is_below, is_filled, kind_at, look_refusal, path_eq, rmdir_refusal, row_cmp, taken}
 use Rattle.qfs_base.specs.Table.{Each, change_row, change_where, place}
 use Rattle.qfs_base.specs.declared.image.TreeRow.{TreeRow}

@@ -1,4 +1,4 @@
--- Paths, refusals of the name tree, and what stands in it.
+-- Paths, refusals of the name tree, and what stands in it. Cited by the laws of the metaserver.
 use Rattle.qfs_base.specs.NameTree.{PathNames, Standing, add_refusal, directory_refusal, file_refusal, is_filled, is_within, kind_at, look_refusal, new_refusal, parents_of, parents_refusal, path_eq, rmdir_refusal, row_cmp, stands_at, through_refusal}
 use Rattle.qfs_base.specs.Table.{Each, first_of}
 use Rattle.qfs_base.specs.declared.image.TreeRow.{TreeRow}
