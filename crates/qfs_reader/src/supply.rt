@@ -1,10 +1,11 @@
 //! The memory that a get takes before each of its requests.
-#![tactic(auto, unfolding(crate::specs::Rest::rest_at, crate::specs::Rest::report_of, qfs_model_actor::specs::Shown::shown_reply))]
+#![tactic(auto, unfolding(crate::specs::Rest::rest_of_get, crate::specs::Rest::report_of_get, qfs_model_actor::specs::Shown::shown_reply))]
 
 ghost use Rattle.std.specs.Prelude.{◌≡◌, ◌≤◌, length, IfOk, OnErr, OnOk};
 ghost use Rattle.qfs_base.specs.Sizes.{WINDOW_ROWS};
-ghost use Rattle.qfs_reader.specs.Rest.{rest_at};
-ghost use Rattle.qfs_reader.specs.Standing.{IsAt, IsKeptOf, IsOtherRoom, IsSupplied, HasRoom};
+ghost use Rattle.qfs_reader.specs.Rest.{rest_of_get};
+ghost use Rattle.qfs_reader.specs.ReaderState.{IsGetStage, IsKeptOf, IsOtherRoom};
+ghost use Rattle.qfs_reader.specs.ReaderState.{HasWindowRoom, IsSupplied};
 
 use crate::sources::causes_of;
 use crate::stage::{Attempt, Get, GetEnding, Stage};
@@ -29,8 +30,8 @@ fn make_room(
     window: Window,
 ) -> Result<(), AllocError>
     requires { window.rows ≤ WINDOW_ROWS }
-    ensures ok { OnOk result (HasRoom get.now attempt.new window) }
-    ensures there { HasRoom get.now attempt.old window → attempt.new ≡ attempt.old }
+    ensures ok { OnOk result (HasWindowRoom get.now attempt.new window) }
+    ensures there { HasWindowRoom get.now attempt.old window → attempt.new ≡ attempt.old }
     ensures other { IsOtherRoom attempt.old attempt.new }
     ensures err { OnErr result (attempt.new ≡ attempt.old) }
 {
@@ -80,9 +81,9 @@ fn report(alloc: Global, ending: &GetEnding) -> Result<Reply<Excerpt>, AllocErro
 /// Takes the memory for the reply to a stage's request: room for the bytes of a slot, or the report
 /// that the get ends with.
 pub fn supply(alloc: Global, get: &Get, stage: &mut Stage) -> Result<(), AllocError>
-    requires { IsAt get.now stage.old }
-    ensures rest { rest_at get.now stage.new ≡ rest_at get.now stage.old }
-    ensures at { IsAt get.now stage.new }
+    requires { IsGetStage get.now stage.old }
+    ensures rest { rest_of_get get.now stage.new ≡ rest_of_get get.now stage.old }
+    ensures at { IsGetStage get.now stage.new }
     ensures supplied { OnOk result (IsSupplied get.now stage.new) }
 {
     match stage {

@@ -1,6 +1,6 @@
 use Rattle.std.proofs.Common.{◌∙◌, refl}
 use Rattle.qfs_model_actor.specs.Hold.{was_released}
-use Rattle.qfs_reader.specs.Rest.{rest_at}
+use Rattle.qfs_reader.specs.Rest.{rest_of_get}
 use Rattle.qfs_reader.proofs.Answered.{released-other, unnamed-rest, ended-at}
 use Rattle.qfs_reader.proofs.meta.given_back.Goals as goal
 
@@ -17,6 +17,6 @@ returns-in_default c =
     record {
       rest =
           unnamed-rest c.args.get.now _ c.ended.ensures
-          ∙ released-other (rest_at c.args.get.now c.args.next) c.args.answer.now c.in_default.not-Done c.in_default.not-Gone;
+          ∙ released-other (rest_of_get c.args.get.now c.args.next) c.args.answer.now c.in_default.not-Done c.in_default.not-Gone;
       at = ended-at c.args.get.now _ _ c.ended.ensures;
     }
