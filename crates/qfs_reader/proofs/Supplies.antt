@@ -1,7 +1,7 @@
 -- A get with other room for what its slots give.
 use Rattle.std.proofs.Common.{◌≡◌, ◌∙◌, refl, ap, sym, inl, inr, []}
 use Rattle.qfs_reader.specs.Parts.{pieces_of}
-use Rattle.qfs_reader.specs.Rest.{rest_of_position, window_bytes, pieces_at}
+use Rattle.qfs_reader.specs.Rest.{rest_of_position, rest_from_slot, window_bytes, pieces_at}
 use Rattle.qfs_reader.specs.ReaderState.{IsOtherRoom, IsPosition, HasWindowRoom}
 use Rattle.qfs_reader.specs.declared.stage.Attempt.{Attempt}
 use Rattle.qfs_reader.specs.declared.stage.Get.{Get}

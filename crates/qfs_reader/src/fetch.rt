@@ -1,5 +1,5 @@
 //! How a get goes on when a chunk server has answered.
-#![tactic(auto, unfolding(crate::specs::Rest::rest_of_get, crate::specs::Rest::report_of_get))]
+#![tactic(auto, unfolding(crate::specs::Rest::rest_of_get, crate::specs::Rest::report_of_get, crate::specs::Rest::rest_if_filled, qfs_machine::specs::Endings::report_of_ending, qfs_model_actor::specs::Ask::after_fetch))]
 
 ghost use Rattle.std.specs.Prelude.{◌≡◌, ◌+◌, ◌<◌, length};
 ghost use Rattle.qfs_base.specs.Sizes.{SLOTS};

@@ -1,5 +1,5 @@
 //! How a get goes on when the metaserver has answered.
-#![tactic(auto, unfolding(crate::specs::Rest::rest_of_get, crate::specs::Rest::report_of_get, qfs_model_actor::specs::Get::is_whole))]
+#![tactic(auto, unfolding(crate::specs::Rest::rest_of_get, crate::specs::Rest::report_of_get, qfs_machine::specs::Endings::report_of_ending, qfs_model_actor::specs::Get::is_whole, qfs_model_actor::specs::Get::read_if_whole, qfs_model_actor::specs::Get::was_opened, qfs_model_actor::specs::Hold::was_released, qfs_model_actor::specs::Shown::shown_reply, qfs_model_actor::specs::Tree::refused))]
 
 ghost use Rattle.std.specs.Prelude.{◌≡◌, ◌≤◌};
 ghost use Rattle.qfs_base.specs.Sizes.{MOST_FILE_BYTES};

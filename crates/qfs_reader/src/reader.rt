@@ -108,6 +108,7 @@ fn stage_after(alloc: Global, get: &Get, stage: Stage, reply: NodeReply) -> Stag
 }
 
 /// The stage of a get at an answer of the metaserver.
+#[tactic(auto, unfolding(crate::specs::Rest::rest_of_get, qfs_model_actor::specs::Work::goes_on, qfs_model_actor::specs::Hold::on_meta, qfs_model_actor::specs::Hold::ask_or, qfs_model_actor::specs::Hold::end_with, qfs_model_actor::specs::Hold::give_back, qfs_model_actor::specs::Ask::ask, qfs_model_actor::specs::Get::attempt))]
 fn after_meta(alloc: Global, get: &Get, stage: Stage, answer: MetaReply) -> Stage
     requires at { IsGetStage get.now stage }
     requires supplied { IsSupplied get.now stage }

@@ -1,5 +1,5 @@
 //! What a get asks at each stage.
-#![tactic(auto, unfolding(crate::specs::Rest::rest_of_get, qfs_model_actor::specs::Work::request_in, qfs_model_actor::specs::Hold::end_with, qfs_model_actor::specs::Hold::give_back, qfs_model_actor::specs::Hold::ask_or, qfs_model_actor::specs::Ask::ask, qfs_model_actor::specs::Ask::fetch, qfs_model_actor::specs::Get::attempt))]
+#![tactic(auto, unfolding(crate::specs::Rest::rest_of_get, qfs_model_actor::specs::Work::request_in, qfs_model_actor::specs::Work::node_of_request, qfs_model_actor::specs::Hold::end_with, qfs_model_actor::specs::Hold::give_back, qfs_model_actor::specs::Hold::ask_or, qfs_model_actor::specs::Ask::ask, qfs_model_actor::specs::Ask::fetch, qfs_model_actor::specs::Get::attempt))]
 
 ghost use Rattle.std.specs.Prelude.{◌≡◌, IfOk, IfSome, replicate};
 ghost use Rattle.qfs_base.specs.declared.request.MetaRequest.TheVariants as Ask;
@@ -18,6 +18,9 @@ use qfs_base::numbers::{LeaseId, NodeId};
 use qfs_base::path::Path;
 use qfs_base::request::{ChunkRequest, MetaRequest, NodeRequest};
 use std::alloc::{AllocError, Global};
+
+/// The node number of the metaserver.
+const METASERVER: NodeId = 0;
 
 /// The request that opens the file at a path.
 fn open_request(path: &Path) -> Result<NodeRequest, AllocError>
@@ -105,8 +108,10 @@ pub fn node_of(get: &Get, stage: &Stage) -> Option<NodeId>
 {
     let _ = get;
     match stage {
+        Stage::Opening { .. } => Some(METASERVER),
         Stage::Reading(_, position) => Some(position.copy.server),
+        Stage::Releasing(..) => Some(METASERVER),
+        Stage::Retrying { .. } => Some(METASERVER),
         Stage::Ended(..) => None,
-        _ => Some(0),
     }
 }

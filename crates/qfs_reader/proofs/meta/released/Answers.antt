@@ -11,9 +11,6 @@ returns-in-Some-clause-rest c =
     ended-rest c.args.get.now _ _ c.ended.ensures
     ∙ sym (on_answer-some (was_released (rest_of_get c.args.get.now c.args.next)) c.args.answer.now c.in-Some.ending (sym c.of_meta.ensures ∙ c.in-Some.is))
 
-pub returns-in-Some-clause-at : goal.returns-in-Some-clause-at
-returns-in-Some-clause-at c = ended-at c.args.get.now _ _ c.ended.ensures
-
 pub returns-in-None-clause-rest : goal.returns-in-None-clause-rest
 returns-in-None-clause-rest c =
     c.given_back.ensures.rest
