@@ -58,18 +58,15 @@ abbrev pub IsInWindow : Get → Attempt → Position → Type 0
 IsInWindow get attempt position =
     IsAtWindow get attempt position.block position.window position.windows
 
--- the room for the slots of a window
-pub record HasWindowRoom (get : Get) (attempt : Attempt) (w : Window) : Type 0 where
-  pub nine : length attempt.nine.items ≡ SLOTS * window_bytes get.layout w
-  pub spare : length attempt.spare.items ≡ window_bytes get.layout w
+-- these hold nine parts of `size` bytes, and one more
+pub record IsRoom (size : ℕ) (nine spare : List ℕ) : Type 0 where
+  pub nine : length nine ≡ SLOTS * size
+  pub spare : length spare ≡ size
 
--- an attempt with other room, and all else the same
-pub record IsOtherRoom (before after : Attempt) : Type 0 where
-  pub opened : after.opened ≡ before.opened
-  pub from : after.from ≡ before.from
-  pub to : after.to ≡ before.to
-  pub more : after.more ≡ before.more
-  pub got : after.got ≡ before.got
+-- the room for the slots of a window
+abbrev pub HasWindowRoom : Get → Attempt → Window → Type 0
+HasWindowRoom get attempt w =
+    IsRoom (window_bytes get.layout w) attempt.nine.items attempt.spare.items
 
 -- those of the slots before one that can be read have given their bytes, and are too few; with the
 -- slots behind them there are enough

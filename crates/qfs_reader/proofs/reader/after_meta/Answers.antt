@@ -3,7 +3,7 @@ use Rattle.qfs_model_actor.specs.Hold.{end_with}
 use Rattle.qfs_model_actor.specs.Work.{goes_on}
 use Rattle.qfs_reader.specs.Rest.{rest_of_get}
 use Rattle.qfs_reader.proofs.Answered.{unnamed-rest, ended-at}
-use Rattle.qfs_reader.proofs.Asked.{position-meta, opening-meta, releasing-meta}
+use Rattle.qfs_reader.proofs.Asked.{position-meta}
 use Rattle.qfs_reader.proofs.reader.after_meta.Goals as goal
 
 pub returns-in-Reading-clause-rest : goal.returns-in-Reading-clause-rest
