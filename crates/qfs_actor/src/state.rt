@@ -158,7 +158,7 @@ impl ActorState {
         ensures line { AddsLine (rest_of_machine machine) self.old self.new }
         ensures rest { option_map rest_of_machine self.new.machine
             ≡ first_work self.old.setting.rules (length self.old.replies.items + 2)
-                (into_iter_items self.old.ahead) }
+            (into_iter_items self.old.ahead) }
         ensures asks { AsksIn self.new.machine }
         ensures ahead { into_iter_items self.new.ahead ≡ drop 1 (into_iter_items self.old.ahead) }
         ensures unready { readiness_in self.new.machine ≡ Readiness.Unready }

@@ -59,9 +59,9 @@ IsInWindow get attempt position =
     IsAtWindow get attempt position.block position.window position.windows
 
 -- these hold nine parts of `size` bytes, and one more
-pub record IsRoom (size : ℕ) (nine spare : List ℕ) : Type 0 where
-  pub nine : length nine ≡ SLOTS * size
-  pub spare : length spare ≡ size
+pub record IsRoom (size : ℕ) (parts part : List ℕ) : Type 0 where
+  pub nine : length parts ≡ SLOTS * size
+  pub spare : length part ≡ size
 
 -- the room for the slots of a window
 abbrev pub HasWindowRoom : Get → Attempt → Window → Type 0
