@@ -1,5 +1,5 @@
 -- What reading the script of a run comes to.
-use Rattle.std.specs.Prelude.{◌≡◌, ℕ, ◌<◌, ◌≤◌, ◌⊎◌, List, length, Option, ⊤, Ok, Err}
+use Rattle.std.specs.Prelude.{◌≡◌, ℕ, ◌<◌, ◌≤◌, ◌⊎◌, List, length, Option, Some, ⊤, Ok, Err}
 use Rattle.qfs_base.specs.declared.script.Script.{Script}
 use Rattle.qfs_base.specs.declared.script.ScriptCause.{ScriptCause}
 use Rattle.qfs_base.specs.declared.script.ScriptCause.TheVariants as Cause
@@ -19,6 +19,13 @@ pub record ReadsWhole (before after : Option (List ℕ)) (script : Script) : Typ
   pub bytes : List ℕ
   pub gave : Gives bytes before after
   pub at_end : IsAtEnd after
+  pub short : length bytes ≤ most_script_bytes
+  pub says : read_lines (text_lines bytes) ≡ Ok script
+
+-- the source tells what it has left, and that is the text of this script
+pub record TellsScript (left : Option (List ℕ)) (script : Script) : Type 0 where
+  pub bytes : List ℕ
+  pub left_is : left ≡ Some bytes
   pub short : length bytes ≤ most_script_bytes
   pub says : read_lines (text_lines bytes) ≡ Ok script
 

@@ -44,7 +44,7 @@ module _ {D : Type 0} where
     pub read : ReadsWhole before.left after.left script
     pub enough : script.servers ≤ length before.devices
     pub prints : Prints told faults number script before.devices after.devices text
-    pub places : StayInPlace script.servers before.devices after.devices
+    pub places : StayInPlace told faults script.servers before.devices after.devices
 
   -- the text of the run was written whole
   pub record WritesWhole (told : D → Option Held) (faults : D → ℕ) (number : ℕ) (before after : Outside D) : Type 0 where
@@ -75,7 +75,7 @@ module _ {D : Type 0} where
     pub read : ReadsWhole before.left after.left script
     pub enough : script.servers ≤ length before.devices
     pub fails : FailsAtServer told faults number script server before.devices after.devices
-    pub places : StayInPlace script.servers before.devices after.devices
+    pub places : StayInPlace told faults script.servers before.devices after.devices
 
   -- memory was wanting in the run of a script that was read whole
   pub record StopsInRun (told : D → Option Held) (faults : D → ℕ) (before after : Outside D) : Type 0 where
@@ -84,7 +84,7 @@ module _ {D : Type 0} where
     pub most : script.servers ≤ MOST_SERVERS
     pub enough : script.servers ≤ length before.devices
     pub stops : StopsForMemory told faults script before.devices after.devices
-    pub places : StayInPlace script.servers before.devices after.devices
+    pub places : StayInPlace told faults script.servers before.devices after.devices
 
   -- memory was wanting: all devices are as they came, or it was so in a run
   abbrev pub LacksMemory : (D → Option Held) → (D → ℕ) → Outside D → Outside D → Type 0
@@ -100,6 +100,13 @@ module _ {D : Type 0} where
   EndsSo told faults number before after Ended.WriteFault = WritesPart told faults number before after
   EndsSo told faults number before after Ended.NoMemory = LacksMemory told faults before after
   EndsSo told faults number before after (Ended.DeviceFault server) = StopsAtFault told faults number server before after
+
+-- where a script has more servers than there are devices, a run ends so, unless the source fails or memory is wanting
+abbrev pub IsTooFew : (servers devices : ℕ) → Status → Type 0
+IsTooFew servers devices (Ended.TooFewDevices asked there) = (asked ≡ servers) × (there ≡ devices)
+IsTooFew servers devices Ended.ReadFault = ⊤
+IsTooFew servers devices Ended.NoMemory = ⊤
+IsTooFew servers devices status = ⊥
 
 -- nothing is written but with the statuses Ok and WriteFault
 abbrev pub OnUnwritten : Status → Type 0 → Type 0
