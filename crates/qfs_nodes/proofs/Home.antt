@@ -6,7 +6,7 @@ use Rattle.std.proofs.lemmas.List.{length-map}
 use Rattle.qfs_device.specs.Held.{Held}
 use Rattle.qfs_meta.specs.Metaserver.{Metaserver}
 use Rattle.qfs_store.specs.Stored.{Stored}
-use Rattle.qfs_nodes.specs.Nodes.{image_of, stores_of, StartsWithMeta, AreHome}
+use Rattle.qfs_nodes.specs.Nodes.{AreHome, StartsWithMeta, image_of, nodes_with, stores_of}
 use Rattle.qfs_nodes.specs.declared.node.NodeState.{NodeState}
 use Rattle.qfs_nodes.specs.declared.node.NodeState.TheVariants as Node
 use Rattle.qfs_nodes.proofs.Stores.{stores-with}

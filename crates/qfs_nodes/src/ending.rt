@@ -11,9 +11,31 @@ use qfs_base::listing::Listing;
 use qfs_device::ChunkDevice;
 use std::alloc::{AllocError, Global};
 
+/// Takes nodes and actors apart: the chunk servers' devices go before the others, in the order of
+/// the servers, and what is left are the metaserver's state and the replies of the actors. On want
+/// of memory the devices go home all the same.
+pub fn take_apart<D: ChunkDevice>(
+    alloc: Global,
+    nodes: Vec<NodeState<D>>,
+    actors: Vec<Actor>,
+    devices: &mut Vec<D>,
+) -> Result<(MetaImage, ReplyList), AllocError>
+    requires nodes { StartsWithMeta nodes.items }
+    requires room { length (stores_of nodes.items) + length devices.old.items
+        ≤ vec_capacity devices.old }
+    ensures home { AreHome D.told D.faults (stores_of nodes.items)
+        devices.old.items devices.new.items }
+    ensures image { IfOk result (λ left. left.0 ≡ image_of nodes.items) }
+    ensures replies { IfOk result (λ left. left.1 ≡ lines_of_actors (actors_of actors.items)) }
+{
+    let image = hand_back(nodes, devices);
+    let replies = all_replies(alloc, actors)?;
+    Ok((image, replies))
+}
+
 /// Takes the nodes apart. The chunk servers' devices go before the others, in the order of the
 /// servers.
-pub fn hand_back<D: ChunkDevice>(nodes: Vec<NodeState<D>>, devices: &mut Vec<D>) -> MetaImage
+fn hand_back<D: ChunkDevice>(nodes: Vec<NodeState<D>>, devices: &mut Vec<D>) -> MetaImage
     requires nodes { StartsWithMeta nodes.items }
     requires room { length (stores_of nodes.items) + length devices.old.items
         ≤ vec_capacity devices.old }
@@ -43,7 +65,7 @@ fn put_first<D: ChunkDevice>(devices: &mut Vec<D>, device: D)
 }
 
 /// The replies of all actors, one after another.
-pub fn all_replies(alloc: Global, actors: Vec<Actor>) -> Result<ReplyList, AllocError>
+fn all_replies(alloc: Global, actors: Vec<Actor>) -> Result<ReplyList, AllocError>
     ensures { IfOk result (λ replies. replies ≡ lines_of_actors (actors_of actors.items)) }
 {
     let mut replies = ReplyList::new(alloc);

@@ -7,7 +7,7 @@ mod node;
 mod start;
 mod turns;
 
-pub use ending::{all_replies, hand_back};
+pub use ending::take_apart;
 pub use node::{NodeState, turn_on};
-pub use start::{first_actors, first_node, phase_sizes, take_devices};
+pub use start::{Prepared, prepare, take_devices};
 pub use turns::current_turn;

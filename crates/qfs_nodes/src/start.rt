@@ -20,8 +20,36 @@ use qfs_meta::Meta;
 use qfs_store::Store;
 use std::alloc::{AllocError, Global};
 
+/// The nodes and actors of a world at its start, but for the chunk servers.
+pub struct Prepared<D: ChunkDevice> {
+    pub nodes: Vec<NodeState<D>>,
+    pub actors: Vec<Actor>,
+    pub phases: Vec<usize>,
+}
+
+/// Takes all memory that a world takes at its start.
+pub fn prepare<D: ChunkDevice>(alloc: Global, script: &Script) -> Result<Prepared<D>, AllocError>
+    requires { IsRunnable script.now }
+    ensures nodes { IfOk result (λ it. it.nodes.items
+        ≡ nodes_with (meta_of script.now (opening script.now.servers)) []) }
+    ensures room { IfOk result (λ it. vec_len it.nodes + script.now.servers
+        ≤ vec_capacity it.nodes) }
+    ensures actors { IfOk result (λ it. it.actors.items
+        ≡ starts_from (rules_of script.now) 1 (commands_by_actor script.now)) }
+    ensures phases { IfOk result (λ it. it.phases.items ≡ sizes_of script.now.phases) }
+{
+    let nodes = first_node(alloc, script)?;
+    let actors = first_actors(alloc, script)?;
+    let phases = phase_sizes(alloc, script)?;
+    Ok(Prepared {
+        nodes,
+        actors,
+        phases,
+    })
+}
+
 /// The metaserver as the only node, with room for one behind it for each chunk server.
-pub fn first_node<D: ChunkDevice>(
+fn first_node<D: ChunkDevice>(
     alloc: Global,
     script: &Script,
 ) -> Result<Vec<NodeState<D>>, AllocError>
@@ -84,7 +112,7 @@ fn rules_of(script: &Script) -> Rules
 }
 
 /// The actors of a script, at their first commands.
-pub fn first_actors(alloc: Global, script: &Script) -> Result<Vec<Actor>, AllocError>
+fn first_actors(alloc: Global, script: &Script) -> Result<Vec<Actor>, AllocError>
     requires { IsRunnable script.now }
     ensures { IfOk result (λ actors. actors.items
         ≡ starts_from (rules_of script.now) 1 (commands_by_actor script.now)) }
@@ -138,7 +166,7 @@ fn copy_command(command: &Command) -> Result<Command, AllocError>
 }
 
 /// How many actors each phase has, but for phases without actors.
-pub fn phase_sizes(alloc: Global, script: &Script) -> Result<Vec<usize>, AllocError>
+fn phase_sizes(alloc: Global, script: &Script) -> Result<Vec<usize>, AllocError>
     ensures { IfOk result (λ sizes. sizes.items ≡ sizes_of script.now.phases) }
 {
     let mut sizes = Vec::new(alloc);

@@ -12,7 +12,6 @@ pub struct WorldLoadError<D, L> {
 }
 
 /// A world taken apart.
-#[derive(Drop)]
 pub struct Parts<D, L> {
     /// All devices, in the places in which they came: that of server s at s - 1.
     pub devices: Vec<D>,

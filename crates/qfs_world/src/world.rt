@@ -1,14 +1,12 @@
 //! The world at work.
-ghost use Rattle.std.specs.Prelude.{◌≡◌, ◌+◌, ◌≤◌, ◌<◌, [], length, map, take, All, IfOk, IfErr, OnErr, false, vec_len, vec_capacity};
+ghost use Rattle.std.specs.Prelude.{◌≡◌, ◌≤◌, ◌<◌, length, map, take, All, IfOk, IfErr, OnErr, false};
 ghost use Rattle.std.specs.Option.{option_and_then};
-ghost use Rattle.qfs_base.specs.Rules.{rules_of};
 ghost use Rattle.qfs_machine.specs.Asking.{IsOut};
 ghost use Rattle.qfs_model_actor.specs.Actor.{has_finished, node_of};
-ghost use Rattle.qfs_model_meta.specs.Step.{opening};
 ghost use Rattle.qfs_model_world.specs.World.{numbered};
-ghost use Rattle.qfs_nodes.specs.Actors.{lines_of_actors, sizes_of, starts_from};
-ghost use Rattle.qfs_nodes.specs.Nodes.{IsNew, nodes_with};
-ghost use Rattle.qfs_nodes.specs.Scripts.{IsRunnable, commands_by_actor, meta_of};
+ghost use Rattle.qfs_nodes.specs.Actors.{lines_of_actors};
+ghost use Rattle.qfs_nodes.specs.Nodes.{IsNew};
+ghost use Rattle.qfs_nodes.specs.Scripts.{IsRunnable};
 ghost use Rattle.qfs_world.specs.AtWork.{TakesTurn, place_in};
 ghost use Rattle.qfs_world.specs.Calls.{AreDevicesOf, HasTurn, Starts, Steps};
 ghost use Rattle.qfs_world.specs.Follows.{IsAfter};
@@ -24,16 +22,14 @@ use qfs_base::order::Order;
 use qfs_base::script::Script;
 use qfs_device::{ChunkDevice, LogDisk, MetaDisks};
 use qfs_machine::Ghost;
-use qfs_nodes::{NodeState, all_replies, current_turn, first_actors, first_node, hand_back};
-use qfs_nodes::{phase_sizes, take_devices, turn_on};
+use qfs_nodes::{NodeState, Prepared, current_turn, prepare, take_apart, take_devices, turn_on};
 use std::alloc::{AllocError, Global};
 use std::marker::Model;
 use std::snapshot::Snapshot;
 
 /// The metaserver, the chunk servers and the actors of a script, and the order of the steps that
 /// they took. As far as the devices tell what they hold, it is always the world of the
-/// definitions after that order.
-#[derive(Drop)]
+/// definitions after that order. It is taken apart at its end, and never dropped.
 pub struct World<D: ChunkDevice, L: LogDisk> {
     alloc: Global,
     script: Snapshot<Script>,
@@ -175,18 +171,19 @@ impl<D: ChunkDevice, L: LogDisk> World<D, L> {
     {
         let World {
             alloc,
+            script: _script,
+            counts: _counts,
             nodes,
             actors,
+            phases: _phases,
             order,
             spare,
             disks,
-            ..
         } = self;
         let mut devices = spare;
-        let image = hand_back(nodes, &mut devices);
-        match all_replies(alloc, actors) {
+        match take_apart(alloc, nodes, actors, &mut devices) {
             Err(_) => Err(PartsError { devices, disks }),
-            Ok(replies) => Ok(Parts {
+            Ok((image, replies)) => Ok(Parts {
                 devices,
                 disks,
                 image,
@@ -202,35 +199,6 @@ fn counts_at_start<D: ChunkDevice>(devices: &Vec<D>, script: &Script) -> Ghost<L
     ensures { result.value ≡ map D.faults (take script.now.servers devices.now.items) }
 {
     Ghost::of(devices, script)
-}
-
-/// The nodes and actors of a world at its start, but for the chunk servers.
-#[derive(Drop)]
-struct Prepared<D: ChunkDevice> {
-    nodes: Vec<NodeState<D>>,
-    actors: Vec<Actor>,
-    phases: Vec<usize>,
-}
-
-/// Takes all memory that a world takes at its start.
-fn prepare<D: ChunkDevice>(alloc: Global, script: &Script) -> Result<Prepared<D>, AllocError>
-    requires { IsRunnable script.now }
-    ensures nodes { IfOk result (λ it. it.nodes.items
-        ≡ nodes_with (meta_of script.now (opening script.now.servers)) []) }
-    ensures room { IfOk result (λ it. vec_len it.nodes + script.now.servers
-        ≤ vec_capacity it.nodes) }
-    ensures actors { IfOk result (λ it. it.actors.items
-        ≡ starts_from (rules_of script.now) 1 (commands_by_actor script.now)) }
-    ensures phases { IfOk result (λ it. it.phases.items ≡ sizes_of script.now.phases) }
-{
-    let nodes = first_node(alloc, script)?;
-    let actors = first_actors(alloc, script)?;
-    let phases = phase_sizes(alloc, script)?;
-    Ok(Prepared {
-        nodes,
-        actors,
-        phases,
-    })
 }
 
 /// One step of an actor that hasn't finished, with its entry in the order. On want of memory all is
