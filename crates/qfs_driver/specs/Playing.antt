@@ -14,8 +14,8 @@ use Rattle.qfs_world.specs.Calls.{GoesOn, Steps}
 use Rattle.qfs_world.specs.View.{WorldView, AllTell, turn_of}
 
 module _ {D L : Type 0} where
-  -- a world at work came of another by steps: what it was made of and only keeps is the same, and its devices tell what they
-  -- hold as they did and have failed no less often
+  -- a world at work came of another by steps: what it was made of and only keeps is the same, and
+  -- its devices tell what they hold as they did and have failed no less often
   pub record Continues (before behind : WorldView D L) : Type 0 where
     pub script_is : behind.script ≡ before.script
     pub counts_are : behind.counts ≡ before.counts
@@ -23,13 +23,15 @@ module _ {D L : Type 0} where
     pub disks_are : behind.disks ≡ before.disks
     pub stores_go_on : AllZip GoesOn before.stores behind.stores
 
-  -- its steps were drawn from a number, as far as its devices tell what they hold, and all came out done
+  -- its steps were drawn from a number, as far as its devices tell what they hold, and all came out
+  -- done
   pub record IsDrawnSo (number : ℕ) (world : WorldView D L) : Type 0 where
     pub drawn : AllTell world.stores → IsTrue (is_drawn number world.script world.order)
     pub done : IsTrue (list_all is_done world.order)
 
   -- of those whose turn it may be, the one at a word's place took a step that came out done
-  pub record TakesDrawnStep (turns : List ℕ) (word : ℕ) (before behind : WorldView D L) : Type 0 where
+  pub record TakesDrawnStep (turns : List ℕ) (word : ℕ) (before behind : WorldView D L)
+      : Type 0 where
     pub actor : ℕ
     pub drawn : drawn_of turns word ≡ Some actor
     pub steps : Steps before actor Came.Done behind
@@ -39,7 +41,8 @@ module _ {D L : Type 0} where
   HasEnded world = turn_of world.script world.actors ≡ []
 
   -- an actor's step failed at a server
-  pub record FailsAt (before : WorldView D L) (actor server : ℕ) (behind : WorldView D L) : Type 0 where
+  pub record FailsAt (before : WorldView D L) (actor server : ℕ) (behind : WorldView D L)
+      : Type 0 where
     pub steps : Steps before actor Came.Failed behind
     pub at : steps.node ≡ server
 
@@ -50,7 +53,8 @@ module _ {D L : Type 0} where
   StopsStep before actor behind status = ⊥
 
   -- so did the step of the one at a word's place, of those whose turn it may be
-  pub record StopsDrawnStep (turns : List ℕ) (word : ℕ) (before behind : WorldView D L) (status : Status) : Type 0 where
+  pub record StopsDrawnStep (turns : List ℕ) (word : ℕ) (before behind : WorldView D L)
+      (status : Status) : Type 0 where
     pub actor : ℕ
     pub drawn : drawn_of turns word ≡ Some actor
     pub stops : StopsStep before actor behind status
@@ -68,7 +72,8 @@ module _ {D L : Type 0} where
     pub behind_is : numbered behind.stores server ≡ Some new
     pub rose : Rose old.faults new.faults
 
-  -- the device of a server failed, and as far as the devices tell what they hold, in the last of the steps that were drawn
+  -- the device of a server failed, and as far as the devices tell what they hold, in the last of
+  -- the steps that were drawn
   pub record StopsAtServer (number server : ℕ) (before behind : WorldView D L) : Type 0 where
     pub risen : HasRisen before behind server
     pub drawn : AllTell behind.stores → IsDrawnToFault number server behind
@@ -76,5 +81,6 @@ module _ {D L : Type 0} where
   -- why the steps of a run stop early: memory is wanting, or the device of a server failed
   abbrev pub StopsAt : ℕ → WorldView D L → WorldView D L → Status → Type 0
   StopsAt number before behind Ended.NoMemory = ⊤
-  StopsAt number before behind (Ended.DeviceFault server) = StopsAtServer number server before behind
+  StopsAt number before behind (Ended.DeviceFault server) =
+      StopsAtServer number server before behind
   StopsAt number before behind status = ⊥

@@ -45,11 +45,13 @@ pub record BadLine (before after : Option (List ℕ)) (line : ℕ) : Type 0 wher
 
 -- a script is refused at a line, or at line 0 for its size
 abbrev pub IsRefused : Option (List ℕ) → Option (List ℕ) → ℕ → ScriptCause → Type 0
-IsRefused before after line cause = (cause ≡ Cause.NotYet) × (((line ≡ 0) × TooBig before after) ⊎ BadLine before after line)
+IsRefused before after line cause =
+    (cause ≡ Cause.NotYet) × (((line ≡ 0) × TooBig before after) ⊎ BadLine before after line)
 
 -- why a script isn't read: the source failed, memory is wanting, or the script is refused
 abbrev pub ReadEnds : Option (List ℕ) → Option (List ℕ) → ℕ → ℕ → Status → Type 0
 ReadEnds before after faults faults' Ended.ReadFault = Rose faults faults'
 ReadEnds before after faults faults' Ended.NoMemory = ⊤
-ReadEnds before after faults faults' (Ended.BadScript line cause) = IsRefused before after line cause
+ReadEnds before after faults faults' (Ended.BadScript line cause) =
+    IsRefused before after line cause
 ReadEnds before after faults faults' _ = ⊥

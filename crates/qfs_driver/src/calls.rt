@@ -1,5 +1,5 @@
 //! The call that the program makes.
-ghost use Rattle.std.specs.Prelude.{◌≡◌, ◌↔◌, ◌<◌, ℕ, All, None, Some, length, map, string_bytes};
+ghost use Rattle.std.specs.Prelude.{◌≡◌, ◌↔◌, ◌<◌, ◌≤◌, ℕ, All, None, Some, length, map, string_bytes};
 ghost use Rattle.qfs_driver.specs.Run.{AllRemain};
 ghost use Rattle.qfs_base.specs.declared.script.Script.{Script};
 ghost use Rattle.qfs_driver.specs.Reading.{TellsScript};
@@ -43,6 +43,8 @@ pub fn top<S: Source, K: Sink, D: ChunkDevice, L: LogDisk, G: Gate>(
         → (asked : Script) → TellsScript (S.left script.old) asked
         → length devices.old.items < asked.servers
         → IsTooFew asked.servers (length devices.old.items) result }
+    ensures source_count { S.faults script.old ≤ S.faults script.new }
+    ensures sink_count { K.faults out.old ≤ K.faults out.new }
     ensures unwritten { OnUnwritten result (out.new ≡ out.old) }
     ensures untouched { OnUntouched result (devices.new ≡ devices.old) }
     ensures places { length devices.new.items ≡ length devices.old.items }

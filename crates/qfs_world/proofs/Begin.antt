@@ -21,7 +21,10 @@ use Rattle.qfs_model_store.specs.Stands.{kept}
 use Rattle.qfs_store.proofs.FreshLaws.{fresh_stands}
 use Rattle.qfs_store.specs.Stored.{Stored, StandsOn, no_copies}
 use Rattle.qfs_world.specs.AtWork.{IsAtWork, AreNumbered}
-use Rattle.qfs_nodes.specs.Nodes.{image_of, stores_of, IsNew, stored_over}
+use Rattle.qfs_base.specs.declared.command.Command.{Command}
+use Rattle.qfs_base.specs.declared.rules.Rules.{Rules}
+use Rattle.qfs_model_actor.specs.Actor.{starting}
+use Rattle.qfs_nodes.specs.Nodes.{image_of, stores_of, IsNew, nodes_with, stored_over}
 use Rattle.qfs_nodes.specs.Scripts.{meta_of, IsRunnable, commands_by_actor}
 use Rattle.qfs_nodes.specs.Actors.{actors_of, sizes_of, starts_from, total}
 use Rattle.qfs_world.specs.Follows.{CountFaults, Follows, HoldNoOthers, IsServer, StandForAll}
