@@ -131,27 +131,29 @@ fn sizes<D: ChunkDevice>(alloc: Global, device: &mut D) -> Result<Vec<u64>, Fail
     Ok(sizes)
 }
 
-/// A server that was upgraded between two copies.
-fn upgraded(alloc: Global) -> Result<Store<SureDevice>, Fail> {
-    let mut store = Store::new(alloc, SureDevice::new(alloc), stripe());
-    if !stores(alloc, &mut store, 1, *b"abc")? {
-        return Err(Fail::new("no first copy"));
-    }
-    if !matches!(
-        answer(&mut store, ChunkRequest::Upgrade),
-        ChunkAnswer::Upgraded
-    ) {
-        return Err(Fail::new("no upgrade"));
-    }
-    if !stores(alloc, &mut store, 2, *b"xyz")? {
-        return Err(Fail::new("no second copy"));
-    }
-    Ok(store)
+/// A server that is up, over a new device.
+fn new_server(alloc: Global) -> Store<SureDevice> {
+    Store::new(alloc, SureDevice::new(alloc), stripe())
+}
+
+/// Whether a server was upgraded.
+fn upgrades<D: ChunkDevice>(store: &mut Store<D>) -> bool {
+    let answer = answer(store, ChunkRequest::Upgrade);
+    matches!(answer, ChunkAnswer::Upgraded)
+}
+
+/// Whether a server stored two copies, and was upgraded between them.
+fn stores_both<D: ChunkDevice>(alloc: Global, store: &mut Store<D>) -> Result<bool, Fail> {
+    let first = stores(alloc, store, 1, *b"abc")?;
+    let upgraded = upgrades(store);
+    let second = stores(alloc, store, 2, *b"xyz")?;
+    Ok(first && upgraded && second)
 }
 
 #[test]
 fn an_upgraded_server_reads_both_versions(rt: HostRuntime) -> Result<(), Fail> {
-    let mut store = upgraded(rt.alloc())?;
+    let mut store = new_server(rt.alloc());
+    assert!(rt; stores_both(rt.alloc(), &mut store)?);
     assert!(rt; !stores(rt.alloc(), &mut store, 2, *b"xyz")?);
     let first = fetched(rt.alloc(), &mut store, 1, 1)?.ok_or("the first")?;
     assert_eq!(rt; first.as_slice(), b"bc".as_slice());
@@ -163,7 +165,7 @@ fn an_upgraded_server_reads_both_versions(rt: HostRuntime) -> Result<(), Fail> {
 
 #[test]
 fn a_stopped_server_is_not_upgraded(rt: HostRuntime) -> Result<(), Fail> {
-    let mut store = Store::new(rt.alloc(), SureDevice::new(rt.alloc()), stripe());
+    let mut store = new_server(rt.alloc());
     assert!(rt; matches!(answer(&mut store, ChunkRequest::Stop), ChunkAnswer::Stopped));
     assert!(rt; matches!(answer(&mut store, ChunkRequest::Upgrade), ChunkAnswer::Down));
     Ok(())
@@ -174,7 +176,9 @@ fn a_stopped_server_is_not_upgraded(rt: HostRuntime) -> Result<(), Fail> {
 #[test]
 fn an_upgrade_changes_what_is_written_from_then_on(rt: HostRuntime) -> Result<(), Fail> {
     let alloc = rt.alloc();
-    let mut device = upgraded(alloc)?.into_device();
+    let mut store = new_server(alloc);
+    assert!(rt; stores_both(alloc, &mut store)?);
+    let mut device = store.into_device();
     assert_eq!(rt; sizes(alloc, &mut device)?.as_slice(), [24, 28].as_slice());
     let mut foreign = Store::adopt(alloc, device, other_stripe());
     assert_eq!(rt; listed(alloc, &mut foreign)?.as_slice(), [1].as_slice());
