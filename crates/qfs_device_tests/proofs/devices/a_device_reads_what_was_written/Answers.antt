@@ -2,7 +2,7 @@
 use Rattle.std.proofs.Common.{ℕ, List, [], ◌∷◌, Option, Some, lit≤}
 use Rattle.qfs_device.specs.Held.{Held}
 use Rattle.qfs_device.specs.HeldLaws.{readable-written}
-use Rattle.qfs_part_tests.proofs.devices.a_device_reads_what_was_written.Goals as goal
+use Rattle.qfs_device_tests.proofs.devices.a_device_reads_what_was_written.Goals as goal
 
 pub read-requires : goal.read-requires
 read-requires g c =
