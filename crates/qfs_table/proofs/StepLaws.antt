@@ -1,0 +1,207 @@
+-- A step from one row to the next, and a row that is changed.
+use Rattle.std.proofs.Common.{◌≡◌, ℕ, zero, suc, ◌≤◌, ◌<◌, Bool, true, false, cond, not, List, [], ◌∷◌, ◌++◌, length, take, drop, set, get_or, true≢false, refl, sym, ◌∙◌, ap, arith, append_assoc}
+use Rattle.std.proofs.lemmas.List.{append-nil, append_cancel_left, drop_all, take_all, take_at, length-take-le, drop-set-lt, take-set}
+use Rattle.std.specs.Cmp.{IsTotalOrder}
+use Rattle.std.specs.Ordering.{is_ge, is_gt, ordering_reverse}
+use Rattle.std.specs.Prelude.{Vec}
+use Rattle.std.specs.List.{All, remove}
+use Rattle.std.proofs.lemmas.List.Elements.{All-head, All-tail}
+use Rattle.std.specs.declared.cmp.Ordering.{Ordering}
+use Rattle.std.specs.declared.cmp.Ordering.TheVariants.{Less}
+use Rattle.qfs_base.specs.Table.{Each, IsRising, change_row, change_where, without, has_key}
+use Rattle.qfs_table.specs.Chunks.{flat, rows_at, front, back, edited, change_first, IsChunk}
+use Rattle.qfs_table.specs.Cuts.{IsCut}
+use Rattle.qfs_table.specs.Keys.{starts_tied}
+use Rattle.qfs_table.proofs.EachLaws.{each_weaker}
+use Rattle.qfs_table.proofs.FlatLaws.{drop_first, remove_edited, flat_cut}
+use Rattle.qfs_table.proofs.RowLaws.{all_other, gt_not_eq, without_none}
+
+module _ {X : Type 0} where
+  take_one : (xs ys : List X) (at : ℕ) → at < length xs → take (suc at) xs ≡ take at xs ++ take 1 (drop at xs ++ ys)
+  take_one [] ys at within = absurd (omega arith)
+  take_one (x ∷ xs) ys zero within = refl
+  take_one (x ∷ xs) ys (suc at) within = ap (λ rest. x ∷ rest) (take_one xs ys at (omega arith))
+
+  -- the row at a place, changed
+  change_at : (change : X → X) (xs ys : List X) (at : ℕ) (old new : X) → at < length xs → old ≡ get_or xs at old → new ≡ change old →
+      drop at (set xs at new) ++ ys ≡ change_first change (drop at xs ++ ys)
+  change_at change [] ys at old new within read is = absurd (omega arith)
+  change_at change (x ∷ xs) ys zero old new within read is = ap (λ row. row ∷ (xs ++ ys)) (is ∙ ap change read)
+  change_at change (x ∷ xs) ys (suc at) old new within read is = change_at change xs ys at old new (omega arith) read is
+
+module _ {T Z : Type 0} where
+  pub rows_at_set : (chunks : List (Vec T Z)) (at : ℕ) (one : Vec T Z) → at < length chunks → rows_at (set chunks at one) at ≡ one.items
+  rows_at_set [] at one within = absurd (omega arith)
+  rows_at_set (chunk ∷ chunks) zero one within = refl
+  rows_at_set (chunk ∷ chunks) (suc at) one within = rows_at_set chunks at one (omega arith)
+
+  pub front_changed : (chunks : List (Vec T Z)) (chunk row : ℕ) (one : Vec T Z) (new : T) → chunk < length chunks →
+      one.items ≡ set (rows_at chunks chunk) row new → front (set chunks chunk one) chunk row ≡ front chunks chunk row
+  unfolding front
+  front_changed chunks chunk row one new within is =
+      λ i. flat (take-set chunks chunk one i) ++ ((ap (take row) (rows_at_set chunks chunk one within ∙ is) ∙ take-set (rows_at chunks chunk) row new) i)
+
+  pub back_changed : (change : T → T) (chunks : List (Vec T Z)) (chunk row : ℕ) (one : Vec T Z) (old new : T) → chunk < length chunks → row < length (rows_at chunks chunk) →
+      one.items ≡ set (rows_at chunks chunk) row new → old ≡ get_or (rows_at chunks chunk) row old → new ≡ change old →
+      back (set chunks chunk one) chunk row ≡ change_first change (back chunks chunk row)
+  unfolding back
+  back_changed change chunks chunk row one old new within inside is read made =
+      (λ i. drop row ((rows_at_set chunks chunk one within ∙ is) i) ++ flat (drop-set-lt (suc chunk) chunks chunk one (omega arith) i))
+      ∙ change_at change (rows_at chunks chunk) (flat (drop (suc chunk) chunks)) row old new inside read made
+
+  -- ---- a place behind which rows were taken out
+
+  pub front_kept : (chunks : List (Vec T Z)) (chunk row : ℕ) (one : Vec T Z) → chunk < length chunks → row < length (rows_at chunks chunk) →
+      one.items ≡ remove (rows_at chunks chunk) row → front (set chunks chunk one) chunk row ≡ front chunks chunk row
+  unfolding front
+  front_kept chunks chunk row one within inside is =
+      let own : List T = rows_at chunks chunk in
+      let kept = ap (take row) (rows_at_set chunks chunk one within ∙ is) ∙ take_at (take row own) (drop (suc row) own) row (length-take-le row own (omega arith)) in
+      λ i. flat (take-set chunks chunk one i) ++ kept i
+
+  pub front_dropped : (chunks : List (Vec T Z)) (chunk row : ℕ) (one : Vec T Z) → chunk < length chunks → row ≡ 0 →
+      front (remove (set chunks chunk one) chunk) chunk row ≡ front chunks chunk row
+  unfolding front edited
+  front_dropped chunks chunk row one within start =
+      let kept = ap (take chunk) (remove_edited chunks chunk one within) ∙ take_at (take chunk chunks) (drop (suc chunk) chunks) chunk (length-take-le chunk chunks (omega arith)) in
+      ap (λ n. flat (take chunk (remove (set chunks chunk one) chunk)) ++ take n (rows_at (remove (set chunks chunk one) chunk) chunk)) start
+      ∙ ap (λ rows. flat rows ++ []) kept
+      ∙ ap (λ n. flat (take chunk chunks) ++ take n (rows_at chunks chunk)) (sym start)
+
+  -- what stands from a place on, by what stands before it
+  pub back_by_front : (new old : List (Vec T Z)) (chunk row : ℕ) (rest : List T) → front new chunk row ≡ front old chunk row →
+      flat new ≡ front old chunk row ++ rest → back new chunk row ≡ rest
+  back_by_front new old chunk row rest same is =
+      append_cancel_left (front new chunk row) (back new chunk row) rest (sym (flat_cut new chunk row) ∙ is ∙ ap (λ rows. rows ++ rest) (sym same))
+
+  -- ---- a step in a chunk, and into the next
+
+  pub front_step : (chunks : List (Vec T Z)) (chunk row : ℕ) → row < length (rows_at chunks chunk) → front chunks chunk (suc row) ≡ front chunks chunk row ++ take 1 (back chunks chunk row)
+  unfolding front back
+  front_step chunks chunk row inside =
+      let before : List T = flat (take chunk chunks) in
+      let own : List T = rows_at chunks chunk in
+      let behind : List T = flat (drop (suc chunk) chunks) in
+      ap (λ rest. before ++ rest) (take_one own behind row inside) ∙ sym (append_assoc before (take row own) (take 1 (drop row own ++ behind)))
+
+  pub back_step : (chunks : List (Vec T Z)) (chunk row : ℕ) → row < length (rows_at chunks chunk) → back chunks chunk (suc row) ≡ drop 1 (back chunks chunk row)
+  unfolding back
+  back_step chunks chunk row inside = sym (drop_first (rows_at chunks chunk) (flat (drop (suc chunk) chunks)) row inside)
+
+  flat_dropped : (chunks : List (Vec T Z)) (at : ℕ) → flat (drop at chunks) ≡ rows_at chunks at ++ flat (drop (suc at) chunks)
+  flat_dropped [] zero = refl
+  flat_dropped [] (suc at) = refl
+  flat_dropped (chunk ∷ chunks) zero = refl
+  flat_dropped (chunk ∷ chunks) (suc at) = flat_dropped chunks at
+
+  flat_more : (chunks : List (Vec T Z)) (at : ℕ) → flat (take (suc at) chunks) ≡ flat (take at chunks) ++ rows_at chunks at
+  flat_more [] zero = refl
+  flat_more [] (suc at) = refl
+  flat_more (chunk ∷ chunks) zero = append-nil chunk.items
+  flat_more (chunk ∷ chunks) (suc at) =
+      ap (λ rest. chunk.items ++ rest) (flat_more chunks at) ∙ sym (append_assoc chunk.items (flat (take at chunks)) (rows_at chunks at))
+
+  pub front_over : (chunks : List (Vec T Z)) (chunk row : ℕ) → length (rows_at chunks chunk) ≤ row → front chunks (suc chunk) 0 ≡ front chunks chunk row
+  unfolding front
+  front_over chunks chunk row end =
+      append-nil (flat (take (suc chunk) chunks))
+      ∙ flat_more chunks chunk
+      ∙ ap (λ rows. flat (take chunk chunks) ++ rows) (sym (take_all row (rows_at chunks chunk) end))
+
+  pub back_over : (chunks : List (Vec T Z)) (chunk row : ℕ) → length (rows_at chunks chunk) ≤ row → back chunks (suc chunk) 0 ≡ back chunks chunk row
+  unfolding back
+  back_over chunks chunk row end =
+      sym (flat_dropped chunks (suc chunk)) ∙ ap (λ rows. rows ++ flat (drop (suc chunk) chunks)) (sym (drop_all row (rows_at chunks chunk) end))
+
+-- ---- changes of the rows with a key
+
+change_none : {X : Type 0} (test : X → Bool) (change : X → X) (rows : List X) → Each (λ row. test row ≡ false) rows → change_where test change rows ≡ rows
+change_none test change [] each = refl
+change_none test change (row ∷ rows) each = λ i. change_row change row (each.0 i) ∷ change_none test change rows each.1 i
+
+change_append : {X : Type 0} (test : X → Bool) (change : X → X) (xs ys : List X) → change_where test change (xs ++ ys) ≡ change_where test change xs ++ change_where test change ys
+change_append test change [] ys = refl
+change_append test change (x ∷ xs) ys = ap (λ rest. change_row change x (test x) ∷ rest) (change_append test change xs ys)
+
+-- the rows below a key stay
+pub change_front : {X : Type 0} (order : X → Ordering) (change : X → X) (front back : List X) → Each (λ row. is_gt (order row) ≡ true) front →
+    front ++ change_where (has_key order) change back ≡ change_where (has_key order) change (front ++ back)
+change_front order change front back before =
+    sym (change_append (has_key order) change front back
+    ∙ ap (λ rows. rows ++ change_where (has_key order) change back)
+    (change_none (has_key order) change front (each_weaker _ _ (λ row above. gt_not_eq (order row) above) front before)))
+
+-- so do those from the first above the key on
+pub change_back : {X : Type 0} (order : X → Ordering) (change : X → X) (rows : List X) → Each (λ row. is_gt (order row) ≡ false) rows → IsCut (λ row. is_ge (order row)) rows →
+    starts_tied order rows ≡ false → change_where (has_key order) change rows ≡ rows
+change_back order change rows low cut other = change_none (has_key order) change rows (all_other order rows low cut other)
+
+-- one row with the key is changed, and what is left
+pub change_step : {X : Type 0} (order : X → Ordering) (change : X → X) (front rows : List X) → starts_tied order rows ≡ true →
+    (front ++ take 1 (change_first change rows)) ++ change_where (has_key order) change (drop 1 (change_first change rows)) ≡ front ++ change_where (has_key order) change rows
+change_step order change front [] tied = absurd (true≢false (sym tied))
+change_step order change front (row ∷ rows) tied =
+    append_assoc front (change row ∷ []) (change_where (has_key order) change rows)
+    ∙ ap (λ b. front ++ (change_row change row b ∷ change_where (has_key order) change rows)) (sym tied)
+
+pub low_step : {X : Type 0} (P : X → Type 0) (change : X → X) (rows : List X) → Each P rows → Each P (drop 1 (change_first change rows))
+low_step P change [] each = tt
+low_step P change (row ∷ rows) each = each.1
+
+pub cut_step : {X : Type 0} (test : X → Bool) (change : X → X) (rows : List X) → IsCut test rows → IsCut test (drop 1 (change_first change rows))
+cut_step test change [] cut = tt
+cut_step test change (row ∷ rows) cut = cut.1
+
+pub length_step : {X : Type 0} (order : X → Ordering) (change : X → X) (rows : List X) → starts_tied order rows ≡ true → length (drop 1 (change_first change rows)) < length rows
+length_step order change [] tied = absurd (true≢false (sym tied))
+length_step order change (row ∷ rows) tied = omega arith
+
+-- ---- rows with a key are taken out
+
+-- from the first row above the key on, nothing is taken out
+pub without_back : {X : Type 0} (order : X → Ordering) (rows : List X) → Each (λ row. is_gt (order row) ≡ false) rows → IsCut (λ row. is_ge (order row)) rows →
+    starts_tied order rows ≡ false → without (has_key order) rows ≡ rows
+without_back order rows low cut other = without_none (has_key order) rows (all_other order rows low cut other)
+
+-- one row with the key is taken out, and what is left
+pub without_step : {X : Type 0} (order : X → Ordering) (rows : List X) → starts_tied order rows ≡ true → without (has_key order) (drop 1 rows) ≡ without (has_key order) rows
+without_step order [] tied = refl
+without_step order (row ∷ rows) tied = ap (λ b. cond (not b) (row ∷ without (has_key order) rows) (without (has_key order) rows)) (sym tied)
+
+pub low_drop : {X : Type 0} (P : X → Type 0) (rows : List X) → Each P rows → Each P (drop 1 rows)
+low_drop P [] each = tt
+low_drop P (row ∷ rows) each = each.1
+
+pub cut_drop : {X : Type 0} (test : X → Bool) (rows : List X) → IsCut test rows → IsCut test (drop 1 rows)
+cut_drop test [] cut = tt
+cut_drop test (row ∷ rows) cut = cut.1
+
+pub length_drop : {X : Type 0} (order : X → Ordering) (rows : List X) → starts_tied order rows ≡ true → length (drop 1 rows) < length rows
+length_drop order [] tied = absurd (true≢false (sym tied))
+length_drop order (row ∷ rows) tied = omega arith
+
+-- a change that leaves the keys leaves the order
+module _ {X : Type 0} {cmp : X → X → Ordering} (total : IsTotalOrder cmp) (change : X → X) (keeps : (a b : X) → cmp (change a) b ≡ cmp a b) (test : X → Bool) where
+  keeps_left : (a b : X) (c : Bool) → cmp (change_row change a c) b ≡ cmp a b
+  keeps_left a b true = keeps a b
+  keeps_left a b false = refl
+
+  keeps_right : (a b : X) (c : Bool) → cmp a (change_row change b c) ≡ cmp a b
+  keeps_right a b true = total.antisymm a (change b) ∙ ap ordering_reverse (keeps b a) ∙ sym (total.antisymm a b)
+  keeps_right a b false = refl
+
+  each_changed : (row : X) (rows : List X) → Each (λ later. cmp row later ≡ Less) rows → Each (λ later. cmp (change_row change row (test row)) later ≡ Less) (change_where test change rows)
+  each_changed row [] each = tt
+  each_changed row (later ∷ rows) each = (
+    keeps_left row (change_row change later (test later)) (test row) ∙ keeps_right row later (test later) ∙ each.0,
+    each_changed row rows each.1,
+  )
+
+  pub change_rises : (rows : List X) → IsRising cmp rows → IsRising cmp (change_where test change rows)
+  change_rises [] rising = tt
+  change_rises (row ∷ rows) rising = (each_changed row rows rising.0, change_rises rows rising.1)
+
+pub rows_filled : {T Z : Type 0} (chunks : List (Vec T Z)) (at : ℕ) → All IsChunk chunks → at < length chunks → 0 < length (rows_at chunks at)
+rows_filled [] at sound within = absurd (omega arith)
+rows_filled (chunk ∷ chunks) zero sound within = (let own : IsChunk chunk = All-head IsChunk chunk chunks sound in own).filled
+rows_filled (chunk ∷ chunks) (suc at) sound within = rows_filled chunks at (All-tail IsChunk chunk chunks sound) (omega arith)
