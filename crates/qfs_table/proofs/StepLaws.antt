@@ -1,20 +1,20 @@
 -- A step from one row to the next, and a row that is changed.
-use Rattle.std.proofs.Common.{◌≡◌, ℕ, zero, suc, ◌≤◌, ◌<◌, Bool, true, false, cond, not, List, [], ◌∷◌, ◌++◌, length, take, drop, set, get_or, true≢false, refl, sym, ◌∙◌, ap, arith, append_assoc}
-use Rattle.std.proofs.lemmas.List.{append-nil, append_cancel_left, drop_all, take_all, take_at, length-take-le, drop-set-lt, take-set}
+use Rattle.std.proofs.Common.{◌≡◌, ℕ, zero, suc, ◌≤◌, ◌<◌, Bool, true, false, List, [], ◌∷◌, ◌++◌, length, take, drop, set, get_or, true≢false, refl, sym, ◌∙◌, ap, arith, append_assoc}
+use Rattle.std.proofs.lemmas.List.{append-nil, drop_all, take_all, drop-set-lt, take-set}
 use Rattle.std.specs.Cmp.{IsTotalOrder}
 use Rattle.std.specs.Ordering.{is_ge, is_gt, ordering_reverse}
 use Rattle.std.specs.Prelude.{Vec}
-use Rattle.std.specs.List.{All, remove}
+use Rattle.std.specs.List.{All}
 use Rattle.std.proofs.lemmas.List.Elements.{All-head, All-tail}
 use Rattle.std.specs.declared.cmp.Ordering.{Ordering}
 use Rattle.std.specs.declared.cmp.Ordering.TheVariants.{Less}
-use Rattle.qfs_base.specs.Table.{Each, IsRising, change_row, change_where, without, has_key}
-use Rattle.qfs_table.specs.Chunks.{flat, rows_at, front, back, edited, change_first, IsChunk}
+use Rattle.qfs_base.specs.Table.{Each, IsRising, change_row, change_where, has_key}
+use Rattle.qfs_table.specs.Chunks.{flat, rows_at, front, back, change_first, IsChunk}
 use Rattle.qfs_table.specs.Cuts.{IsCut}
 use Rattle.qfs_table.specs.Keys.{starts_tied}
 use Rattle.qfs_table.proofs.EachLaws.{each_weaker}
-use Rattle.qfs_table.proofs.FlatLaws.{drop_first, remove_edited, flat_cut}
-use Rattle.qfs_table.proofs.RowLaws.{all_other, gt_not_eq, without_none}
+use Rattle.qfs_table.proofs.FlatLaws.{drop_first}
+use Rattle.qfs_table.proofs.RowLaws.{all_other, gt_not_eq}
 
 module _ {X : Type 0} where
   take_one : (xs ys : List X) (at : ℕ) → at < length xs → take (suc at) xs ≡ take at xs ++ take 1 (drop at xs ++ ys)
@@ -48,31 +48,6 @@ module _ {T Z : Type 0} where
   back_changed change chunks chunk row one old new within inside is read made =
       (λ i. drop row ((rows_at_set chunks chunk one within ∙ is) i) ++ flat (drop-set-lt (suc chunk) chunks chunk one (omega arith) i))
       ∙ change_at change (rows_at chunks chunk) (flat (drop (suc chunk) chunks)) row old new inside read made
-
-  -- ---- a place behind which rows were taken out
-
-  pub front_kept : (chunks : List (Vec T Z)) (chunk row : ℕ) (one : Vec T Z) → chunk < length chunks → row < length (rows_at chunks chunk) →
-      one.items ≡ remove (rows_at chunks chunk) row → front (set chunks chunk one) chunk row ≡ front chunks chunk row
-  unfolding front
-  front_kept chunks chunk row one within inside is =
-      let own : List T = rows_at chunks chunk in
-      let kept = ap (take row) (rows_at_set chunks chunk one within ∙ is) ∙ take_at (take row own) (drop (suc row) own) row (length-take-le row own (omega arith)) in
-      λ i. flat (take-set chunks chunk one i) ++ kept i
-
-  pub front_dropped : (chunks : List (Vec T Z)) (chunk row : ℕ) (one : Vec T Z) → chunk < length chunks → row ≡ 0 →
-      front (remove (set chunks chunk one) chunk) chunk row ≡ front chunks chunk row
-  unfolding front edited
-  front_dropped chunks chunk row one within start =
-      let kept = ap (take chunk) (remove_edited chunks chunk one within) ∙ take_at (take chunk chunks) (drop (suc chunk) chunks) chunk (length-take-le chunk chunks (omega arith)) in
-      ap (λ n. flat (take chunk (remove (set chunks chunk one) chunk)) ++ take n (rows_at (remove (set chunks chunk one) chunk) chunk)) start
-      ∙ ap (λ rows. flat rows ++ []) kept
-      ∙ ap (λ n. flat (take chunk chunks) ++ take n (rows_at chunks chunk)) (sym start)
-
-  -- what stands from a place on, by what stands before it
-  pub back_by_front : (new old : List (Vec T Z)) (chunk row : ℕ) (rest : List T) → front new chunk row ≡ front old chunk row →
-      flat new ≡ front old chunk row ++ rest → back new chunk row ≡ rest
-  back_by_front new old chunk row rest same is =
-      append_cancel_left (front new chunk row) (back new chunk row) rest (sym (flat_cut new chunk row) ∙ is ∙ ap (λ rows. rows ++ rest) (sym same))
 
   -- ---- a step in a chunk, and into the next
 
@@ -123,6 +98,11 @@ change_append : {X : Type 0} (test : X → Bool) (change : X → X) (xs ys : Lis
 change_append test change [] ys = refl
 change_append test change (x ∷ xs) ys = ap (λ rest. change_row change x (test x) ∷ rest) (change_append test change xs ys)
 
+pub change_long : {X : Type 0} (test : X → Bool) (change : X → X) (rows : List X) →
+    length (change_where test change rows) ≡ length rows
+change_long test change [] = refl
+change_long test change (row ∷ rows) = ap suc (change_long test change rows)
+
 -- the rows below a key stay
 pub change_front : {X : Type 0} (order : X → Ordering) (change : X → X) (front back : List X) → Each (λ row. is_gt (order row) ≡ true) front →
     front ++ change_where (has_key order) change back ≡ change_where (has_key order) change (front ++ back)
@@ -155,30 +135,6 @@ cut_step test change (row ∷ rows) cut = cut.1
 pub length_step : {X : Type 0} (order : X → Ordering) (change : X → X) (rows : List X) → starts_tied order rows ≡ true → length (drop 1 (change_first change rows)) < length rows
 length_step order change [] tied = absurd (true≢false (sym tied))
 length_step order change (row ∷ rows) tied = omega arith
-
--- ---- rows with a key are taken out
-
--- from the first row above the key on, nothing is taken out
-pub without_back : {X : Type 0} (order : X → Ordering) (rows : List X) → Each (λ row. is_gt (order row) ≡ false) rows → IsCut (λ row. is_ge (order row)) rows →
-    starts_tied order rows ≡ false → without (has_key order) rows ≡ rows
-without_back order rows low cut other = without_none (has_key order) rows (all_other order rows low cut other)
-
--- one row with the key is taken out, and what is left
-pub without_step : {X : Type 0} (order : X → Ordering) (rows : List X) → starts_tied order rows ≡ true → without (has_key order) (drop 1 rows) ≡ without (has_key order) rows
-without_step order [] tied = refl
-without_step order (row ∷ rows) tied = ap (λ b. cond (not b) (row ∷ without (has_key order) rows) (without (has_key order) rows)) (sym tied)
-
-pub low_drop : {X : Type 0} (P : X → Type 0) (rows : List X) → Each P rows → Each P (drop 1 rows)
-low_drop P [] each = tt
-low_drop P (row ∷ rows) each = each.1
-
-pub cut_drop : {X : Type 0} (test : X → Bool) (rows : List X) → IsCut test rows → IsCut test (drop 1 rows)
-cut_drop test [] cut = tt
-cut_drop test (row ∷ rows) cut = cut.1
-
-pub length_drop : {X : Type 0} (order : X → Ordering) (rows : List X) → starts_tied order rows ≡ true → length (drop 1 rows) < length rows
-length_drop order [] tied = absurd (true≢false (sym tied))
-length_drop order (row ∷ rows) tied = omega arith
 
 -- a change that leaves the keys leaves the order
 module _ {X : Type 0} {cmp : X → X → Ordering} (total : IsTotalOrder cmp) (change : X → X) (keeps : (a b : X) → cmp (change a) b ≡ cmp a b) (test : X → Bool) where

@@ -1,11 +1,11 @@
--- What the check leaves to show of `rows::behind_key`.
+-- What the check leaves to show of `search::behind_key`.
 use Rattle.std.proofs.Common.{sym, ap, ◌∙◌}
 use Rattle.std.specs.Prelude.{find}
 use Rattle.qfs_table.specs.Chunks.{flat, front, back}
 use Rattle.qfs_base.specs.Table.{is_behind}
 use Rattle.qfs_table.proofs.FlatLaws.{flat_cut}
 use Rattle.qfs_table.proofs.RowLaws.{key_cut_ge, find_behind}
-use Rattle.qfs_table.proofs.rows.behind_key.Goals as goal
+use Rattle.qfs_table.proofs.search.behind_key.Goals as goal
 
 pub first_failing-at-requires-clause-cut : goal.first_failing-at-requires-clause-cut
 first_failing-at-requires-clause-cut g c =
