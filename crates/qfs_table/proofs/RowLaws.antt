@@ -17,7 +17,8 @@ use Rattle.qfs_table.specs.Chunks.{flat, rows_at, front, back}
 use Rattle.qfs_table.specs.Places.{IsFirst, IsPlaced, IsSought}
 use Rattle.qfs_table.proofs.CutLaws.{rising_cut, cut_back}
 use Rattle.qfs_table.proofs.FlatLaws.{flat_cut, back_end}
-use Rattle.qfs_table.proofs.EachLaws.{each_weaker, each_append, each_back}
+use Rattle.qfs_base.specs.EachLaws.{each_weaker, each_append}
+use Rattle.qfs_table.proofs.EachLaws.{each_back}
 
 -- ---- what a comparison was
 

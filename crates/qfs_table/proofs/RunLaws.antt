@@ -10,7 +10,8 @@ use Rattle.qfs_base.specs.Table.{Each, has_key}
 use Rattle.qfs_table.specs.declared.place.Place.{Place}
 use Rattle.qfs_table.specs.Chunks.{flat, rows_at, front, back}
 use Rattle.qfs_table.specs.Places.{IsFirst}
-use Rattle.qfs_table.proofs.EachLaws.{each_weaker, each_both, each_front, each_back}
+use Rattle.qfs_base.specs.EachLaws.{each_weaker}
+use Rattle.qfs_table.proofs.EachLaws.{each_both, each_front, each_back}
 use Rattle.qfs_table.proofs.FlatLaws.{flat_append, flat_cut}
 
 module _ {X : Type 0} where

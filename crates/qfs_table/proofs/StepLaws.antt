@@ -1,19 +1,18 @@
 -- A step from one row to the next, and a row that is changed.
-use Rattle.std.proofs.Common.{◌≡◌, ℕ, zero, suc, ◌≤◌, ◌<◌, Bool, true, false, List, [], ◌∷◌, ◌++◌, length, take, drop, set, get_or, true≢false, refl, sym, ◌∙◌, ap, arith, append_assoc}
-use Rattle.std.proofs.lemmas.List.{append-nil, drop_all, take_all, drop-set-lt, take-set}
+use Rattle.std.proofs.Common.{◌≡◌, ℕ, zero, suc, ◌≤◌, ◌<◌, Bool, true, false, List, [], ◌∷◌, ◌++◌, length, take, drop, set, get_or, true≢false, refl, sym, ◌∙◌, ap, arith, append_assoc, length-drop, length-set}
+use Rattle.std.proofs.lemmas.List.{append-nil, append_cancel_left, drop_all, drop-append-le, take_all, take-set}
 use Rattle.std.specs.Cmp.{IsTotalOrder}
 use Rattle.std.specs.Ordering.{is_ge, is_gt, ordering_reverse}
 use Rattle.std.specs.Prelude.{Vec}
-use Rattle.std.specs.List.{All}
-use Rattle.std.proofs.lemmas.List.Elements.{All-head, All-tail}
 use Rattle.std.specs.declared.cmp.Ordering.{Ordering}
 use Rattle.std.specs.declared.cmp.Ordering.TheVariants.{Less}
 use Rattle.qfs_base.specs.Table.{Each, IsRising, change_row, change_where, has_key}
-use Rattle.qfs_table.specs.Chunks.{flat, rows_at, front, back, change_first, IsChunk}
+use Rattle.qfs_table.specs.Chunks.{flat, rows_at, front, back, change_first}
 use Rattle.qfs_table.specs.Cuts.{IsCut}
 use Rattle.qfs_table.specs.Keys.{starts_tied}
-use Rattle.qfs_table.proofs.EachLaws.{each_weaker}
-use Rattle.qfs_table.proofs.FlatLaws.{drop_first}
+use Rattle.qfs_table.specs.Rooms.{strain}
+use Rattle.qfs_base.specs.EachLaws.{each_weaker}
+use Rattle.qfs_table.proofs.FlatLaws.{drop_next, set_cut, flat_cut, set_rows, set_strain}
 use Rattle.qfs_table.proofs.RowLaws.{all_other, gt_not_eq}
 
 module _ {X : Type 0} where
@@ -22,32 +21,64 @@ module _ {X : Type 0} where
   take_one (x ∷ xs) ys zero within = refl
   take_one (x ∷ xs) ys (suc at) within = ap (λ rest. x ∷ rest) (take_one xs ys at (omega arith))
 
-  -- the row at a place, changed
-  change_at : (change : X → X) (xs ys : List X) (at : ℕ) (old new : X) → at < length xs → old ≡ get_or xs at old → new ≡ change old →
-      drop at (set xs at new) ++ ys ≡ change_first change (drop at xs ++ ys)
-  change_at change [] ys at old new within read is = absurd (omega arith)
-  change_at change (x ∷ xs) ys zero old new within read is = ap (λ row. row ∷ (xs ++ ys)) (is ∙ ap change read)
-  change_at change (x ∷ xs) ys (suc at) old new within read is = change_at change xs ys at old new (omega arith) read is
+changed_there : {T : Type 0} (change : T → T) (xs ys : List T) (at : ℕ) (old : T) → at < length xs →
+    old ≡ get_or xs at old →
+    change old ∷ drop 1 (drop at xs ++ ys) ≡ change_first change (drop at xs ++ ys)
+changed_there change [] ys at old within read = absurd (omega arith)
+changed_there change (x ∷ xs) ys zero old within read = ap (λ row. change row ∷ (xs ++ ys)) read
+changed_there change (x ∷ xs) ys (suc at) old within read = changed_there change xs ys at old (omega arith) read
 
 module _ {T Z : Type 0} where
-  pub rows_at_set : (chunks : List (Vec T Z)) (at : ℕ) (one : Vec T Z) → at < length chunks → rows_at (set chunks at one) at ≡ one.items
+  rows_at_set : (chunks : List (Vec T Z)) (at : ℕ) (one : Vec T Z) → at < length chunks → rows_at (set chunks at one) at ≡ one.items
   rows_at_set [] at one within = absurd (omega arith)
   rows_at_set (chunk ∷ chunks) zero one within = refl
   rows_at_set (chunk ∷ chunks) (suc at) one within = rows_at_set chunks at one (omega arith)
 
-  pub front_changed : (chunks : List (Vec T Z)) (chunk row : ℕ) (one : Vec T Z) (new : T) → chunk < length chunks →
-      one.items ≡ set (rows_at chunks chunk) row new → front (set chunks chunk one) chunk row ≡ front chunks chunk row
+  -- what stands before a place stays where what stands before it in its chunk does
+  front_set : (chunks : List (Vec T Z)) (chunk row : ℕ) (one : Vec T Z) → chunk < length chunks →
+      take row one.items ≡ take row (rows_at chunks chunk) →
+      front (set chunks chunk one) chunk row ≡ front chunks chunk row
   unfolding front
-  front_changed chunks chunk row one new within is =
-      λ i. flat (take-set chunks chunk one i) ++ ((ap (take row) (rows_at_set chunks chunk one within ∙ is) ∙ take-set (rows_at chunks chunk) row new) i)
+  front_set chunks chunk row one within is =
+      λ i. flat (take-set chunks chunk one i) ++ (ap (take row) (rows_at_set chunks chunk one within) ∙ is) i
 
-  pub back_changed : (change : T → T) (chunks : List (Vec T Z)) (chunk row : ℕ) (one : Vec T Z) (old new : T) → chunk < length chunks → row < length (rows_at chunks chunk) →
-      one.items ≡ set (rows_at chunks chunk) row new → old ≡ get_or (rows_at chunks chunk) row old → new ≡ change old →
-      back (set chunks chunk one) chunk row ≡ change_first change (back chunks chunk row)
+  -- what stands from a place on, by what stands before it
+  back_by_front : (new old : List (Vec T Z)) (chunk row : ℕ) (rest : List T) →
+      front new chunk row ≡ front old chunk row → flat new ≡ front old chunk row ++ rest →
+      back new chunk row ≡ rest
+  back_by_front new old chunk row rest same is =
+      append_cancel_left (front new chunk row) (back new chunk row) rest
+      (sym (flat_cut new chunk row) ∙ is ∙ ap (λ rows. rows ++ rest) (sym same))
+
+  -- another row at a place
+  module _ (chunks : List (Vec T Z)) (chunk row : ℕ) (one : Vec T Z) (new : T) (within : chunk < length chunks)
+      (inside : row < length (rows_at chunks chunk)) (is : one.items ≡ set (rows_at chunks chunk) row new) where
+    pub row_front : front (set chunks chunk one) chunk row ≡ front chunks chunk row
+    row_front = front_set chunks chunk row one within (ap (take row) is ∙ take-set (rows_at chunks chunk) row new)
+
+    pub row_rows : flat (set chunks chunk one) ≡ front chunks chunk row ++ new ∷ drop 1 (back chunks chunk row)
+    row_rows =
+        set_rows chunks chunk row one within 1 (new ∷ []) (omega (arith, length-drop row (rows_at chunks chunk)))
+        (is ∙ set_cut (rows_at chunks chunk) row new inside)
+
+    pub row_back : back (set chunks chunk one) chunk row ≡ new ∷ drop 1 (back chunks chunk row)
+    row_back = back_by_front (set chunks chunk one) chunks chunk row (new ∷ drop 1 (back chunks chunk row)) row_front row_rows
+
+    pub row_many : length (rows_at (set chunks chunk one) chunk) ≡ length (rows_at chunks chunk)
+    row_many = ap length (rows_at_set chunks chunk one within ∙ is) ∙ length-set (rows_at chunks chunk) row new
+
+    pub row_strain : strain (set chunks chunk one) ≤ strain chunks
+    row_strain =
+        omega (arith, set_strain chunks chunk row one within 0
+        (omega (arith, ap length is, length-set (rows_at chunks chunk) row new)))
+
+  -- the row at a place is changed
+  pub first_changed : (change : T → T) (chunks : List (Vec T Z)) (chunk row : ℕ) (old : T) →
+      row < length (rows_at chunks chunk) → old ≡ get_or (rows_at chunks chunk) row old →
+      change old ∷ drop 1 (back chunks chunk row) ≡ change_first change (back chunks chunk row)
   unfolding back
-  back_changed change chunks chunk row one old new within inside is read made =
-      (λ i. drop row ((rows_at_set chunks chunk one within ∙ is) i) ++ flat (drop-set-lt (suc chunk) chunks chunk one (omega arith) i))
-      ∙ change_at change (rows_at chunks chunk) (flat (drop (suc chunk) chunks)) row old new inside read made
+  first_changed change chunks chunk row old inside read =
+      changed_there change (rows_at chunks chunk) (flat (drop (suc chunk) chunks)) row old inside read
 
   -- ---- a step in a chunk, and into the next
 
@@ -61,7 +92,11 @@ module _ {T Z : Type 0} where
 
   pub back_step : (chunks : List (Vec T Z)) (chunk row : ℕ) → row < length (rows_at chunks chunk) → back chunks chunk (suc row) ≡ drop 1 (back chunks chunk row)
   unfolding back
-  back_step chunks chunk row inside = sym (drop_first (rows_at chunks chunk) (flat (drop (suc chunk) chunks)) row inside)
+  back_step chunks chunk row inside =
+      let own : List T = rows_at chunks chunk in
+      let behind : List T = flat (drop (suc chunk) chunks) in
+      ap (λ rows. rows ++ behind) (drop_next own row)
+      ∙ sym (drop-append-le 1 (drop row own) behind (omega (arith, length-drop row own)))
 
   flat_dropped : (chunks : List (Vec T Z)) (at : ℕ) → flat (drop at chunks) ≡ rows_at chunks at ++ flat (drop (suc at) chunks)
   flat_dropped [] zero = refl
@@ -156,8 +191,3 @@ module _ {X : Type 0} {cmp : X → X → Ordering} (total : IsTotalOrder cmp) (c
   pub change_rises : (rows : List X) → IsRising cmp rows → IsRising cmp (change_where test change rows)
   change_rises [] rising = tt
   change_rises (row ∷ rows) rising = (each_changed row rows rising.0, change_rises rows rising.1)
-
-pub rows_filled : {T Z : Type 0} (chunks : List (Vec T Z)) (at : ℕ) → All IsChunk chunks → at < length chunks → 0 < length (rows_at chunks at)
-rows_filled [] at sound within = absurd (omega arith)
-rows_filled (chunk ∷ chunks) zero sound within = (let own : IsChunk chunk = All-head IsChunk chunk chunks sound in own).filled
-rows_filled (chunk ∷ chunks) (suc at) sound within = rows_filled chunks at (All-tail IsChunk chunk chunks sound) (omega arith)

@@ -140,7 +140,7 @@ pub fn change_run<T: Row, K: Key<T>, C: Change<T>>(chunks: &mut Vec<Vec<T>>, key
     ensures sound { All IsChunk chunks.new.items }
     ensures slots { vec_capacity chunks.new ≡ vec_capacity chunks.old }
     ensures count { length chunks.new.items ≡ length chunks.old.items }
-    ensures strain { strain chunks.new.items ≡ strain chunks.old.items }
+    ensures strain { strain chunks.new.items ≤ strain chunks.old.items }
 {
     let mut at = first_failing(chunks.as_slice(), &BelowKey { key });
     'run: while has_row(chunks.as_slice(), at, key) {

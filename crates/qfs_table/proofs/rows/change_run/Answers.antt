@@ -33,7 +33,7 @@ run-init g c =
       sound = c.requires.sound;
       slots = refl;
       count = refl;
-      strain = refl;
+      strain = omega arith;
     }
 
 pub change_row-requires-clause-chunk : goal.change_row-requires-clause-chunk
@@ -102,5 +102,5 @@ run-preserved g c =
       sound = made.sound;
       slots = made.slots ∙ was.slots;
       count = made.count ∙ was.count;
-      strain = made.strain ∙ was.strain;
+      strain = omega (arith, made.strain, was.strain);
     }

@@ -1,5 +1,5 @@
 -- What the loop of `rows::change_run` keeps.
-use Rattle.std.proofs.Common.{◌≡◌, false, ◌++◌, length, vec_capacity}
+use Rattle.std.proofs.Common.{◌≡◌, ◌≤◌, false, ◌++◌, length, vec_capacity}
 use Rattle.std.specs.List.{All}
 use Rattle.std.specs.Ordering.{is_gt, is_ge}
 use Rattle.qfs_base.specs.Table.{Each, change_where, has_key}
@@ -22,7 +22,7 @@ invariant-run g l =
       sound : All IsChunk l.chunks.items;
       slots : vec_capacity l.chunks ≡ vec_capacity l.fn.chunks;
       count : length l.chunks.items ≡ length l.fn.chunks.items;
-      strain : strain l.chunks.items ≡ strain l.fn.chunks.items;
+      strain : strain l.chunks.items ≤ strain l.fn.chunks.items;
     }
 
 abbrev pub decreases-run : goal.decreases-run
