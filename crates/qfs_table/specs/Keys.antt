@@ -1,12 +1,13 @@
 -- Keys of the rows of a table.
 use Rattle.std.specs.Prelude.{◌≡◌, Bool, true, false, cond, List, [], ◌∷◌}
-use Rattle.std.specs.Ordering.{is_eq, is_ge, is_gt, is_lt}
+use Rattle.std.specs.Ordering.{is_eq, is_ge, is_gt}
 use Rattle.std.specs.declared.cmp.Ordering.{Ordering}
 use Rattle.std.specs.declared.cmp.Ordering.TheVariants.{Less, Equal}
 
 -- a key that is above a row is above those before it, and one that isn't below it isn't below them
 abbrev pub Falls : Ordering → Ordering → Type 0
-Falls first later = (is_gt later ≡ true → is_gt first ≡ true) × (is_ge later ≡ true → is_ge first ≡ true)
+Falls first later = (is_gt later ≡ true → is_gt first ≡ true) ×
+    (is_ge later ≡ true → is_ge first ≡ true)
 
 -- whether the first of some rows has a key
 abbrev pub starts_tied : {X : Type 0} → (X → Ordering) → List X → Bool

@@ -82,7 +82,8 @@ pub fn take_first<T: Row, K: Key<T>>(
     requires spares { All IsSpare spare.old.items }
     requires spare_slots { held chunks.old spare.old ≤ vec_capacity spare.old }
     ensures row { result ≡ find (has_key (K.order key.now)) (flat chunks.old.items) }
-    ensures rows { flat chunks.new.items ≡ without_first (has_key (K.order key.now)) (flat chunks.old.items) }
+    ensures rows { flat chunks.new.items
+        ≡ without_first (has_key (K.order key.now)) (flat chunks.old.items) }
     ensures sound { All IsChunk chunks.new.items }
     ensures spares { All IsSpare spare.new.items }
     ensures slots { vec_capacity chunks.new ≡ vec_capacity chunks.old }
@@ -113,7 +114,8 @@ pub fn remove_run<T: Row, K: Key<T>>(
     requires spares { All IsSpare spare.old.items }
     requires spare_slots { held chunks.old spare.old ≤ vec_capacity spare.old }
     requires counted { count ≡ length (flat chunks.old.items) }
-    ensures rows { flat chunks.new.items ≡ without (has_key (K.order key.now)) (flat chunks.old.items) }
+    ensures rows { flat chunks.new.items
+        ≡ without (has_key (K.order key.now)) (flat chunks.old.items) }
     ensures counted { result ≡ length (flat chunks.new.items) }
     ensures fewer { result ≤ count }
     ensures rising { IsRising T.cmp (flat chunks.new.items) }
@@ -136,7 +138,8 @@ pub fn remove_run<T: Row, K: Key<T>>(
 pub fn change_run<T: Row, K: Key<T>, C: Change<T>>(chunks: &mut Vec<Vec<T>>, key: &K, change: &C)
     requires rising { IsRising T.cmp (flat chunks.old.items) }
     requires sound { All IsChunk chunks.old.items }
-    ensures rows { flat chunks.new.items ≡ change_where (has_key (K.order key.now)) (C.changed change.now) (flat chunks.old.items) }
+    ensures rows { flat chunks.new.items
+        ≡ change_where (has_key (K.order key.now)) (C.changed change.now) (flat chunks.old.items) }
     ensures sound { All IsChunk chunks.new.items }
     ensures slots { vec_capacity chunks.new ≡ vec_capacity chunks.old }
     ensures count { length chunks.new.items ≡ length chunks.old.items }

@@ -6,8 +6,8 @@ ghost use Rattle.qfs_base.specs.Table.{IsRising, place, without, change_where, h
 
 use crate::key::{Change, Key, Row, WholeKey};
 use crate::rows::{change_run, place_row, remove_run, take_first};
-use crate::search::{behind_key, run_of, with_key};
 use crate::run::Run;
+use crate::search::{behind_key, run_of, with_key};
 use crate::shelf::{make_spare, spare_for};
 use std::alloc::{AllocError, Global};
 use std::marker::Model;
@@ -140,7 +140,8 @@ impl<T: Row> Table<T> {
     pub fn insert(&mut self, row: T)
         requires { 1 ≤ self.old.spare }
         ensures rows { self.new.rows ≡ place T.cmp row self.old.rows }
-        ensures spare { length self.new.rows + self.new.spare ≡ length self.old.rows + self.old.spare }
+        ensures spare { length self.new.rows + self.new.spare
+            ≡ length self.old.rows + self.old.spare }
     {
         let even = self.spare.len() < self.promised;
         let added = place_row(&mut self.chunks, &mut self.spare, row, even);
@@ -162,7 +163,8 @@ impl<T: Row> Table<T> {
 
     /// Changes the rows with a key, or with the front of one.
     pub fn change<K: Key<T>, C: Change<T>>(&mut self, key: &K, change: &C)
-        ensures rows { self.new.rows ≡ change_where (has_key (K.order key.now)) (C.changed change.now) self.old.rows }
+        ensures rows { self.new.rows
+            ≡ change_where (has_key (K.order key.now)) (C.changed change.now) self.old.rows }
         ensures spare { self.new.spare ≡ self.old.spare }
     {
         change_run(&mut self.chunks, key, change);

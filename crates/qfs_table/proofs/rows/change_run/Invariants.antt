@@ -16,7 +16,9 @@ invariant-run g l =
     let change = g.C.Change.changed l.change in
     record {
       placed : IsPlaced l.chunks.items l.at;
-      joined : front l.chunks.items l.at.chunk l.at.row ++ change_where (has_key order) change (back l.chunks.items l.at.chunk l.at.row) ≡ change_where (has_key order) change (flat l.fn.chunks.items);
+      joined : front l.chunks.items l.at.chunk l.at.row ++ change_where (has_key order) change
+          (back l.chunks.items l.at.chunk l.at.row) ≡ change_where (has_key order) change
+          (flat l.fn.chunks.items);
       low : Each (λ row. is_gt (order row) ≡ false) (back l.chunks.items l.at.chunk l.at.row);
       cut : IsCut (λ row. is_ge (order row)) (back l.chunks.items l.at.chunk l.at.row);
       sound : All IsChunk l.chunks.items;

@@ -18,7 +18,8 @@ run-preserved g c =
       rows = ap (without test) made.rows ∙ without_again test old ∙ was.rows;
       counted = omega (arith, less, was.counted, ap length made.rows);
       fewer = omega (arith, was.fewer);
-      rising = subst (IsRising g.T.Row.cmp) (sym made.rows) (first_rises g.T.Row.cmp test old was.rising);
+      rising = subst (IsRising g.T.Row.cmp) (sym made.rows)
+          (first_rises g.T.Row.cmp test old was.rising);
       sound = made.sound;
       spares = made.spares;
       slots = made.slots ∙ was.slots;
@@ -41,9 +42,11 @@ returns-clause-counted g c =
     let made = c.take_first.ensures in
     let none = sym (ap is_some made.row) ∙ sym c.is_some.ensures ∙ c.if-is_some.false in
     c.run.invariant.counted
-    ∙ sym (ap length (made.rows ∙ none_first (has_key (g.K.Key.order c.args.key.now)) (flat c.run.chunks.items) none))
+    ∙ sym (ap length (made.rows ∙ none_first (has_key (g.K.Key.order c.args.key.now))
+    (flat c.run.chunks.items) none))
 
 pub returns-clause-rising : goal.returns-clause-rising
 returns-clause-rising g c =
     subst (IsRising g.T.Row.cmp) (sym c.take_first.ensures.rows)
-    (first_rises g.T.Row.cmp (has_key (g.K.Key.order c.args.key.now)) (flat c.run.chunks.items) c.run.invariant.rising)
+    (first_rises g.T.Row.cmp (has_key (g.K.Key.order c.args.key.now))
+    (flat c.run.chunks.items) c.run.invariant.rising)

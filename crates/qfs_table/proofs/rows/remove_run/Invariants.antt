@@ -1,9 +1,8 @@
 -- What the loop of `rows::remove_run` keeps.
-use Rattle.std.proofs.Common.{◌≡◌, ◌≤◌, ◌+◌, ◌*◌, length, vec_capacity}
+use Rattle.std.proofs.Common.{◌≡◌, ◌≤◌, length, vec_capacity}
 use Rattle.std.specs.List.{All}
 use Rattle.qfs_base.specs.Table.{IsRising, without, has_key}
-use Rattle.qfs_table.specs.Chunks.{half, flat, IsChunk, IsSpare}
-use Rattle.qfs_table.specs.Rooms.{strain}
+use Rattle.qfs_table.specs.Chunks.{flat, IsChunk, IsSpare}
 use Rattle.qfs_table.specs.Tables.{held, Takes}
 use Rattle.qfs_table.proofs.rows.remove_run.Given as goal
 

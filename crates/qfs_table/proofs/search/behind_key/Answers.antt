@@ -9,7 +9,8 @@ use Rattle.qfs_table.proofs.search.behind_key.Goals as goal
 
 pub first_failing-at-requires-clause-cut : goal.first_failing-at-requires-clause-cut
 first_failing-at-requires-clause-cut g c =
-    key_cut_ge g.T.Row.cmp (g.K.Key.order c.args.key.now) (g.met.K.Key.falls c.args.key.now) (flat c.args.chunks.now) c.requires.rising
+    key_cut_ge g.T.Row.cmp (g.K.Key.order c.args.key.now) (g.met.K.Key.falls c.args.key.now)
+    (flat c.args.chunks.now) c.requires.rising
 
 pub returns : goal.returns
 returns g c =
@@ -18,5 +19,6 @@ returns g c =
     let at = c.first_failing-at.result in
     let first = c.first_failing-at.ensures.first in
     c.row_at.ensures
-    ∙ sym (find_behind order (front chunks at.chunk at.row) (back chunks at.chunk at.row) first.before first.behind)
+    ∙ sym (find_behind order (front chunks at.chunk at.row)
+    (back chunks at.chunk at.row) first.before first.behind)
     ∙ ap (find (is_behind order)) (sym (flat_cut chunks at.chunk at.row))

@@ -7,7 +7,8 @@ use Rattle.qfs_table.proofs.search.search_row.Goals as goal
 pub first_failing-at-requires-clause-cut : goal.first_failing-at-requires-clause-cut
 first_failing-at-requires-clause-cut g c =
     let row = c.args.row.now in
-    key_cut_gt g.T.Row.cmp (g.T.Row.cmp row) (row_falls g.met.T.Row.total row) (flat c.args.chunks.now)
+    key_cut_gt g.T.Row.cmp (g.T.Row.cmp row) (row_falls g.met.T.Row.total row)
+    (flat c.args.chunks.now)
     c.requires.rising
 
 pub returns-then-is_tied-clause-found : goal.returns-then-is_tied-clause-found

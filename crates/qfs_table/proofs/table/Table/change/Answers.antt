@@ -15,6 +15,8 @@ invariant_of-self g c =
     let test = has_key (g.K.Key.order c.args.key.now) in
     let keeps = λ (a b : g.row.T.Denot). g.met.C.Change.keeps_key c.args.change.now a b in
     shrunk was c.change_run.new.chunks c.self.inside.spare c.self.inside.count
-    (subst (IsRising g.T.Row.cmp) (sym now.rows) (change_rises g.met.T.Row.total change keeps test old was.rising))
-    now.sound was.spares now.slots refl (omega (arith, now.count)) (omega arith) (omega (arith, now.strain))
+    (subst (IsRising g.T.Row.cmp) (sym now.rows)
+    (change_rises g.met.T.Row.total change keeps test old was.rising))
+    now.sound was.spares now.slots refl (omega (arith, now.count)) (omega arith)
+    (omega (arith, now.strain))
     (was.counted ∙ sym (change_long test change old) ∙ sym (ap length now.rows)) (omega arith)

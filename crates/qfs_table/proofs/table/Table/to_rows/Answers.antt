@@ -1,7 +1,7 @@
 -- What the check leaves to show of `table::Table::to_rows`.
 use Rattle.std.proofs.Common.{sym, subst, ◌∙◌, length, take, drop, ◌++◌, ◌∷◌, [], ◌≡◌, rules}
 use Rattle.std.specs.List.{AllZip}
-use Rattle.qfs_table.proofs.TableLaws.{zip_next, zip_all}
+use Rattle.qfs_table.proofs.TableLaws.{zip_next}
 use Rattle.qfs_table.proofs.table.Table.to_rows.Goals as goal
 
 pub loop-row-preserved : goal.loop-row-preserved
@@ -13,9 +13,11 @@ loop-row-preserved g c =
     let rest = c.next.new.self in
     let was = c.loop-row.invariant in
     let left : drop (length copies) all ≡ row ∷ rest = was.rest ∙ c.in-Some.ensures.steps in
-    let more = zip_next g.T.Clone.is_clone all copies row copy rest left was.copied c.in_ok-clone.ensures.cases in
+    let more = zip_next g.T.Clone.is_clone all copies row copy rest left was.copied
+    c.in_ok-clone.ensures.cases in
     let pushed : c.push.new.self.items ≡ copies ++ copy ∷ [] = search rules in
     record {
-      copied = subst (λ rows. AllZip g.T.Clone.is_clone (take (length rows) all) rows) (sym pushed) more.0;
+      copied = subst (λ rows. AllZip g.T.Clone.is_clone (take (length rows) all) rows)
+          (sym pushed) more.0;
       rest = subst (λ rows. drop (length rows) all ≡ rest) (sym pushed) more.1;
     }
