@@ -1,27 +1,25 @@
 -- What the lines of the first forms say keeps all ranges and limits of scripts.
-use Rattle.std.proofs.Common.{◌≡◌, ◌≢◌, ℕ, zero, suc, ◌+◌, ◌*◌, ◌-◌, ◌%◌, ◌<◌, ◌≤◌, Bool, true, false, not, cond, List, [], ◌∷◌, length, get_or, refl, sym, ap, subst, arith, Option, Some, None, Result, Ok, Err, inl, inr, All}
+use Rattle.std.proofs.Common.{◌≡◌, ℕ, zero, suc, ◌+◌, ◌*◌, ◌-◌, ◌%◌, ◌<◌, ◌≤◌, Bool, true, false, cond, List, [], ◌∷◌, length, get_or, refl, sym, ap, subst, arith, Option, Some, None, Result, Ok, Err, inl, inr, All}
 use Rattle.std.specs.Prelude.{⊤, ◌&&◌, ◌==◌, nat_le, nat_lt, codes, decimal, ◌⊎◌, flat_map, min}
 use Rattle.std.specs.Int.{div_ceil}
-use Rattle.std.specs.List.{list_all, range_with_len}
+use Rattle.std.specs.List.{range_with_len}
 use Rattle.std.specs.Str.Parse.{digits_value}
 use Rattle.std.specs.Option.{option_and_then}
 use Rattle.std.specs.Result.{result_ok}
 use Rattle.std.specs.Str.{bytes_eq}
 use Rattle.std.proofs.lemmas.Bool.{leb-true, ltb-true, and_parts}
-use Rattle.std.proofs.lemmas.Bool.Decides.{nat_tests}
 use Rattle.std.proofs.lemmas.Grind.{div_ceil_times}
 use Rattle.std.proofs.Math.Nat.{mul-le-mul_left}
 use Rattle.std.proofs.lemmas.List.{append-nil}
 use Rattle.std.proofs.lemmas.List.FromFn.{length-range_with_len}
 use Rattle.std.proofs.lemmas.List.Sums.{sum_by-le}
-use Rattle.std.proofs.lemmas.Slice.Eq.{bytes_eq-Decides}
 use Rattle.std.proofs.lemmas.Option.{same_Some}
 use Rattle.qfs_base.specs.EachLaws.{each_all, each_weaker}
 use Rattle.qfs_base.specs.ListLaws.{cond_passed}
 use Rattle.hex.specs.Hex.{decode_of, decode_pairs}
 use Rattle.hex.specs.declared.error.FromHexError.{FromHexError}
 use Rattle.hex.specs.declared.error.FromHexError.TheVariants.{OddLength}
-use Rattle.qfs_base.specs.Path.{IsName, IsNameByte, IsPath, slash}
+use Rattle.qfs_base.specs.Path.{IsName, IsPath, slash}
 use Rattle.qfs_base.specs.Shape.{Shape, IsStripe, IsRowCount}
 use Rattle.qfs_base.specs.Table.{Each}
 use Rattle.qfs_base.specs.declared.command.Command.{Command}
@@ -33,7 +31,7 @@ use Rattle.qfs_script.proofs.CommandTexts.{named}
 use Rattle.qfs_model_script.specs.InScript.{IsByte, IsCommand, IsScript, len_put, lens_put, actors_of, blocks_in, chunk_bytes_of_block, chunk_bytes_in}
 use Rattle.qfs_model_script.proofs.SmallPuts.{IsSmall, lens_small, length-lens}
 use Rattle.qfs_script.proofs.HexBytes.{pairs_said}
-use Rattle.qfs_script.specs.Commands.{is_name_byte, is_name, one_name_path, few_bytes, hex_bytes, put_of, get_of, put_words, get_words, command_words, command_form}
+use Rattle.qfs_script.specs.Commands.{is_name, one_name_path, few_bytes, hex_bytes, put_of, get_of, put_words, get_words, command_words, command_form}
 use Rattle.qfs_script.specs.Head.{fixed_form, is_shape, shape_of, shape_in, layout_words, layout_form, enough_servers, servers_words, servers_form}
 use Rattle.qfs_script.specs.Lines.{words_of}
 use Rattle.qfs_script.specs.Numbers.{number_below}
