@@ -53,8 +53,8 @@ impl<D: ChunkDevice, L: LogDisk> Model for World<D, L> {
     ghost Value = { WorldView D L };
 
     ghost view = { λ it.
-        view_of it.script.value it.counts.value it.nodes.items it.actors.items it.order it.spare.items
-        it.disks };
+        view_of it.script.value it.counts.value it.nodes.items it.actors.items it.order
+        it.spare.items it.disks };
 
     ghost use Rattle.std.specs.Prelude.{vec_capacity};
     ghost use Rattle.qfs_world.specs.AtWork.{HasRoom, IsAtWork};
