@@ -1,1 +1,2 @@
+mod Gets
 mod Spelled

@@ -7,7 +7,7 @@ use Rattle.std.proofs.lemmas.Bool.{both_ways, false_from_ne_true}
 use Rattle.std.proofs.lemmas.Slice.Eq.{bytes_eq-Decides}
 use Rattle.qfs_model_grammar.specs.FirstWord.{FirstWord}
 use Rattle.qfs_model_grammar.specs.FirstWord as First
-use Rattle.qfs_model_grammar.specs.FirstWords.{Spelling, first_word}
+use Rattle.qfs_model_grammar.specs.FirstWords.{Spelling, spelled, first_word}
 use Rattle.qfs_forms.specs.declared.words.CommandWord as C
 use Rattle.qfs_forms.specs.declared.words.FirstWord as F
 use Rattle.qfs_forms.specs.declared.words.FirstWord.TheVariants as Begins
@@ -79,3 +79,19 @@ first_of_none text none is = behind_heads text None none is
 pub turned : (text word : List ℕ) (b : Bool) → bytes_eq text word ≡ b → bytes_eq word text ≡ b
 turned text word true is = (bytes_eq-Decides word text).1 (sym ((bytes_eq-Decides text word).0 is))
 turned text word false is = false_from_ne_true _ (λ same. both_ways _ is ((bytes_eq-Decides text word).1 (sym ((bytes_eq-Decides word text).0 same))))
+
+pub found_here : (text word : List ℕ) (first : FirstWord) (more : List Spelling) → bytes_eq text word ≡ true
+    → Some first ≡ word_among (spelled word first ∷ more) text
+unfolding word_among
+found_here text word first more is =
+    sym (ap (λ b. option_map (λ (s : Spelling). s.word) (cond b (Some (spelled word first)) (find (λ (s : Spelling). bytes_eq s.text text) more))) (turned text word true is))
+
+pub passed_here : (text word : List ℕ) (first : FirstWord) (more : List Spelling) (found : Option FirstWord) → bytes_eq text word ≡ false
+    → found ≡ word_among more text → found ≡ word_among (spelled word first ∷ more) text
+unfolding word_among
+passed_here text word first more found other is =
+    is ∙ sym (ap (λ b. option_map (λ (s : Spelling). s.word) (cond b (Some (spelled word first)) (find (λ (s : Spelling). bytes_eq s.text text) more))) (turned text word false other))
+
+pub none_here : (text : List ℕ) → None ≡ word_among [] text
+unfolding word_among
+none_here text = refl

@@ -66,6 +66,7 @@ fn pattern_put(alloc: Global, path: &[u8], words: &mut Words<'_>) -> Result<Comm
 }
 
 /// The put of this path and of a recipe of this kind.
+#[tactic(auto, unfolding(qfs_model_grammar::specs::CommandLines::put_command))]
 fn put_of_kind(
     alloc: Global,
     path: &[u8],
@@ -122,7 +123,7 @@ fn get_range(alloc: Global, path: &[u8], from: &[u8], count: &[u8]) -> Result<Co
 }
 
 /// Behind `get`: `P` or `P FROM COUNT`.
-#[tactic(auto, unfolding(qfs_model_grammar::specs::CommandLines::get_command))]
+#[tactic(auto, unfolding(qfs_model_grammar::specs::CommandLines::get_command), using(crate::proofs::Gets::of_range, crate::proofs::Gets::of_no_range))]
 pub fn get_command(alloc: Global, words: &mut Words<'_>) -> Result<Command, Refusal>
     ensures { Tells (get_command words.old) result }
 {
@@ -132,6 +133,8 @@ pub fn get_command(alloc: Global, words: &mut Words<'_>) -> Result<Command, Refu
     let Some(from) = words.next_word() else {
         return get_whole(alloc, path);
     };
-    let count = one_word(words)?;
-    get_range(alloc, path, from, count)
+    match one_word(words) {
+        Ok(count) => get_range(alloc, path, from, count),
+        Err(cause) => Err(Refusal::Bad(cause)),
+    }
 }
