@@ -123,7 +123,7 @@ fn get_range(alloc: Global, path: &[u8], from: &[u8], count: &[u8]) -> Result<Co
 }
 
 /// Behind `get`: `P` or `P FROM COUNT`.
-#[tactic(auto, unfolding(qfs_model_grammar::specs::CommandLines::get_command), using(crate::proofs::Gets::of_range, crate::proofs::Gets::of_no_range))]
+#[tactic(auto, unfolding(qfs_model_grammar::specs::CommandLines::get_command))]
 pub fn get_command(alloc: Global, words: &mut Words<'_>) -> Result<Command, Refusal>
     ensures { Tells (get_command words.old) result }
 {

@@ -1,3 +1,4 @@
 mod Orders
 mod Phases
 mod Places
+mod Rows

@@ -87,7 +87,6 @@ pub fn put_len(command: &Command) -> u32
 
 /// The rows of a file of `len` bytes, at most 268,435,456, in each slot: those of the whole blocks,
 /// and those of the rest.
-#[tactic(auto, using(crate::proofs::Rows::few_rows))]
 fn chunk_rows(layout: &Layout, len: u32) -> u64
     requires { len ≤ MOST_FILE_BYTES }
     ensures value { result ≡ chunk_rows layout.now len }
@@ -100,7 +99,6 @@ fn chunk_rows(layout: &Layout, len: u32) -> u64
 }
 
 /// The bytes of all chunks of a file of `len` bytes, at most 268,435,456.
-#[tactic(auto, using(crate::proofs::Rows::few_bytes))]
 fn chunk_bytes_of(layout: &Layout, len: u32) -> u64
     requires { len ≤ MOST_FILE_BYTES }
     ensures value { result ≡ chunk_bytes_of layout.now len }

@@ -1,6 +1,7 @@
 //! Numbers as scripts write them: decimal, without a sign and without leading zeros.
 ghost use Rattle.std.specs.Prelude.{◌≡◌, ℕ, ◌<◌, ◌≤◌, ◌^◌, decimal, IfOk, IfSome, MatchOption};
 ghost use Rattle.std.specs.Str.{bytes_eq};
+ghost use Rattle.qfs_base.specs.Shape.{IsStripe};
 ghost use Rattle.qfs_model_grammar.specs.Kinds.{number_of, number_in, stripe_in};
 
 use itoa::Buffer;
@@ -55,7 +56,8 @@ pub fn number_in(first: u32, last: u32, word: &[u8]) -> Result<u32, ScriptCause>
 /// The bytes of a stripe that a word writes: a power of two from 16 to 65,536.
 #[tactic(auto, unfolding(qfs_model_grammar::specs::Kinds::stripe_in, qfs_model_grammar::specs::Said::if_kept))]
 pub fn stripe_in(word: &[u8]) -> Result<u32, ScriptCause>
-    ensures { result ≡ stripe_in word.now }
+    ensures value { result ≡ stripe_in word.now }
+    ensures within { IfOk result IsStripe }
 {
     let stripe = number_in(16, 65_536, word)?;
     if stripe.is_power_of_two() {
