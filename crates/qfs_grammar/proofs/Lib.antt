@@ -1,4 +1,4 @@
 mod Orders
-mod Phases
+mod LastItems
 mod Places
 mod Rows

@@ -1,6 +1,6 @@
 -- The rows and bytes of a file's chunks are few.
 use Rattle.std.proofs.Common.{◌≡◌, ◌∙◌, sym, ap, arith, ℕ, ◌+◌, ◌*◌, ◌/◌, ◌%◌, ◌<◌, ◌≤◌, ◌^◌, min}
-use Rattle.std.proofs.Math.Nat.{div-le_self, mul-div-le, mul-le-mul_left, mul-le-mul_right, mod-lt}
+use Rattle.std.proofs.Math.Nat.{div-le_self, mul-div-le, mul-le-mul_left, mul-le-mul_right, mod-le}
 use Rattle.std.specs.Int.{div_ceil}
 use Rattle.qfs_base.specs.Layout.{row_bytes, block_bytes}
 use Rattle.qfs_base.specs.Shape.{Shape}
@@ -23,7 +23,7 @@ rest_rows : (s r len : ℕ) → 1 ≤ 6 * s * r → div_ceil (len % block_bytes 
 rest_rows s r len some = omega (arith, ceil_most (len % block_bytes s r) (row_bytes s), mod_within len (block_bytes s r))
   where
     mod_within : (a b : ℕ) → a % b ≤ a
-    mod_within a b = omega arith
+    mod_within a b = mod-le a b
 
 pub few_rows : (layout : Shape) (len : ℕ) → 16 ≤ layout.s → 1 ≤ layout.r → len ≤ MOST_FILE_BYTES → chunk_rows layout len ≤ 2 ^ 30
 few_rows layout len large some small =

@@ -1,5 +1,5 @@
 -- How a line goes on what was read before it.
-use Rattle.std.specs.Prelude.{◌≡◌, ⊤, ℕ, MatchResult, List, Result, Ok, Err, Some, if◌then◌else◌, Option, None, ◌+◌, ◌×◌, ◌&&◌, nat_le, Bool}
+use Rattle.std.specs.Prelude.{◌≡◌, ⊤, ℕ, MatchResult, List, Result, Ok, Err}
 use Rattle.qfs_base.specs.Order.{steps_of_runs}
 use Rattle.qfs_base.specs.Shape.{Shape}
 use Rattle.qfs_base.specs.declared.history.Step.{Step}

@@ -6,8 +6,8 @@ mod error;
 mod order;
 mod phases;
 mod place;
-mod read;
+mod script;
 mod so_far;
 
 pub use error::ScriptError;
-pub use read::read;
+pub use script::read;

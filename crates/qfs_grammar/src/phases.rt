@@ -8,7 +8,7 @@ use qfs_base::script::{Commands, Phase};
 use std::alloc::{AllocError, Global};
 
 /// Adds a command to the last of these actors.
-#[tactic(auto, using(crate::proofs::Phases::in_last, crate::proofs::Phases::in_none))]
+#[tactic(auto, using(crate::proofs::LastItems::in_last, crate::proofs::LastItems::in_none))]
 fn push_to_last(actors: &mut Phase, command: Command) -> Result<(), AllocError>
     ensures { OnOk result (actors.new ≡ change_last (λ commands. commands ++ command ∷ []) actors.old) }
 {
@@ -22,7 +22,7 @@ fn push_to_last(actors: &mut Phase, command: Command) -> Result<(), AllocError>
 }
 
 /// Adds a command to the last actor of the last phase. On want of memory the phases are lost.
-#[tactic(auto, unfolding(qfs_model_grammar::specs::SoFar::with_command), using(crate::proofs::Phases::in_last, crate::proofs::Phases::in_none))]
+#[tactic(auto, unfolding(qfs_model_grammar::specs::SoFar::with_command), using(crate::proofs::LastItems::in_last, crate::proofs::LastItems::in_none))]
 pub fn push_command(phases: &mut Listing<Phase>, command: Command) -> Result<(), AllocError>
     ensures { OnOk result (phases.new ≡ with_command command phases.old) }
 {
@@ -36,7 +36,7 @@ pub fn push_command(phases: &mut Listing<Phase>, command: Command) -> Result<(),
 }
 
 /// Adds an actor without commands to the last phase. On want of memory the phases are lost.
-#[tactic(auto, unfolding(qfs_model_grammar::specs::SoFar::with_actor), using(crate::proofs::Phases::in_last, crate::proofs::Phases::in_none))]
+#[tactic(auto, unfolding(qfs_model_grammar::specs::SoFar::with_actor), using(crate::proofs::LastItems::in_last, crate::proofs::LastItems::in_none))]
 pub fn push_actor(alloc: Global, phases: &mut Listing<Phase>) -> Result<(), AllocError>
     ensures { OnOk result (phases.new ≡ with_actor phases.old) }
 {

@@ -40,7 +40,6 @@ is_name_from : (name : List ℕ) → IsName name → is_name name ≡ true
 is_name_from name is =
     and_from _ _ (and_from _ _ (and_from _ _ (and_from _ _ (le-leb _ _ is.0) (le-leb _ _ is.1)) ((bytes-Decides name).1 is.2)) (other_from _ _ is.3)) (other_from _ _ is.4)
 
-
 is_name-Decides : (name : List ℕ) → Decides (is_name name) (IsName name)
 is_name-Decides name = (named name, is_name_from name)
 
@@ -70,6 +69,7 @@ spelled_by (name ∷ names) is =
   where
     first : (name : List ℕ) (names : List (List ℕ)) → All IsName (name ∷ names) → 1 ≤ length name
     first name names all = (all 0 [] (omega arith)).0
+
     long : (name more : List ℕ) → 1 ≤ length name → 0 < length (name ++ more)
     long [] more some = absurd (omega arith)
     long (byte ∷ name) more some = omega arith
