@@ -1,4 +1,0 @@
-mod Orders
-mod LastItems
-mod Places
-mod Rows
