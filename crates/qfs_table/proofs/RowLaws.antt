@@ -40,7 +40,7 @@ lt_from Less e = refl
 lt_from Equal e = absurd (true≢false e)
 lt_from Greater e = absurd (true≢false e)
 
-lt_not_eq : (o : Ordering) → is_ge o ≡ false → is_eq o ≡ false
+pub lt_not_eq : (o : Ordering) → is_ge o ≡ false → is_eq o ≡ false
 lt_not_eq Less e = refl
 lt_not_eq Equal e = absurd (true≢false e)
 lt_not_eq Greater e = absurd (true≢false e)
