@@ -1,0 +1,5 @@
+mod LinesRead
+mod Orders
+mod LastItems
+mod Places
+mod Rows
