@@ -3,3 +3,4 @@ mod Orders
 mod LastItems
 mod Places
 mod Rows
+mod Taken

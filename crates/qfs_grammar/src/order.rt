@@ -13,8 +13,10 @@ pub fn read_order(alloc: Global, words: &mut Words<'_>) -> Result<Order, Refusal
 {
     let mut order = Order::new(alloc);
     while let Some(word) = words.next_word() {
-        let run = run_in(word)?;
-        order.push_run(run.step, run.count)?;
+        match run_in(word) {
+            Ok(part) => order.push_run(part.step, part.count)?,
+            Err(cause) => return Err(Refusal::Bad(cause)),
+        }
     }
     Ok(order)
 }
