@@ -8,7 +8,9 @@ use Rattle.qfs_model_grammar.specs.FirstWords.{Spelling, spelled}
 
 -- the word among these that is written so
 unfoldable pub word_among : List Spelling → List ℕ → Option FirstWord
-word_among spellings text = option_map (λ (spelling : Spelling). spelling.word) (find (λ (spelling : Spelling). bytes_eq spelling.text text) spellings)
+word_among spellings text =
+    option_map (λ (spelling : Spelling). spelling.word)
+    (find (λ (spelling : Spelling). bytes_eq spelling.text text) spellings)
 
 abbrev pub head_spellings : List Spelling
 head_spellings =

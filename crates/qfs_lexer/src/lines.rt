@@ -30,7 +30,8 @@ impl<'a> Lines<'a> {
 
     /// Takes the first line off. None says that no line is left.
     pub fn next_line(&mut self) -> Option<&'a [u8]>
-        ensures { MatchOption result ((self.old ≡ []) × (self.new ≡ [])) (λ line. self.old ≡ line.now ∷ self.new) }
+        ensures { MatchOption result ((self.old ≡ []) × (self.new ≡ []))
+            (λ line. self.old ≡ line.now ∷ self.new) }
     {
         let text = self.rest;
         if text.is_empty() {
@@ -102,7 +103,8 @@ impl<'a> Pieces<'a> {
 
     /// Takes the first piece off. None says that none is left.
     fn next_piece(&mut self) -> Option<&'a [u8]>
-        ensures { MatchOption result ((self.old ≡ []) × (self.new ≡ [])) (λ piece. self.old ≡ piece.now ∷ self.new) }
+        ensures { MatchOption result ((self.old ≡ []) × (self.new ≡ []))
+            (λ piece. self.old ≡ piece.now ∷ self.new) }
     {
         let line = self.left?;
         match first_blank(line) {
@@ -146,7 +148,8 @@ impl<'a> Words<'a> {
 
     /// Takes the first word off. None says that no word is left.
     pub fn next_word(&mut self) -> Option<&'a [u8]>
-        ensures { MatchOption result ((self.old ≡ []) × (self.new ≡ [])) (λ word. self.old ≡ word.now ∷ self.new) }
+        ensures { MatchOption result ((self.old ≡ []) × (self.new ≡ []))
+            (λ word. self.old ≡ word.now ∷ self.new) }
     {
         first_word(&mut self.pieces)
     }
