@@ -42,9 +42,9 @@ empty_found (Some image) (g ∷ rest) fits (inr was) = elim (cases_eq g 1) [
   | inl opened ↦
       let content = new_content image in
       let is : g ∷ rest ≡ front_text 1 content ++ 0 ∷ [] =
-          (λ i. opened i ∷ equals_is (checkpoint_text 1 image ++ 0 ∷ []) rest was.behind i) ∙ ap (λ (l : List ℕ). 1 ∷ (l ++ 0 ∷ [])) (sym (append-nil (checkpoint_text 1 image))) in
+      (λ i. opened i ∷ equals_is (checkpoint_text 1 image ++ 0 ∷ []) rest was.behind i) ∙ ap (λ (l : List ℕ). 1 ∷ (l ++ 0 ∷ [])) (sym (append-nil (checkpoint_text 1 image))) in
       inr (left_found (g ∷ rest) (ap is_checkpoint is ∙ front_counts 1 content (0 ∷ []))
-        ∙ ap found_on is ∙ disk_again 1 content 0 [] (record { epoch = omega arith; image = fits; bodies = tt }) (omega arith))
+      ∙ ap found_on is ∙ disk_again 1 content 0 [] (record { epoch = omega arith; image = fits; bodies = tt }) (omega arith))
   | inr closed ↦ inl (none_found (g ∷ rest) (shut (g ∷ rest) (closed_counts (g ∷ rest) closed)))
 ]
 
@@ -63,7 +63,7 @@ empty_pair settled rival image left right fits fit none (inl was) =
     inl (subst (λ (r : List ℕ). MayBeEmpty rival (found_in left r)) (sym none) (empty_found rival left fits (either settled (empty_test rival) left was)))
 empty_pair settled rival image left right fits fit none (inr was) =
     subst (λ (r : List ℕ). MayBeEmpty rival (found_in left r) ⊎ (found_in left r ≡ loaded (new_content image))) (sym none)
-      (⊎_elim (λ nothing_is. inl (inl nothing_is)) (λ is. inr is) (empty_found (Some image) left fit (either false (empty_test (Some image)) left was)))
+    (⊎_elim (λ nothing_is. inl (inl nothing_is)) (λ is. inr is) (empty_found (Some image) left fit (either false (empty_test (Some image)) left was)))
 
 -- an empty disk loses
 pub empty_loses : (right : Bool) (epoch : ℕ) (disk : List ℕ) → disk ≡ [] → loses right epoch (drop 1 disk) ≡ true

@@ -180,18 +180,18 @@ disk_was (first ∷ tail) content are counts found =
     let image = image_was size (drop 16 tail) content (drop_bytes 16 tail tail_are) more.1 in
     let epoch_is : epoch_in tail ≡ from_be_bytes w64 (take 8 tail) = ap (λ b. cond b 0 (from_be_bytes w64 (take 8 tail))) (le-ltb (length tail) 8 (omega (arith, long))) in
     let epoch_text : to_be_bytes w64 (epoch_in tail) ≡ take 8 tail =
-        ap (λ n. to_be_bytes w64 n) epoch_is ∙ be_bytes_8 (take 8 tail) (from_be_bytes w64 (take 8 tail)) (length-take-le 8 tail (omega (arith, long))) (take_bytes 8 tail tail_are) refl in
+    ap (λ n. to_be_bytes w64 n) epoch_is ∙ be_bytes_8 (take 8 tail) (from_be_bytes w64 (take 8 tail)) (length-take-le 8 tail (omega (arith, long))) (take_bytes 8 tail tail_are) refl in
     let size_text : to_be_bytes w64 (length content.image) ≡ take 8 (drop 8 tail) =
-        ap (λ n. to_be_bytes w64 n) image.long ∙ be_bytes_8 (take 8 (drop 8 tail)) size (length-take-le 8 (drop 8 tail) (omega (arith, long, length-drop 8 tail))) (take_bytes 8 (drop 8 tail) (drop_bytes 8 tail tail_are)) refl in
+    ap (λ n. to_be_bytes w64 n) image.long ∙ be_bytes_8 (take 8 (drop 8 tail)) size (length-take-le 8 (drop 8 tail) (omega (arith, long, length-drop 8 tail))) (take_bytes 8 (drop 8 tail) (drop_bytes 8 tail tail_are)) refl in
     let behind : drop 8 tail ≡ to_be_bytes w64 (length content.image) ++ (content.image ++ (log_text content.bodies ++ image.gate ∷ image.rest)) =
-        sym (take-append-drop 8 (drop 8 tail)) ∙ ap (λ (l : List ℕ). l ++ drop 8 (drop 8 tail)) (sym size_text)
-        ∙ ap (λ (l : List ℕ). to_be_bytes w64 (length content.image) ++ l) (drop-drop 8 8 tail ∙ image.text) in
+    sym (take-append-drop 8 (drop 8 tail)) ∙ ap (λ (l : List ℕ). l ++ drop 8 (drop 8 tail)) (sym size_text)
+    ∙ ap (λ (l : List ℕ). to_be_bytes w64 (length content.image) ++ l) (drop-drop 8 8 tail ∙ image.text) in
     record {
       gate = image.gate;
       rest = image.rest;
       text = (λ i. eqb-true first 1 (and_both (first == 1) (nat_lt 0 (length tail)) counts).0 i ∷ tail)
           ∙ ap (λ (l : List ℕ). 1 ∷ l) (sym (take-append-drop 8 tail) ∙ ap (λ (l : List ℕ). l ++ drop 8 tail) (sym epoch_text) ∙ ap (λ (l : List ℕ). to_be_bytes w64 (epoch_in tail) ++ l) behind
-            ∙ sym (parts (epoch_in tail) content (image.gate ∷ image.rest)));
+          ∙ sym (parts (epoch_in tail) content (image.gate ∷ image.rest)));
       closed = image.closed;
       fits = record {
         epoch = subst (λ n. n < 2 ^ 64) (sym epoch_is) (below_8 (take 8 tail) (take_bytes 8 tail tail_are));

@@ -105,8 +105,8 @@ records_from zero at (gate ∷ bytes) = Err at
 records_from (suc most) at (gate ∷ bytes) = if gate == 1 then records_behind (records_from most) (at + 1) bytes (read_record bytes) else Ok []
 
 unfoldable pub found_log : List ℕ → Result (List (List ℕ)) ℕ → Found
-found_log image (Ok records) = loaded (record { image = image; bodies = records })
-found_log image (Err offset) = bad offset
+found_log bytes (Ok records) = loaded (record { image = bytes; bodies = records })
+found_log bytes (Err offset) = bad offset
 
 -- an image of this size, and the log behind it
 unfoldable pub found_sized : ℕ → List ℕ → Found

@@ -1,5 +1,8 @@
 -- How a log stands on its two disks, and what a crash may leave of it.
-use Rattle.std.specs.Prelude.{◌≡◌, ◌<◌, ◌^◌, ◌⊎◌, ℕ, ◌+◌, Bool, true, false, IsTrue, List, [], ◌∷◌, ◌++◌, length, Option, Some, None, IfSome, Vec, if◌then◌else◌}
+use Rattle.std.specs.Prelude.{◌≡◌, ◌<◌, ◌^◌, ◌⊎◌, ℕ, ◌+◌, Bool, true, false, IsTrue, List, [], ◌∷◌, ◌++◌, length, Option, Some, None, IfSome, Result, Ok, Err, Vec, if◌then◌else◌}
+use Rattle.qfs_device.specs.declared.errors.DeviceError.{DeviceError}
+use Rattle.qfs_device.specs.declared.errors.DeviceError.TheVariants.{Failed, NoMemory}
+use Rattle.qfs_device.specs.Fault.{RoseOnce}
 use Rattle.std.specs.declared.alloc.Global.{Global}
 use Rattle.qfs_device.specs.Disk.{Only}
 use Rattle.qfs_log.specs.Gates.{equals, GateWas, HasGate, AtRest}
@@ -56,6 +59,14 @@ module _ {D : Type 0} where
 
   abbrev pub OtherWas : Log D → Option (List ℕ) → List ℕ → Type 0
   OtherWas log rival image = GateWas log.other_settled [] (other_test log.right log.epoch rival) image
+
+-- ---- faults
+
+-- Two counts of faults: a failure raised one of them once, and every other answer none.
+abbrev pub CountsBoth : {T : Type 0} → ℕ → ℕ → ℕ → ℕ → Result T DeviceError → Type 0
+CountsBoth one one_new two two_new (Ok value) = (one_new ≡ one) × (two_new ≡ two)
+CountsBoth one one_new two two_new (Err Failed) = (RoseOnce one one_new × (two_new ≡ two)) ⊎ ((one_new ≡ one) × RoseOnce two two_new)
+CountsBoth one one_new two two_new (Err NoMemory) = (one_new ≡ one) × (two_new ≡ two)
 
 -- ---- what a load after a crash may find
 

@@ -1,9 +1,10 @@
 //! The log. It goes on behind the newest checkpoint; the other disk takes the next one.
-ghost use Rattle.std.specs.Prelude.{◌≡◌, ◌⊎◌, ◌<◌, ◌^◌, ◌+◌, ℕ, Bool, true, false, List, [], ◌++◌, ◌∷◌, Option, None, Some, OnOk, OnErr, IfOk, IsTrue, length};
+ghost use Rattle.std.specs.Prelude.{◌≡◌, ◌⊎◌, ◌<◌, ◌^◌, ◌+◌, ℕ, Bool, true, false, List, [], ◌++◌, ◌∷◌, Option, None, Some, OnOk, OnErr, IfOk, IfSome, IsTrue, length, not};
+ghost use Rattle.qfs_device.specs.Fault.{Counts};
 ghost use Rattle.qfs_device.specs.Moves.{Moves};
 ghost use Rattle.qfs_log.specs.Gates.{GateWas, Opened};
 ghost use Rattle.qfs_log.specs.Found.{Content, Found, with_body, found_by, found_in, loaded, FitsRecord, FitsImage, record_text, checkpoint_text, new_content, front_text};
-ghost use Rattle.qfs_log.specs.Log.{Placed, Stands, CurrentWas, OtherWas, MayBe, tail_test, other_test, left_of, right_of, Empty, MayBeEmpty, empty_test};
+ghost use Rattle.qfs_log.specs.Log.{Placed, Stands, CurrentWas, OtherWas, MayBe, tail_test, other_test, left_of, right_of, CountsBoth, Empty, MayBeEmpty, empty_test};
 
 use crate::gate::{clear_gate, close_gate, write_behind_gate};
 use qfs_device::{DeviceError, LogDisk};
@@ -42,6 +43,7 @@ impl<L: LogDisk> Log<L> {
         ensures err { OnErr result ((content : Content) (rival : Option (List ℕ)) → Stands L.tells L.leaves L.content self.old content rival → Stands L.tells L.leaves L.content self.new content rival) }
         ensures crash { (content : Content) (rival : Option (List ℕ)) → Stands L.tells L.leaves L.content self.old content rival
             → Moves L.clock L.leaves L.left_since (λ _ c. OtherWas self.old rival c) self.old.other self.new.other }
+        ensures counts { Counts (L.faults self.old.other) (L.faults self.new.other) result }
     {
         if !self.close_due {
             return Ok(());
@@ -57,6 +59,8 @@ impl<L: LogDisk> Log<L> {
         ensures placed { Placed L.length_of self.new }
         ensures same { (self.new.other ≡ self.old.other) × (self.new.epoch ≡ self.old.epoch) × (self.new.right ≡ self.old.right) × (self.new.gate ≡ self.old.gate) }
         ensures settled { OnOk result ((self.new.settled ≡ true) × ((self.new.unsettled ≡ None) × (self.new.tail_due ≡ false))) }
+        ensures unsettled { OnErr result (self.new.unsettled ≡ self.old.unsettled) }
+        ensures counts { Counts (L.faults self.old.current) (L.faults self.new.current) result }
         ensures stands { (content : Content) (rival : Option (List ℕ)) → Stands L.tells L.leaves L.content self.old content rival → Stands L.tells L.leaves L.content self.new content rival }
         ensures crash { (content : Content) (rival : Option (List ℕ)) → Stands L.tells L.leaves L.content self.old content rival
             → Moves L.clock L.leaves L.left_since (λ _ c. CurrentWas self.old content c) self.old.current self.new.current }
@@ -82,6 +86,7 @@ impl<L: LogDisk> Log<L> {
         ensures settled { OnOk result (self.new.unsettled ≡ None) }
         ensures err { OnErr result ((content : Content) (rival : Option (List ℕ)) → Stands L.tells L.leaves L.content self.old content rival → Stands L.tells L.leaves L.content self.new content rival) }
         ensures unsettled { OnErr result (self.new.unsettled ≡ Some body) }
+        ensures counts { Counts (L.faults self.old.current) (L.faults self.new.current) result }
         ensures crash { (content : Content) (rival : Option (List ℕ)) → Stands L.tells L.leaves L.content self.old content rival
             → Moves L.clock L.leaves L.left_since (λ _ c. GateWas false (front_text self.old.epoch content) (tail_test (Some body)) c) self.old.current self.new.current }
     {
@@ -109,6 +114,11 @@ impl<L: LogDisk> Log<L> {
         ensures any_moment { (content : Content) (rival : Option (List ℕ)) → Stands L.tells L.leaves L.content self.old content rival
             → (l r : List ℕ) → L.left_since (left_of self.new) (L.clock (left_of self.old)) l → L.left_since (right_of self.new) (L.clock (right_of self.old)) r
             → MayBe content self.old.unsettled rival (found_in l r) ⊎ (found_in l r ≡ loaded (with_body content body.now)) }
+        // After a failure the record that isn't settled is the one before, none or this one.
+        ensures unsettled { OnErr result (
+            (self.new.unsettled ≡ self.old.unsettled) ⊎ IfSome self.new.unsettled (λ kept. kept.items ≡ body.now)) }
+        ensures side { self.new.right ≡ self.old.right }
+        ensures counts { CountsBoth (L.faults self.old.current) (L.faults self.new.current) (L.faults self.old.other) (L.faults self.new.other) result }
     {
         let tail = record_bytes(self.alloc, body)?;
         let kept = body.to_vec(self.alloc)?;
@@ -133,6 +143,13 @@ impl<L: LogDisk> Log<L> {
         ensures any_moment { (content : Content) (rival : Option (List ℕ)) → Stands L.tells L.leaves L.content self.old content rival
             → (l r : List ℕ) → L.left_since (left_of self.new) (L.clock (left_of self.old)) l → L.left_since (right_of self.new) (L.clock (right_of self.old)) r
             → MayBe content self.old.unsettled rival (found_in l r) ⊎ (found_in l r ≡ loaded (new_content image.now)) }
+        ensures side { OnOk result (self.new.right ≡ not self.old.right) }
+        ensures counts { OnOk result (
+            (L.faults self.new.current ≡ L.faults self.old.other) × (L.faults self.new.other ≡ L.faults self.old.current)) }
+        // A call that fails leaves the disks in their places.
+        ensures stays { OnErr result (self.new.right ≡ self.old.right) }
+        ensures unsettled { OnErr result (self.new.unsettled ≡ self.old.unsettled) }
+        ensures failed { OnErr result (CountsBoth (L.faults self.old.current) (L.faults self.new.current) (L.faults self.old.other) (L.faults self.new.other) result) }
     {
         let tail = checkpoint_bytes(self.alloc, self.epoch + 1, image)?;
         self.write_other(image, &tail)?;
@@ -161,6 +178,8 @@ impl<L: LogDisk> Log<L> {
         ensures any_moment { (rival : Option (List ℕ)) → Empty L.tells L.leaves self.old rival
             → (l r : List ℕ) → L.left_since self.new.current (L.clock self.old.current) l → L.left_since self.new.other (L.clock self.old.other) r
             → MayBeEmpty rival (found_in l r) ⊎ (found_in l r ≡ loaded (new_content image.now)) }
+        ensures side { (self.new.right ≡ self.old.right) × (self.new.other ≡ self.old.other) }
+        ensures counts { Counts (L.faults self.old.current) (L.faults self.new.current) result }
     {
         let tail = checkpoint_bytes(self.alloc, 1, image)?;
         clear_gate(&mut self.current, 0, &mut self.settled)?;
@@ -197,6 +216,8 @@ impl<L: LogDisk> Log<L> {
             → Stands L.tells L.leaves L.content self.new content rival ⊎ Stands L.tells L.leaves L.content self.new content (Some image.now)) }
         ensures crash { (content : Content) (rival : Option (List ℕ)) → Stands L.tells L.leaves L.content self.old content rival
             → Moves L.clock L.leaves L.left_since (λ _ o. OtherWas self.old rival o ⊎ GateWas false [] (other_test self.old.right self.old.epoch (Some image.now)) o) self.old.other self.new.other }
+        ensures unsettled { self.new.unsettled ≡ self.old.unsettled }
+        ensures counts { Counts (L.faults self.old.other) (L.faults self.new.other) result }
     {
         self.close_due = true;
         clear_gate(&mut self.other, 0, &mut self.other_settled)?;

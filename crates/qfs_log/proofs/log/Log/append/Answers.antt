@@ -14,7 +14,7 @@ returns-in_err-tail-clause-any_moment g c = λ content rival stands l r left_l l
     let log = c.args.self.now in
     let after = log in
     by_sides d.tells d.clock d.leaves d.left_since d.content log.right after.current after.other log.current log.other
-      (λ found. MayBe content log.unsettled rival found ⊎ (found ≡ loaded (with_body content c.args.body.now))) (λ one two left_c left_o.
+    (λ found. MayBe content log.unsettled rival found ⊎ (found ≡ loaded (with_body content c.args.body.now))) (λ one two left_c left_o.
     let d = g.L.LogDisk in
     let log = c.args.self.now in
     let only = (g.met.L.LogDisk g.world.𝓛 g.world.𝓜 g.world.𝓡 ((λ s x. x), (λ x. x), (λ x. x), λ x. x)).only_now in
@@ -22,8 +22,8 @@ returns-in_err-tail-clause-any_moment g c = λ content rival stands l r left_l l
     (current_now d.tells d.clock d.leaves d.left_since d.content log content rival stands one (only log.current one stands.current_tells left_c))
     (other_now d.tells d.clock d.leaves d.left_since d.content log content rival stands two (only log.other two stands.other_tells left_o)))
     ) l r
-      (subst (λ b. d.left_since (cond b after.other after.current) (d.clock (cond log.right log.other log.current)) l) refl left_l)
-      (subst (λ b. d.left_since (cond b after.current after.other) (d.clock (cond log.right log.current log.other)) r) refl left_r)
+    (subst (λ b. d.left_since (cond b after.other after.current) (d.clock (cond log.right log.other log.current)) l) refl left_l)
+    (subst (λ b. d.left_since (cond b after.current after.other) (d.clock (cond log.right log.current log.other)) r) refl left_r)
 
 pub returns-in_err-kept-clause-any_moment : goal.returns-in_err-kept-clause-any_moment
 returns-in_err-kept-clause-any_moment g c = λ content rival stands l r left_l left_r.
@@ -31,7 +31,7 @@ returns-in_err-kept-clause-any_moment g c = λ content rival stands l r left_l l
     let log = c.args.self.now in
     let after = log in
     by_sides d.tells d.clock d.leaves d.left_since d.content log.right after.current after.other log.current log.other
-      (λ found. MayBe content log.unsettled rival found ⊎ (found ≡ loaded (with_body content c.args.body.now))) (λ one two left_c left_o.
+    (λ found. MayBe content log.unsettled rival found ⊎ (found ≡ loaded (with_body content c.args.body.now))) (λ one two left_c left_o.
     let d = g.L.LogDisk in
     let log = c.args.self.now in
     let only = (g.met.L.LogDisk g.world.𝓛 g.world.𝓜 g.world.𝓡 ((λ s x. x), (λ x. x), (λ x. x), λ x. x)).only_now in
@@ -39,8 +39,8 @@ returns-in_err-kept-clause-any_moment g c = λ content rival stands l r left_l l
     (current_now d.tells d.clock d.leaves d.left_since d.content log content rival stands one (only log.current one stands.current_tells left_c))
     (other_now d.tells d.clock d.leaves d.left_since d.content log content rival stands two (only log.other two stands.other_tells left_o)))
     ) l r
-      (subst (λ b. d.left_since (cond b after.other after.current) (d.clock (cond log.right log.other log.current)) l) refl left_l)
-      (subst (λ b. d.left_since (cond b after.current after.other) (d.clock (cond log.right log.current log.other)) r) refl left_r)
+    (subst (λ b. d.left_since (cond b after.other after.current) (d.clock (cond log.right log.other log.current)) l) refl left_l)
+    (subst (λ b. d.left_since (cond b after.current after.other) (d.clock (cond log.right log.current log.other)) r) refl left_r)
 
 pub returns-in_err-settle_other-clause-err : goal.returns-in_err-settle_other-clause-err
 returns-in_err-settle_other-clause-err g c = any_err c.from_residual-in_err-settle_other.result (λ content rival stands. inl (c.in_err-settle_other.ensures.err content rival stands))
@@ -51,7 +51,7 @@ returns-in_err-settle_other-clause-any_moment g c = λ content rival stands l r 
     let log = c.args.self.now in
     let after = c.settle_other.new.self in
     by_sides d.tells d.clock d.leaves d.left_since d.content log.right after.current after.other log.current log.other
-      (λ found. MayBe content log.unsettled rival found ⊎ (found ≡ loaded (with_body content c.args.body.now))) (λ one two left_c left_o.
+    (λ found. MayBe content log.unsettled rival found ⊎ (found ≡ loaded (with_body content c.args.body.now))) (λ one two left_c left_o.
     let d = g.L.LogDisk in
     let log = c.args.self.now in
     let was_c = subst (λ e. d.left_since e (d.clock log.current) one) c.settle_other.ensures.same.0 left_c in
@@ -59,8 +59,8 @@ returns-in_err-settle_other-clause-any_moment g c = λ content rival stands l r 
     (current_now d.tells d.clock d.leaves d.left_since d.content log content rival stands one ((g.met.L.LogDisk g.world.𝓛 g.world.𝓜 g.world.𝓡 ((λ s x. x), (λ x. x), (λ x. x), λ x. x)).only_now log.current one stands.current_tells was_c))
     ((c.settle_other.ensures.crash content rival stands).during two left_o).2)
     ) l r
-      (subst (λ b. d.left_since (cond b after.other after.current) (d.clock (cond log.right log.other log.current)) l) c.settle_other.ensures.same.2 left_l)
-      (subst (λ b. d.left_since (cond b after.current after.other) (d.clock (cond log.right log.current log.other)) r) c.settle_other.ensures.same.2 left_r)
+    (subst (λ b. d.left_since (cond b after.other after.current) (d.clock (cond log.right log.other log.current)) l) c.settle_other.ensures.same.2 left_l)
+    (subst (λ b. d.left_since (cond b after.current after.other) (d.clock (cond log.right log.current log.other)) r) c.settle_other.ensures.same.2 left_r)
 
 pub returns-in_err-repair-clause-err : goal.returns-in_err-repair-clause-err
 returns-in_err-repair-clause-err g c = any_err c.from_residual-in_err-repair.result (λ content rival stands. inr (c.repair.ensures.stands content None (c.in_ok-settle_other.ensures.ok content rival stands)))
@@ -71,7 +71,7 @@ returns-in_err-repair-clause-any_moment g c = λ content rival stands l r left_l
     let log = c.args.self.now in
     let after = c.repair.new.self in
     by_sides d.tells d.clock d.leaves d.left_since d.content log.right after.current after.other log.current log.other
-      (λ found. MayBe content log.unsettled rival found ⊎ (found ≡ loaded (with_body content c.args.body.now))) (λ one two left_c left_o.
+    (λ found. MayBe content log.unsettled rival found ⊎ (found ≡ loaded (with_body content c.args.body.now))) (λ one two left_c left_o.
     let d = g.L.LogDisk in
     let log = c.args.self.now in
     let mid = c.settle_other.new.self in
@@ -83,8 +83,8 @@ returns-in_err-repair-clause-any_moment g c = λ content rival stands l r left_l
     ((c.repair.ensures.crash content None (c.in_ok-settle_other.ensures.ok content rival stands)).during one was_c).2)
     ((c.settle_other.ensures.crash content rival stands).during two was_o).2)
     ) l r
-      (subst (λ b. d.left_since (cond b after.other after.current) (d.clock (cond log.right log.other log.current)) l) (c.repair.ensures.same.2 ∙ c.settle_other.ensures.same.2) left_l)
-      (subst (λ b. d.left_since (cond b after.current after.other) (d.clock (cond log.right log.current log.other)) r) (c.repair.ensures.same.2 ∙ c.settle_other.ensures.same.2) left_r)
+    (subst (λ b. d.left_since (cond b after.other after.current) (d.clock (cond log.right log.other log.current)) l) (c.repair.ensures.same.2 ∙ c.settle_other.ensures.same.2) left_l)
+    (subst (λ b. d.left_since (cond b after.current after.other) (d.clock (cond log.right log.current log.other)) r) (c.repair.ensures.same.2 ∙ c.settle_other.ensures.same.2) left_r)
 
 pub returns-clause-ok : goal.returns-clause-ok
 returns-clause-ok g c = on_ok c.append_at_rest.result c.append_at_rest.ensures.ok (λ done content rival stands.
@@ -103,7 +103,7 @@ returns-clause-any_moment g c = λ content rival stands l r left_l left_r.
     let log = c.args.self.now in
     let after = c.append_at_rest.new.self in
     by_sides d.tells d.clock d.leaves d.left_since d.content log.right after.current after.other log.current log.other
-      (λ found. MayBe content log.unsettled rival found ⊎ (found ≡ loaded (with_body content c.args.body.now))) (λ one two left_c left_o.
+    (λ found. MayBe content log.unsettled rival found ⊎ (found ≡ loaded (with_body content c.args.body.now))) (λ one two left_c left_o.
     let d = g.L.LogDisk in
     let log = c.args.self.now in
     let mid = c.settle_other.new.self in
@@ -126,5 +126,5 @@ returns-clause-any_moment g c = λ content rival stands l r left_l left_r.
     (pair_after d.tells d.clock d.leaves d.left_since d.content log content rival kept one two stands fits (moves.during one was_c).2
     ((c.settle_other.ensures.crash content rival stands).during two was_o).2)
     ) l r
-      (subst (λ b. d.left_since (cond b after.other after.current) (d.clock (cond log.right log.other log.current)) l) (c.append_at_rest.ensures.same.2 ∙ c.repair.ensures.same.2 ∙ c.settle_other.ensures.same.2) left_l)
-      (subst (λ b. d.left_since (cond b after.current after.other) (d.clock (cond log.right log.current log.other)) r) (c.append_at_rest.ensures.same.2 ∙ c.repair.ensures.same.2 ∙ c.settle_other.ensures.same.2) left_r)
+    (subst (λ b. d.left_since (cond b after.other after.current) (d.clock (cond log.right log.other log.current)) l) (c.append_at_rest.ensures.same.2 ∙ c.repair.ensures.same.2 ∙ c.settle_other.ensures.same.2) left_l)
+    (subst (λ b. d.left_since (cond b after.current after.other) (d.clock (cond log.right log.current log.other)) r) (c.append_at_rest.ensures.same.2 ∙ c.repair.ensures.same.2 ∙ c.settle_other.ensures.same.2) left_r)

@@ -13,7 +13,7 @@ pub returns-in_err-tail-clause-any_moment : goal.returns-in_err-tail-clause-any_
 returns-in_err-tail-clause-any_moment g c = λ rival empty l r left_l left_r.
     let log = c.args.self.now in
     empty_pair log.settled rival c.args.image.now l r empty.image c.requires.fits (empty.other r ((g.met.L.LogDisk g.world.𝓛 g.world.𝓜 g.world.𝓡 ((λ s x. x), (λ x. x), (λ x. x), λ x. x)).only_now log.other r empty.other_tells left_r))
-      (inl (empty_now log.settled (empty_test rival) l (empty.images l ((g.met.L.LogDisk g.world.𝓛 g.world.𝓜 g.world.𝓡 ((λ s x. x), (λ x. x), (λ x. x), λ x. x)).only_now log.current l empty.current_tells left_l))))
+    (inl (empty_now log.settled (empty_test rival) l (empty.images l ((g.met.L.LogDisk g.world.𝓛 g.world.𝓜 g.world.𝓡 ((λ s x. x), (λ x. x), (λ x. x), λ x. x)).only_now log.current l empty.current_tells left_l))))
 
 pub returns-in_err-clear_gate-clause-err : goal.returns-in_err-clear_gate-clause-err
 returns-in_err-clear_gate-clause-err g c = any_err c.from_residual-in_err-clear_gate.result (λ rival empty. inl (record {
@@ -28,7 +28,7 @@ pub returns-in_err-clear_gate-clause-any_moment : goal.returns-in_err-clear_gate
 returns-in_err-clear_gate-clause-any_moment g c = λ rival empty l r left_l left_r.
     let log = c.args.self.now in
     empty_pair log.settled rival c.args.image.now l r empty.image c.requires.fits (empty.other r ((g.met.L.LogDisk g.world.𝓛 g.world.𝓜 g.world.𝓡 ((λ s x. x), (λ x. x), (λ x. x), λ x. x)).only_now log.other r empty.other_tells left_r))
-      (inl ((c.clear_gate.ensures.crash [] (empty_test rival) refl empty.current_tells empty.images).during l left_l).2)
+    (inl ((c.clear_gate.ensures.crash [] (empty_test rival) refl empty.current_tells empty.images).during l left_l).2)
 
 pub returns-in_err-write_behind_gate-clause-err : goal.returns-in_err-write_behind_gate-clause-err
 returns-in_err-write_behind_gate-clause-err g c = any_err c.from_residual-in_err-write_behind_gate.result (λ rival empty.
@@ -53,10 +53,10 @@ returns-in_err-write_behind_gate-clause-any_moment g c = λ rival empty l r left
     let rest = c.in_ok-clear_gate.ensures.rest [] test refl empty.current_tells empty.images in
     let tail_is : c.deref.result.now ≡ checkpoint_text 1 c.args.image.now ++ 0 ∷ [] = c.deref.ensures.value ∙ c.in_ok-tail.ensures in
     let moves = joined d.clock d.leaves d.left_since log.current c.clear_gate.new.disk c.write_behind_gate.new.disk (λ e f. GateWas log.settled [] test f) (λ e f. Guarded [] f ⊎ Staged [] (equals c.deref.result.now) f)
-        (λ e f. GateWas log.settled [] test f ⊎ GateWas false [] (empty_test (Some c.args.image.now)) f)
-        (λ e f left was. inl was)
-        (λ e f i left then was by. inr (subst (λ (t : List ℕ). Guarded [] i ⊎ Staged [] (equals t) i) tail_is by))
-        (c.clear_gate.ensures.crash [] test refl empty.current_tells empty.images) (c.write_behind_gate.ensures.crash [] refl tells rest) in
+    (λ e f. GateWas log.settled [] test f ⊎ GateWas false [] (empty_test (Some c.args.image.now)) f)
+    (λ e f left was. inl was)
+    (λ e f i left then was by. inr (subst (λ (t : List ℕ). Guarded [] i ⊎ Staged [] (equals t) i) tail_is by))
+    (c.clear_gate.ensures.crash [] test refl empty.current_tells empty.images) (c.write_behind_gate.ensures.crash [] refl tells rest) in
     empty_pair log.settled rival c.args.image.now l r empty.image c.requires.fits (empty.other r ((g.met.L.LogDisk g.world.𝓛 g.world.𝓜 g.world.𝓡 ((λ s x. x), (λ x. x), (λ x. x), λ x. x)).only_now log.other r empty.other_tells left_r)) (moves.during l left_l).2
 
 pub returns-clause-any_moment : goal.returns-clause-any_moment
@@ -68,10 +68,10 @@ returns-clause-any_moment g c = λ rival empty l r left_l left_r.
     let rest = c.in_ok-clear_gate.ensures.rest [] test refl empty.current_tells empty.images in
     let tail_is : c.deref.result.now ≡ checkpoint_text 1 c.args.image.now ++ 0 ∷ [] = c.deref.ensures.value ∙ c.in_ok-tail.ensures in
     let moves = joined d.clock d.leaves d.left_since log.current c.clear_gate.new.disk c.write_behind_gate.new.disk (λ e f. GateWas log.settled [] test f) (λ e f. Guarded [] f ⊎ Staged [] (equals c.deref.result.now) f)
-        (λ e f. GateWas log.settled [] test f ⊎ GateWas false [] (empty_test (Some c.args.image.now)) f)
-        (λ e f left was. inl was)
-        (λ e f i left then was by. inr (subst (λ (t : List ℕ). Guarded [] i ⊎ Staged [] (equals t) i) tail_is by))
-        (c.clear_gate.ensures.crash [] test refl empty.current_tells empty.images) (c.write_behind_gate.ensures.crash [] refl tells rest) in
+    (λ e f. GateWas log.settled [] test f ⊎ GateWas false [] (empty_test (Some c.args.image.now)) f)
+    (λ e f left was. inl was)
+    (λ e f i left then was by. inr (subst (λ (t : List ℕ). Guarded [] i ⊎ Staged [] (equals t) i) tail_is by))
+    (c.clear_gate.ensures.crash [] test refl empty.current_tells empty.images) (c.write_behind_gate.ensures.crash [] refl tells rest) in
     empty_pair log.settled rival c.args.image.now l r empty.image c.requires.fits (empty.other r ((g.met.L.LogDisk g.world.𝓛 g.world.𝓜 g.world.𝓡 ((λ s x. x), (λ x. x), (λ x. x), λ x. x)).only_now log.other r empty.other_tells left_r)) (moves.during l left_l).2
 
 pub returns-clause-ok : goal.returns-clause-ok
