@@ -1,3 +1,4 @@
+pub mod EachLaws
 pub mod FileReplies
 pub mod Files
 pub mod Key
@@ -5,6 +6,7 @@ pub mod KeyLaws
 pub mod KeyMap
 pub mod KeyMapLaws
 pub mod Layout
+pub mod ListLaws
 pub mod Mask
 pub mod NameTree
 pub mod NumberSet
@@ -13,8 +15,10 @@ pub mod Order
 pub mod Outcome
 pub mod Path
 pub mod Recipe
+pub mod Reserved
 pub mod Rules
 pub mod Shape
 pub mod Sizes
 pub mod Table
+pub mod Taken
 pub mod Turns

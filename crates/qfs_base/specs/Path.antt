@@ -13,7 +13,9 @@ IsNameByte byte = (33 ≤ byte) × (byte ≤ 126) × (byte ≢ slash)
 
 -- a name has 1 to 255 bytes, and is neither `.` nor `..`
 abbrev pub IsName : List ℕ → Type 0
-IsName name = (1 ≤ length name) × (length name ≤ 255) × All IsNameByte name × (name ≢ codes ".") × (name ≢ codes "..")
+IsName name =
+    (1 ≤ length name) × (length name ≤ 255) × All IsNameByte name
+    × (name ≢ codes ".") × (name ≢ codes "..")
 
 -- a path has at most 32 names
 abbrev pub IsPath : List (List ℕ) → Type 0
@@ -32,6 +34,10 @@ path_text (name ∷ names) = names_text (name ∷ names)
 abbrev pub SpellsPath : List ℕ → List (List ℕ) → Type 0
 SpellsPath text names = IsPath names × (path_text names ≡ text)
 
+-- whatever path the text spells was found
+abbrev pub FindsSpelled : List ℕ → Option (List (List ℕ)) → Type 0
+FindsSpelled text found = (names : List (List ℕ)) → SpellsPath text names → found ≡ Some names
+
 abbrev pub is_slash : ℕ → Bool
 is_slash byte = byte == slash
 
@@ -41,7 +47,10 @@ split_names text = slice_split is_slash text
 
 -- the names that were found are those of the text, or they are no path
 abbrev pub FindsNames : List ℕ → Option (List (List ℕ)) → Type 0
-FindsNames text found = MatchOption found (IsPath (split_names text) → ⊥) (λ path. IsPath path × (path ≡ split_names text))
+FindsNames text found =
+    MatchOption found
+    (IsPath (split_names text) → ⊥)
+    (λ path. IsPath path × (path ≡ split_names text))
 
 -- the names that are left: none, where no text is left
 abbrev pub names_left : Option (Bor (List ℕ)) → List (List ℕ)

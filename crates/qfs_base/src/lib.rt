@@ -19,6 +19,7 @@ pub mod path;
 pub mod recipe;
 pub mod reply;
 pub mod request;
+pub mod reserved;
 pub mod rules;
 pub mod script;
 pub mod server_set;

@@ -1,11 +1,12 @@
 //! The list type of every message and record: a `Vec` that contracts see as the list of its
 //! items.
-ghost use Rattle.std.specs.Prelude.{◌≡◌, ◌-◌, ◌<◌, ◌≤◌, ◌^◌, [], ◌∷◌, ◌++◌, length, take, insert, remove, slice_get, slice_set, ◌↔◌, IsTrue, IfOk, OnOk, OnErr, OnSome, MatchOption};
+ghost use Rattle.std.specs.Prelude.{◌≡◌, ◌-◌, ◌<◌, ◌≤◌, ◌^◌, [], ◌∷◌, ◌++◌, length, take, insert, remove, slice_get, slice_set, ◌↔◌, IsTrue, IfOk, OnOk, OnErr, OnSome};
 ghost use Rattle.std.specs.List.{AllZip};
 ghost use Rattle.std.specs.Option.{option_copied};
 ghost use Rattle.std.specs.Iterator.Adapters.{IterYieldsInOrder};
 ghost use Rattle.std.specs.Iterator.Runs.{EveryRun, ItemsMapTo};
 ghost use Rattle.std.specs.Slice.Iter.{iter_rest, iter_steps};
+ghost use Rattle.qfs_base.specs.Taken.{TakesLast};
 
 use std::alloc::{AllocError, Global};
 use std::marker::Model;
@@ -122,7 +123,7 @@ impl<T> Listing<T> {
 
     /// Takes the last item off, or gives None where the list is empty.
     pub fn pop(&mut self) -> Option<T>
-        ensures { MatchOption result ((self.old ≡ []) × (self.new ≡ [])) (λ last. self.old ≡ self.new ++ last ∷ []) }
+        ensures { TakesLast result self.old self.new }
     {
         self.items.pop()
     }
@@ -215,7 +216,8 @@ impl<'a, T> IntoIterator for &'a Listing<T> {
 
     type IntoIter = slice::Iter<'a, T>;
 
-    ghost into_iter_gives = { λ it iter. (iter_rest iter ≡ it.now) × (length (iter_rest iter) < 2 ^ 64)
+    ghost into_iter_gives = { λ it iter. (iter_rest iter ≡ it.now)
+        × (length (iter_rest iter) < 2 ^ 64)
         × EveryRun (iter_steps {A = T}) (λ p. ItemsMapTo p (λ x. x.now) (iter_rest p.from)) };
 
     fn into_iter(self) -> slice::Iter<'a, T> {

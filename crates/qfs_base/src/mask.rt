@@ -26,7 +26,8 @@ impl Model for Mask {
 
     ghost inverse = { λ slots. record { bits = bits_of_slots slots } };
 
-    ghost inverse_ok = { λ m within i. record { bits = bits_of_slots-slots_of_bits m.bits within i } };
+    ghost inverse_ok = { λ m within i.
+        record { bits = bits_of_slots-slots_of_bits m.bits within i } };
 }
 
 impl Mask {

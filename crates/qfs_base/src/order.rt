@@ -1,11 +1,10 @@
 //! The one order in which the steps of a run were taken.
 
-ghost use Rattle.std.specs.Prelude.{◌≡◌, ◌<◌, ◌≤◌, ◌-◌, [], ◌∷◌, ◌++◌, length, take, replicate, IsTrue, ◌↔◌, IfSome, OnOk, OnErr};
-ghost use Rattle.qfs_base.specs.Order.{all_steps, steps_of_runs, IsFront, LengthensLast};
+ghost use Rattle.std.specs.Prelude.{◌≡◌, ◌<◌, ◌≤◌, ◌-◌, [], ◌∷◌, ◌++◌, length, take, replicate, IsTrue, ◌↔◌, MatchOption, OnOk, OnErr};
+ghost use Rattle.qfs_base.specs.Order.{all_steps, run_steps, steps_of_runs, AreRuns, EndsApart, IsFront, LengthensLast};
 
 use crate::history::Step;
 use crate::listing::Listing;
-use crate::sizes::LONGEST_RUN;
 use std::alloc::{AllocError, Global};
 use std::marker::Model;
 
@@ -16,8 +15,9 @@ pub struct StepRun {
     pub count: u32,
 }
 
-/// The order of steps. It is kept by its runs of equal steps, so that a run takes no more memory
-/// than its text; contracts see the list of its steps.
+/// The order of steps. It is kept by its runs of equal steps, so that it takes memory by its runs
+/// and not by its steps: no run but the last step goes on the one before it, unless both together
+/// would be longer than a run can be. Contracts see the list of its steps.
 #[derive(Drop)]
 pub struct Order {
     /// All steps but the last.
@@ -33,11 +33,11 @@ impl Model for Order {
     ghost Value = { List Step };
 
     ghost use Rattle.std.specs.Prelude.{◌≡◌, None, []};
-    ghost use Rattle.qfs_base.specs.Order.{all_steps};
+    ghost use Rattle.qfs_base.specs.Order.{all_steps, AreRuns};
 
     ghost view = { λ it. all_steps it.runs it.last };
 
-    ghost invariant = { λ it. it.last ≡ None → it.runs ≡ [] };
+    ghost invariant = { λ it. (it.last ≡ None → it.runs ≡ []) × AreRuns it.runs };
 }
 
 impl Order {
@@ -60,7 +60,8 @@ impl Order {
 
     /// The runs of all steps but the last, and the last step.
     pub fn parts(&self) -> (&[StepRun], Option<Step>)
-        ensures { all_steps result.0.now result.1 ≡ self.now }
+        ensures steps { all_steps result.0.now result.1 ≡ self.now }
+        ensures few { AreRuns result.0.now }
     {
         (self.runs.as_slice(), self.last)
     }
@@ -84,7 +85,16 @@ impl Order {
     {
         settle(&mut self.runs, self.last)?;
         self.last = Some(step);
-        push_others(&mut self.runs, step, count)
+        if count == 1 {
+            return Ok(());
+        }
+        push_steps(
+            &mut self.runs,
+            StepRun {
+                step,
+                count: count - 1,
+            },
+        )
     }
 
     /// Writes another step in place of the last one. It takes no memory.
@@ -99,51 +109,44 @@ impl Order {
 
 /// Puts the last step behind the runs of the others, if there is one. On want of memory they stay.
 fn settle(runs: &mut Listing<StepRun>, last: Option<Step>) -> Result<(), AllocError>
+    requires few { AreRuns runs.old }
     ensures ok { OnOk result (steps_of_runs runs.new ≡ all_steps runs.old last) }
+    ensures few { AreRuns runs.new }
     ensures err { OnErr result (runs.new ≡ runs.old) }
 {
     match last {
-        Some(step) => push_behind(runs, step),
+        Some(step) => push_steps(runs, StepRun { step, count: 1 }),
         None => Ok(()),
     }
 }
 
-/// Puts all but the last of `count` steps behind these runs. On want of memory they stay.
-fn push_others(runs: &mut Listing<StepRun>, step: Step, count: u32) -> Result<(), AllocError>
-    requires { 1 ≤ count }
-    ensures ok { OnOk result (steps_of_runs runs.new ++ step ∷ [] ≡ steps_of_runs runs.old ++ replicate count step) }
-    ensures err { OnErr result (runs.new ≡ runs.old) }
-{
-    if count == 1 {
-        return Ok(());
-    }
-    runs.push(StepRun {
-        step,
-        count: count - 1,
-    })
-}
-
-/// How long the last of these runs is with this step behind it, or None where the step doesn't go
-/// on that run.
-fn longer(runs: &Listing<StepRun>, step: Step) -> Option<u32>
-    ensures { IfSome result (LengthensLast runs.now step) }
+/// How long the last of these runs is with these steps behind it, or None where they don't go on
+/// that run.
+fn longer(runs: &Listing<StepRun>, more: StepRun) -> Option<u32>
+    ensures { MatchOption result (EndsApart runs.now more) (LengthensLast runs.now more) }
 {
     match runs.last() {
-        Some(run) if run.step == step && run.count < LONGEST_RUN => Some(run.count + 1),
+        Some(run) if run.step == more.step => run.count.checked_add(more.count),
         _ => None,
     }
 }
 
-/// Puts a step behind these runs. On want of memory they stay.
-fn push_behind(runs: &mut Listing<StepRun>, step: Step) -> Result<(), AllocError>
-    ensures ok { OnOk result (steps_of_runs runs.new ≡ steps_of_runs runs.old ++ step ∷ []) }
+/// Puts some steps behind these runs. On want of memory they stay.
+fn push_steps(runs: &mut Listing<StepRun>, more: StepRun) -> Result<(), AllocError>
+    requires some { 1 ≤ more.count }
+    requires few { AreRuns runs.old }
+    ensures ok { OnOk result (steps_of_runs runs.new ≡ steps_of_runs runs.old ++ run_steps more) }
+    ensures few { AreRuns runs.new }
     ensures err { OnErr result (runs.new ≡ runs.old) }
 {
-    match longer(runs, step) {
+    match longer(runs, more) {
         Some(count) => {
-            runs.set_last(StepRun { step, count });
+            runs.set_last(StepRun {
+                step: more.step,
+                count,
+            });
             Ok(())
         }
-        None => runs.push(StepRun { step, count: 1 }),
+        None => runs.push(more),
     }
 }

@@ -1,7 +1,7 @@
 //! The paths of the tree, and their text.
 
 ghost use Rattle.std.specs.Prelude.{◌≡◌, ℕ, ◌<◌, ◌∷◌, ◌++◌, [], List, length, IsTrue, ◌↔◌, position, IfSome, IfOk, OnOk, OnErr};
-ghost use Rattle.qfs_base.specs.Path.{IsName, SpellsPath, FindsNames, slash, is_slash, path_text, names_text, split_names, names_left};
+ghost use Rattle.qfs_base.specs.Path.{IsName, SpellsPath, FindsSpelled, FindsNames, slash, is_slash, path_text, names_text, split_names, names_left};
 
 use crate::listing::Listing;
 use std::alloc::{AllocError, Global};
@@ -78,8 +78,8 @@ fn print_names(names: &[Listing<u8>], out: &mut Vec<u8>) -> Result<(), AllocErro
 /// times a slash and a name; a name has 1 to 255 bytes from 0x21 to 0x7E without a slash, and is
 /// neither `.` nor `..`.
 pub fn path_from(alloc: Global, text: &[u8]) -> Result<Option<Path>, AllocError>
-    ensures found { IfOk result (λ found. IfSome found (λ path. SpellsPath text.now path)) }
-    ensures only { IfOk result (λ found. (names : List (List ℕ)) → SpellsPath text.now names → found ≡ Some names) }
+    ensures found { IfOk result (λ found. IfSome found (SpellsPath text.now)) }
+    ensures only { IfOk result (FindsSpelled text.now) }
 {
     match text {
         [b'/', below @ ..] => path_below(alloc, below),
@@ -89,8 +89,8 @@ pub fn path_from(alloc: Global, text: &[u8]) -> Result<Option<Path>, AllocError>
 
 /// The path whose text is a slash and these bytes, or None where that is no path.
 fn path_below(alloc: Global, below: &[u8]) -> Result<Option<Path>, AllocError>
-    ensures found { IfOk result (λ found. IfSome found (λ path. SpellsPath (slash ∷ below.now) path)) }
-    ensures only { IfOk result (λ found. (names : List (List ℕ)) → SpellsPath (slash ∷ below.now) names → found ≡ Some names) }
+    ensures found { IfOk result (λ found. IfSome found (SpellsPath (slash ∷ below.now))) }
+    ensures only { IfOk result (FindsSpelled (slash ∷ below.now)) }
 {
     if below.is_empty() {
         let names = Listing::new(alloc);

@@ -1,9 +1,10 @@
 //! Sets of chunk servers, in one word.
-ghost use Rattle.std.specs.Prelude.{◌≡◌, ◌≤◌, [], ◌∷◌, nat_eq, MatchOption};
+ghost use Rattle.std.specs.Prelude.{◌≡◌, ◌≤◌, [], ◌∷◌, nat_eq};
 ghost use Rattle.std.specs.Cmp.{partial_equiv_from_equiv};
 ghost use Rattle.std.specs.Cmp.Lexicographic.{pointwise, nat_list_eq_equiv};
 ghost use Rattle.std.specs.Iterator.{YieldsFirst, item_count};
 ghost use Rattle.qfs_base.specs.NumberSet.{has, with_member};
+ghost use Rattle.qfs_base.specs.Taken.{TakesFirst};
 
 use crate::numbers::ServerId;
 use std::alloc::AllocError;
@@ -29,7 +30,8 @@ impl Model for ServerSet {
 
     ghost inverse = { λ members. record { bits = bits_of_members 1 members } };
 
-    ghost inverse_ok = { λ s fits i. record { bits = bits_of_members-members_of_bits 1 64 s.bits fits i } };
+    ghost inverse_ok = { λ s fits i.
+        record { bits = bits_of_members-members_of_bits 1 64 s.bits fits i } };
 }
 
 impl Clone for ServerSet {
@@ -114,7 +116,7 @@ impl Model for Servers {
 impl Servers {
     // Takes the least server off.
     fn take_least(&mut self) -> Option<ServerId>
-        ensures { MatchOption result ((self.old ≡ []) × (self.new ≡ [])) (λ least. self.old ≡ least ∷ self.new) }
+        ensures { TakesFirst result self.old self.new }
     {
         let left = self.left;
         if left == 0 {

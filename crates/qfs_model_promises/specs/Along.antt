@@ -31,7 +31,7 @@ use Rattle.qfs_model_meta.specs.Sound.{same_lease}
 use Rattle.qfs_model_meta.specs.TreeRows.{has_file, closed_file, unclosed_file, is_closed_row}
 use Rattle.qfs_model_world.specs.Events.{Event, past_of}
 use Rattle.qfs_model_world.specs.World.{World}
-use Rattle.qfs_model_promises.specs.Heard.{Exchange, Holding, exchanges_of, holding_of, is_grant_of}
+use Rattle.qfs_model_promises.specs.Heard.{Exchange, Holding, exchanges_of, holding_of, is_same_slot}
 use Rattle.qfs_model_promises.specs.HeardSteps.{HeardAreSteps}
 
 -- ---- the slots of the state
@@ -98,7 +98,7 @@ pub record SlotsFit (rules : Rules) (m : MetaImage) : Type 0 where
 
 -- whether a grant that was heard is that of a slot
 unfoldable pub is_of_row : SlotRow → Granted → Bool
-is_of_row row g = is_grant_of (record g { block = row.block; slot = row.slot }) g
+is_of_row row g = is_same_slot (record g { block = row.block; slot = row.slot }) g
 
 unfoldable pub server_told : Granted → Bool → Option ℕ
 server_told g true = Some g.server

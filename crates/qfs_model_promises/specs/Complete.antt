@@ -36,7 +36,7 @@ use Rattle.qfs_model_world.specs.Puts.{command_of}
 use Rattle.qfs_model_world.specs.Reports.{report_of}
 use Rattle.qfs_model_world.specs.World.{after}
 use Rattle.qfs_model_promises.specs.Requests.{is_put, is_fetch, is_create, is_grant, is_confirm, asks_meta, asks_chunk}
-use Rattle.qfs_model_promises.specs.TooFew.{IsRecovery, listed_at}
+use Rattle.qfs_model_promises.specs.TooFew.{IsRecovery, copy_listed}
 
 -- a step found its memory, no device or disk failed in it, and its actor hadn't been dropped
 pub record GoesWell (event : Event) : Type 0 where
@@ -108,7 +108,7 @@ answers_fetches block slot own (Some copy) = list_all (fetches_well block slot) 
 -- six listed slots did
 abbrev pub SixAnswer : List Event → Granted → Type 0
 SixAnswer own g =
-    DATA_SLOTS ≤ count_by (λ slot. answers_fetches g.block slot own (listed_at g.sources slot)) all_slots
+    DATA_SLOTS ≤ count_by (λ slot. answers_fetches g.block slot own (copy_listed g.sources slot)) all_slots
 
 abbrev pub RecoveriesEnd : Script → List Step → Type 0
 RecoveriesEnd script order =

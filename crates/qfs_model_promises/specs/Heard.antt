@@ -43,29 +43,29 @@ abbrev pub holds_nothing : Holding
 holds_nothing = record { file = None; lease = None; grants = [] }
 
 -- whether two grants are of one slot
-unfoldable pub is_grant_of : Granted → Granted → Bool
-is_grant_of a b = same_block a.block b.block && (a.slot == b.slot)
+unfoldable pub is_same_slot : Granted → Granted → Bool
+is_same_slot a b = same_block a.block b.block && (a.slot == b.slot)
 
 -- a grant takes the place of one for its slot
 unfoldable pub with_grant_held : Granted → Holding → Holding
 with_grant_held g holding =
-    record holding { grants = filter (λ (other : Granted). not (is_grant_of g other)) holding.grants ++ g ∷ [] }
+    record holding { grants = filter (λ (other : Granted). not (is_same_slot g other)) holding.grants ++ g ∷ [] }
 
 -- a lease takes the place of the one before
-abbrev pub with_lease : ℕ → ℕ → ℕ → Holding → Holding
-with_lease lease actor file holding =
+abbrev pub with_lease_held : ℕ → ℕ → ℕ → Holding → Holding
+with_lease_held lease actor file holding =
     record holding { lease = Some (record { lease = lease; actor = actor; file = file }) }
 
 -- the lease of a grant, unless it is one of a put, which has none
 unfoldable pub with_lease_of : ℕ → Granted → Holding → Bool → Holding
 with_lease_of actor g holding true = holding
-with_lease_of actor g holding false = with_lease g.lease actor g.block.file holding
+with_lease_of actor g holding false = with_lease_held g.lease actor g.block.file holding
 
 -- what is held after a reply of the metaserver that gives something
 unfoldable pub taken_up : ℕ → Holding → MetaReply → Holding
 taken_up actor holding (Told.Created file place) = record holding { file = Some file }
 taken_up actor holding (Told.Granted g) = with_lease_of actor g (with_grant_held g holding) (is_of_put g)
-taken_up actor holding (Told.Opened o) = with_lease o.lease actor o.file holding
+taken_up actor holding (Told.Opened o) = with_lease_held o.lease actor o.file holding
 taken_up actor holding reply = holding
 
 -- whether a reply says that it is done, that a lease is no more, or that a grant was settled

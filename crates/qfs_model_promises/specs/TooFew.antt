@@ -68,21 +68,21 @@ cause_met block slot own None = Some Because.Unlisted
 cause_met block slot own (Some copy) = cause_fetched block slot own
 
 -- the copy that is listed of a slot, if one is
-abbrev pub listed_at : NineCopies → ℕ → Option Copy
-listed_at nine slot = unwrap_or (slice_get nine slot) None
+abbrev pub copy_listed : NineCopies → ℕ → Option Copy
+copy_listed nine slot = unwrap_or (slice_get nine slot) None
 
 -- a slot with its cause, if it has one
-unfoldable pub slot_cause : BlockId → NineCopies → List Event → ℕ → Option SlotCause
-slot_cause block nine own slot =
-    option_map (λ cause. record { slot = slot; cause = cause }) (cause_met block slot own (listed_at nine slot))
+unfoldable pub slot_with_cause : BlockId → NineCopies → List Event → ℕ → Option SlotCause
+slot_with_cause block nine own slot =
+    option_map (λ cause. record { slot = slot; cause = cause }) (cause_met block slot own (copy_listed nine slot))
 
 -- each slot of a block that can't be read, in order, with its cause
 unfoldable pub causes_met : BlockId → NineCopies → List Event → List SlotCause
-causes_met block nine own = filter_map (slot_cause block nine own) all_slots
+causes_met block nine own = filter_map (slot_with_cause block nine own) all_slots
 
 -- whether fewer than six slots are left
-unfoldable pub are_too_few : List SlotCause → Bool
-are_too_few causes = nat_lt (SLOTS - DATA_SLOTS) (length causes)
+unfoldable pub leave_too_few : List SlotCause → Bool
+leave_too_few causes = nat_lt (SLOTS - DATA_SLOTS) (length causes)
 
 -- ---- gets
 
@@ -93,7 +93,7 @@ causes_of_block o attempt index =
 
 -- whether an attempt found too few slots of a block
 unfoldable pub finds_too_few : Opened → List Event → ℕ → Bool
-finds_too_few o attempt index = are_too_few (causes_of_block o attempt index)
+finds_too_few o attempt index = leave_too_few (causes_of_block o attempt index)
 
 -- of the blocks of a range this is the first of which an attempt found too few slots, for these causes
 pub record IsFirstTooFew (blocks : List ℕ) (o : Opened) (attempt : List Event) (index : ℕ) (causes : List SlotCause) : Type 0 where
@@ -103,12 +103,12 @@ pub record IsFirstTooFew (blocks : List ℕ) (o : Opened) (attempt : List Event)
   pub first : Each (λ k. k < index → finds_too_few o attempt k ≡ false) blocks
 
 -- whether a step opened a file, and how many of these did
-unfoldable pub was_opened : MetaReply → Bool
-was_opened (Told.Opened o) = true
-was_opened reply = false
+unfoldable pub tells_opened : MetaReply → Bool
+tells_opened (Told.Opened o) = true
+tells_opened reply = false
 
 unfoldable pub is_opened : NodeReply → Bool
-is_opened (From.Meta reply) = was_opened reply
+is_opened (From.Meta reply) = tells_opened reply
 is_opened (From.Chunk reply) = false
 
 unfoldable pub attempts_made : List Event → ℕ
@@ -121,28 +121,25 @@ pub record IsGet (script : Script) (order : List Step) (actor number : ℕ) (ran
   pub ended : report_of (after script order) actor number ≡ Some report
 
 module _ (script : Script) (order : List Step) (actor number : ℕ) (range : Option Range) where
-  abbrev pub steps : List Event
-  steps = events script order
-
   -- the blocks of the range of a file that was opened
   abbrev pub wanted : Opened → List ℕ
   wanted o = blocks_of_range script.layout (range_of range) o.len
 
   -- as many attempts were made as may be, and each found too few slots of a block
   pub record TriedAll : Type 0 where
-    pub tries : attempts_made (steps_of actor number steps) ≡ tries_of script
-    pub each : (i j : ℕ) (o : Opened) → IsOpening steps actor number i j o
-        → IsTrue (list_any (finds_too_few o (steps_within actor number i j steps)) (wanted o))
+    pub tries : attempts_made (steps_of actor number (events script order)) ≡ tries_of script
+    pub each : (i j : ℕ) (o : Opened) → IsOpening (events script order) actor number i j o
+        → IsTrue (list_any (finds_too_few o (steps_within actor number i j (events script order))) (wanted o))
 
   -- the last of them opened its file at this place, and found this block first, for these causes
   pub record LastFound (place index : ℕ) (causes : List SlotCause) : Type 0 where
     pub i : ℕ
     pub j : ℕ
     pub o : Opened
-    pub opening : IsOpening steps actor number i j o
-    pub is_last : IsLastOpening steps actor number j
+    pub opening : IsOpening (events script order) actor number i j o
+    pub is_last : IsLastOpening (events script order) actor number j
     pub place_is : place ≡ o.place
-    pub first : IsFirstTooFew (wanted o) o (steps_within actor number i j steps) index causes
+    pub first : IsFirstTooFew (wanted o) o (steps_within actor number i j (events script order)) index causes
 
 -- a get replies that there are too few exactly where each of its attempts found too few, with what the last one found
 pub record TooFewInGets (script : Script) (order : List Step) : Type 0 where
@@ -183,9 +180,9 @@ pub record TooFewInRecoveries (script : Script) (order : List Step) : Type 0 whe
       × IsRecovery script order actor number g (Says.TooFew index causes)
       × (index ≡ g.block.index)
       × (causes ≡ causes_in_recovery g (steps_of actor number (events script order)))
-      × IsTrue (are_too_few causes)
+      × IsTrue (leave_too_few causes)
   pub tells : (actor number : ℕ) (g : Granted) (report : Report)
       → IsRecovery script order actor number g report
-      → IsTrue (are_too_few (causes_in_recovery g (steps_of actor number (events script order))))
+      → IsTrue (leave_too_few (causes_in_recovery g (steps_of actor number (events script order))))
       → IsClosedWell (steps_of actor number (events script order))
       → report ≡ Says.TooFew g.block.index (causes_in_recovery g (steps_of actor number (events script order)))

@@ -42,28 +42,25 @@ unfoldable pub steps_between : ℕ → ℕ → List Event → List Event
 steps_between i j steps = take (j - (i + 1)) (drop (i + 1) steps)
 
 module _ (script : Script) (order : List Step) where
-  abbrev pub all_steps : List Event
-  all_steps = events script order
-
   -- an attempt of a get, of an actor that isn't dropped before its release, finds too few copies of a block of its range that
   -- is held in it: then something was taken away meanwhile
   abbrev pub AttemptsFailForCause : Type 0
   AttemptsFailForCause =
       (actor number i j index : ℕ) (o : Opened) (path : PathNames) (range : Option Range)
       → command_of script actor number ≡ Some (Does.File (File.Get path range))
-      → IsOpening all_steps actor number i j o
-      → IsThereAt all_steps actor j
+      → IsOpening (events script order) actor number i j o
+      → IsThereAt (events script order) actor j
       → IsTrue (list_any (λ k. k == index) (wanted script order actor number range o))
-      → IsTrue (is_held all_steps actor number i j o index)
-      → IsTrue (finds_too_few o (steps_within actor number i j all_steps) index)
-      → IsTrue (list_any (λ (event : Event). takes_away event.reply) (steps_between i j all_steps))
+      → IsTrue (is_held (events script order) actor number i j o index)
+      → IsTrue (finds_too_few o (steps_within actor number i j (events script order)) index)
+      → IsTrue (list_any (λ (event : Event). takes_away event.reply) (steps_between i j (events script order)))
 
   -- a get makes no more attempts than it may
   abbrev pub AttemptsAreFew : Type 0
   AttemptsAreFew =
       (actor number : ℕ) (path : PathNames) (range : Option Range)
       → command_of script actor number ≡ Some (Does.File (File.Get path range))
-      → attempts_made (steps_of actor number all_steps) ≤ tries_of script
+      → attempts_made (steps_of actor number (events script order)) ≤ tries_of script
 
 -- both. So a get whose blocks are held in each attempt reads in the last one, as every get does that is served well
 pub record TriesSuffice (script : Script) (order : List Step) : Type 0 where

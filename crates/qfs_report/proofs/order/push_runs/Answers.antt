@@ -24,5 +24,5 @@ returns c =
     (λ told. told
     ∙ ap (λ steps. c.loop-run.out.items ++ more_words (words_to_come c.loop-run.pending steps)) (last_left all c.loop-run.run-index last c.loop-run-test.false)
     ∙ c.loop-run.invariant.told
-    ∙ ap (λ steps. c.args.out.now.items ++ more_words (runs steps)) c.parts-last.ensures)
+    ∙ ap (λ steps. c.args.out.now.items ++ more_words (runs steps)) c.parts-last.ensures.steps)
     c.push_last.ensures
