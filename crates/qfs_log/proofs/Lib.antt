@@ -7,3 +7,4 @@ pub mod Logs
 pub mod Read
 pub mod Opening
 pub mod Load
+pub mod Spells

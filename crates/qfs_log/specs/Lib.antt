@@ -1,3 +1,4 @@
 pub mod Gates
 pub mod Found
 pub mod Log
+pub mod Spells

@@ -4,5 +4,7 @@
 
 mod gate;
 mod log;
+mod spelled;
 
 pub use log::Log;
+pub use spelled::contents_are_spelled;
