@@ -2,7 +2,7 @@
 use Rattle.std.proofs.Common.{◌≡◌, Option, Some, sym, ◌∙◌}
 use Rattle.qfs_device.specs.Held.{Held, new_device}
 use Rattle.qfs_device.specs.declared.memory_device.MapDevice.{MapDevice}
-use Rattle.qfs_world.specs.Calls.{IsNew}
+use Rattle.qfs_nodes.specs.Nodes.{IsNew}
 
 -- what a device in memory tells that it holds
 abbrev pub told_by : {F : Type 0} → MapDevice F → Option Held

@@ -3,7 +3,7 @@
 #![tactic(auto)]
 
 ghost use Rattle.std.specs.Prelude.{All, IfOk};
-ghost use Rattle.qfs_world.specs.Calls.{IsNew};
+ghost use Rattle.qfs_nodes.specs.Nodes.{IsNew};
 
 use qfs_device::{ChunkDevice, MetaDisks, NoGate, StdSink, StdSource, SureDevice, SureDisk};
 use qfs_driver::top;

@@ -10,7 +10,7 @@ use Rattle.qfs_base.specs.declared.command.Command.{Command}
 use Rattle.qfs_base.specs.declared.command.Command.TheVariants as Does
 use Rattle.qfs_base.specs.declared.command.FileCommand.TheVariants as File
 use Rattle.qfs_base.specs.declared.reply.NodeReply.{NodeReply}
-use Rattle.qfs_machine.specs.Asking.{MayAsk}
+use Rattle.qfs_machine.specs.Asking.{MayHandOut}
 use Rattle.qfs_machine.specs.declared.machine.Readiness.{Readiness}
 use Rattle.qfs_machine.specs.declared.machine.Readiness.TheVariants.{Unready, Ready, Out}
 use Rattle.qfs_model_actor.specs.Actor.{Actor, starting, work_left, request_of, node_of, moved_on, after_reply}
@@ -21,8 +21,8 @@ use Rattle.qfs_model_actor.specs.Hold.{ask_or}
 use Rattle.qfs_model_actor.specs.Put.{put_work}
 use Rattle.qfs_model_actor.specs.Shown.{kept_report, lines_from}
 use Rattle.qfs_model_actor.specs.Work.{Report, Work, ends, asks, goes_on, follow, request_in, node_of_request}
-use Rattle.qfs_actor.specs.State.{readiness_in, HasTaken, IsOf}
-use Rattle.qfs_actor.specs.CommandMachine.{rest_of, readiness_of}
+use Rattle.qfs_actor.specs.State.{commands_of, first_work, readiness_in, AddsLine, AsksIn, HasTaken, IsOf, IsReadyIn, MayHandOutIn}
+use Rattle.qfs_actor.specs.CommandMachine.{rest_of_machine, readiness_of}
 use Rattle.qfs_actor.specs.Forms.{IsBuilt}
 use Rattle.qfs_actor.specs.Standing.{CanAskAs}
 use Rattle.qfs_actor.specs.declared.state.ActorState.{ActorState}
@@ -124,58 +124,58 @@ has_command actor work left = found (slice_get actor.commands (length actor.ende
 -- ---- what is kept, and the next request
 
 pub request_of-state : (actor : Actor) (state : ActorState) → IsOf actor state
-    → request_of actor ≡ option_and_then request_in (option_map rest_of state.machine)
+    → request_of actor ≡ option_and_then request_in (option_map rest_of_machine state.machine)
 unfolding request_of
 request_of-state actor state of = ap (λ left. option_and_then request_in left) (sym of.machine)
 
 pub node_of-state : (actor : Actor) (state : ActorState) → IsOf actor state
-    → node_of actor ≡ option_map node_of_request (option_and_then request_in (option_map rest_of state.machine))
+    → node_of actor ≡ option_map node_of_request (option_and_then request_in (option_map rest_of_machine state.machine))
 unfolding node_of
 node_of-state actor state of = ap (λ request. option_map node_of_request request) (request_of-state actor state of)
 
 -- who may ask, may ask by its machine
 pub may_ask : (actor : Actor) (state : ActorState) → IsOf actor state → CanAskAs actor (readiness_in state.machine)
-    → IfSome state.machine (λ machine. MayAsk (readiness_of machine) (rest_of machine))
+    → MayHandOutIn state.machine
 may_ask actor state of can = by_doing state.machine (request_of-state actor state of) can
   where
-    by_readiness : (machine : CommandMachine) (readiness : Readiness) → request_of actor ≡ request_in (rest_of machine) → CanAskAs actor readiness → MayAsk readiness (rest_of machine)
+    by_readiness : (machine : CommandMachine) (readiness : Readiness) → request_of actor ≡ request_in (rest_of_machine machine) → CanAskAs actor readiness → MayHandOut readiness (rest_of_machine machine)
     by_readiness machine Unready is finished = sym is ∙ finished
     by_readiness machine Ready is can = tt
     by_readiness machine Out is can = can
 
-    by_doing : (machine : Option CommandMachine) → request_of actor ≡ option_and_then request_in (option_map rest_of machine) → CanAskAs actor (readiness_in machine)
-        → IfSome machine (λ it. MayAsk (readiness_of it) (rest_of it))
+    by_doing : (machine : Option CommandMachine) → request_of actor ≡ option_and_then request_in (option_map rest_of_machine machine) → CanAskAs actor (readiness_in machine)
+        → MayHandOutIn machine
     by_doing None is can = tt
     by_doing (Some machine) is can = by_readiness machine (readiness_of machine) is can
 
 -- an actor whose machine is ready may ask, and so may one that has none
-pub can_ask : (actor : Actor) (state : ActorState) → IsOf actor state → IfSome state.machine (λ machine. readiness_of machine ≡ Ready)
+pub can_ask : (actor : Actor) (state : ActorState) → IsOf actor state → IsReadyIn state.machine
     → CanAskAs actor (readiness_in state.machine)
 can_ask actor state of ready = by_doing state.machine (request_of-state actor state of) ready
   where
-    by_doing : (machine : Option CommandMachine) → request_of actor ≡ option_and_then request_in (option_map rest_of machine)
-        → IfSome machine (λ it. readiness_of it ≡ Ready) → CanAskAs actor (readiness_in machine)
+    by_doing : (machine : Option CommandMachine) → request_of actor ≡ option_and_then request_in (option_map rest_of_machine machine)
+        → IsReadyIn machine → CanAskAs actor (readiness_in machine)
     by_doing None is ready = is
     by_doing (Some machine) is ready = rw ready tt
 
 pub ok-can_ask : {A B : Type 0} (result : Result A B) (actor : Actor) (state : ActorState) → IsOf actor state
-    → OnOk result (IfSome state.machine (λ machine. readiness_of machine ≡ Ready)) → OnOk result (CanAskAs actor (readiness_in state.machine))
+    → OnOk result (IsReadyIn state.machine) → OnOk result (CanAskAs actor (readiness_in state.machine))
 ok-can_ask (Ok it) actor state of ready = can_ask actor state of ready
 ok-can_ask (Err error) actor state of ready = tt
 
 -- who may ask and asks something has taken the memory for it
-pub has_taken : (readiness : Readiness) (work : Work) → MayAsk readiness work → IsSome (request_in work) → HasTaken readiness
+pub has_taken : (readiness : Readiness) (work : Work) → MayHandOut readiness work → IsSome (request_in work) → HasTaken readiness
 has_taken Unready work finished asking = absurd (cc)
 has_taken Ready work may asking = tt
 has_taken Out work may asking = absurd may
 
 -- another machine of which the same is left
 pub same_rest : (actor : Actor) (state next : ActorState) (machine at : CommandMachine) → IsOf actor state → state.machine ≡ Some machine
-    → next.setting ≡ state.setting → into_iter_items next.ahead ≡ into_iter_items state.ahead → next.machine ≡ Some at → rest_of at ≡ rest_of machine
+    → next.setting ≡ state.setting → into_iter_items next.ahead ≡ into_iter_items state.ahead → next.machine ≡ Some at → rest_of_machine at ≡ rest_of_machine machine
     → next.replies.items ≡ state.replies.items → vec_len next.replies < vec_capacity next.replies
     → IsOf actor next
 same_rest actor state next machine at of is setting ahead then rest lines room =
-    let asking : IsSome (request_in (rest_of machine)) = rw is at of.asks in
+    let asking : IsSome (request_in (rest_of_machine machine)) = rw is at of.asks in
     record {
       number = rw setting of.number;
       rules = rw setting of.rules;
@@ -212,8 +212,8 @@ all_first P x xs all = all 0 x (omega arith)
 
 pub starts : (state : ActorState) (commands : List Command) → 1 ≤ state.setting.rules.tries → length commands < 2 ^ 16 → All IsBuilt commands
     → into_iter_items state.ahead ≡ drop 1 commands
-    → option_map rest_of state.machine ≡ option_map (λ command. work_of state.setting.rules 1 command) (slice_get commands 0)
-    → IfSome state.machine (λ machine. IsSome (request_in (rest_of machine)))
+    → option_map rest_of_machine state.machine ≡ first_work state.setting.rules 1 commands
+    → AsksIn state.machine
     → state.replies.items ≡ [] → readiness_in state.machine ≡ Unready
     → IsOf (starting state.setting.rules state.setting.number commands) state
 unfolding starting lines_from
@@ -235,9 +235,9 @@ starts state commands tries few built ahead rest asking none unready =
 
 -- one command is present, and the others that haven't ended are ahead
 pub few_ahead : (actor : Actor) (state : ActorState) (machine : CommandMachine) → IsOf actor state → state.machine ≡ Some machine
-    → length state.replies.items + 1 + length (into_iter_items state.ahead) < 2 ^ 16
+    → commands_of state < 2 ^ 16
 few_ahead actor state machine of is =
-    let within = has_command actor (rest_of machine) (sym of.machine ∙ ap (λ o. option_map rest_of o) is) in
+    let within = has_command actor (rest_of_machine machine) (sym of.machine ∙ ap (λ o. option_map rest_of_machine o) is) in
     let lines : length state.replies.items ≡ length actor.ended = ap length of.lines ∙ length-lines actor.number 1 actor.ended in
     let ahead : length (into_iter_items state.ahead) ≡ length actor.commands - (length actor.ended + 1) =
     ap length of.ahead ∙ length-drop (length actor.ended + 1) actor.commands in
@@ -246,9 +246,6 @@ few_ahead actor state machine of is =
 
 pub some_tries : (actor : Actor) (state : ActorState) → IsOf actor state → 1 ≤ state.setting.rules.tries
 some_tries actor state of = rw of.rules of.tries
-
-pub built_ahead : (actor : Actor) (state : ActorState) → IsOf actor state → All IsBuilt (into_iter_items state.ahead)
-built_ahead actor state of = subst (All IsBuilt) (sym of.ahead) (All-drop IsBuilt (length actor.ended + 1) actor.commands of.built)
 
 after_reply-moved : (actor : Actor) (reply : NodeReply) (work : Work) → work_left actor ≡ Some work
     → after_reply actor reply ≡ moved_on actor reply (Some (goes_on work reply))
@@ -269,13 +266,13 @@ moved_on-ends actor reply report = refl
 -- the present command asks on
 pub asks_on : (actor : Actor) (reply : NodeReply) (state next : ActorState) (machine : CommandMachine) (at : CommandMachine) → IsOf actor state → state.machine ≡ Some machine
     → next ≡ record state { machine = Some at }
-    → rest_of at ≡ goes_on (rest_of machine) reply → IsSome (request_in (rest_of at)) → readiness_of at ≡ Unready
+    → rest_of_machine at ≡ goes_on (rest_of_machine machine) reply → IsSome (request_in (rest_of_machine at)) → readiness_of at ≡ Unready
     → IsOf (after_reply actor reply) next
 asks_on actor reply state next machine at of is same goes asking unready =
-    let left : work_left actor ≡ Some (rest_of machine) = sym of.machine ∙ ap (λ o. option_map rest_of o) is in
+    let left : work_left actor ≡ Some (rest_of_machine machine) = sym of.machine ∙ ap (λ o. option_map rest_of_machine o) is in
     let after : after_reply actor reply ≡ record actor { heard = actor.heard ++ reply ∷ [] } =
-    after_reply-moved actor reply (rest_of machine) left ∙ ap (λ work. moved_on actor reply (Some work)) (sym goes) ∙ moved_on-asks actor reply (rest_of at) asking in
-    let more : Some (rest_of at) ≡ work_left (record actor { heard = actor.heard ++ reply ∷ [] }) =
+    after_reply-moved actor reply (rest_of_machine machine) left ∙ ap (λ work. moved_on actor reply (Some work)) (sym goes) ∙ moved_on-asks actor reply (rest_of_machine at) asking in
+    let more : Some (rest_of_machine at) ≡ work_left (record actor { heard = actor.heard ++ reply ∷ [] }) =
     sym (work_left-push actor reply ∙ ap (λ o. option_map (λ work. goes_on work reply) o) left ∙ ap Some (sym goes)) in
     let holds : IsOf (record actor { heard = actor.heard ++ reply ∷ [] }) (record state { machine = Some at }) =
     record {
@@ -295,24 +292,23 @@ asks_on actor reply state next machine at of is same goes asking unready =
 -- the present command ends, and the next one begins
 pub record Ends (state next : ActorState) (at : CommandMachine) : Type 0 where
   pub setting : next.setting ≡ state.setting
-  pub line : (report : Report) → rest_of at ≡ ends report
-      → next.replies.items ≡ state.replies.items ++ record { actor = state.setting.number; command = length state.replies.items + 1; reply = kept_report report } ∷ []
-  pub rest : option_map rest_of next.machine
-      ≡ option_map (λ command. work_of state.setting.rules (length state.replies.items + 2) command) (slice_get (into_iter_items state.ahead) 0)
-  pub asks : IfSome next.machine (λ machine. IsSome (request_in (rest_of machine)))
+  pub line : AddsLine (rest_of_machine at) state next
+  pub rest : option_map rest_of_machine next.machine
+      ≡ first_work state.setting.rules (length state.replies.items + 2) (into_iter_items state.ahead)
+  pub asks : AsksIn next.machine
   pub ahead : into_iter_items next.ahead ≡ drop 1 (into_iter_items state.ahead)
   pub unready : readiness_in next.machine ≡ Unready
 
 pub ends_with : (actor : Actor) (reply : NodeReply) (state next : ActorState) (machine : CommandMachine) (at : CommandMachine) → IsOf actor state → state.machine ≡ Some machine
-    → rest_of at ≡ goes_on (rest_of machine) reply → request_in (rest_of at) ≡ None → Ends state next at
+    → rest_of_machine at ≡ goes_on (rest_of_machine machine) reply → request_in (rest_of_machine at) ≡ None → Ends state next at
     → IsOf (after_reply actor reply) next
 ends_with actor reply state next machine at of is goes none ended =
-    let left : work_left actor ≡ Some (rest_of machine) = sym of.machine ∙ ap (λ o. option_map rest_of o) is in
-    let over = has_ended (rest_of at) none in
+    let left : work_left actor ≡ Some (rest_of_machine machine) = sym of.machine ∙ ap (λ o. option_map rest_of_machine o) is in
+    let over = has_ended (rest_of_machine at) none in
     let report : Report = over.0 in
     let then : Actor = record actor { ended = actor.ended ++ report ∷ []; heard = [] } in
     let after : after_reply actor reply ≡ then =
-    after_reply-moved actor reply (rest_of machine) left ∙ ap (λ work. moved_on actor reply (Some work)) (sym goes ∙ over.1) ∙ moved_on-ends actor reply report in
+    after_reply-moved actor reply (rest_of_machine machine) left ∙ ap (λ work. moved_on actor reply (Some work)) (sym goes ∙ over.1) ∙ moved_on-ends actor reply report in
     let lines : length state.replies.items ≡ length actor.ended = ap length of.lines ∙ length-lines actor.number 1 actor.ended in
     let more : length (actor.ended ++ report ∷ []) ≡ length actor.ended + 1 = length-append actor.ended (report ∷ []) in
     let one : 1 + length actor.ended ≡ length actor.ended + 1 = omega arith in

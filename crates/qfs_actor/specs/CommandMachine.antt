@@ -3,12 +3,12 @@ use Rattle.qfs_machine.specs.declared.machine.Readiness.{Readiness}
 use Rattle.qfs_model_actor.specs.Work.{Work}
 use Rattle.qfs_actor.specs.declared.command_machine.CommandMachine.{CommandMachine}
 use Rattle.qfs_actor.specs.declared.command_machine.CommandMachine.TheVariants.{Put, Get}
-use Rattle.qfs_reader.specs.Standing.{rest_of as reader_rest}
-use Rattle.qfs_writer.specs.Standing.{rest_of as writer_rest}
+use Rattle.qfs_reader.specs.ReaderState.{rest_of_reader}
+use Rattle.qfs_writer.specs.WriterState.{rest_of_writer}
 
-unfoldable pub rest_of : CommandMachine → Work
-rest_of (Put writer) = writer_rest writer
-rest_of (Get reader) = reader_rest reader
+unfoldable pub rest_of_machine : CommandMachine → Work
+rest_of_machine (Put writer) = rest_of_writer writer
+rest_of_machine (Get reader) = rest_of_reader reader
 
 unfoldable pub readiness_of : CommandMachine → Readiness
 readiness_of (Put writer) = writer.readiness

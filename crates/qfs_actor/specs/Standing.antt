@@ -12,7 +12,8 @@ pub record Standing : Type 0 where
 
 -- at the first command, which isn't prepared
 abbrev pub at_start : Rules → ℕ → List Command → Standing
-at_start rules number commands = record { actor = starting rules number commands; readiness = Unready }
+at_start rules number commands =
+    record { actor = starting rules number commands; readiness = Unready }
 
 abbrev pub CanAskAs : Actor → Readiness → Type 0
 CanAskAs actor Unready = request_of actor ≡ None

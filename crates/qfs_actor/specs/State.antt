@@ -1,12 +1,17 @@
 -- When what an actor keeps is that of an actor of the definitions.
-use Rattle.std.specs.Prelude.{◌≡◌, ◌+◌, ◌<◌, ◌≤◌, ◌^◌, length, drop, All, Option, Some, None, option_map, IfSome, IsSome, vec_len, vec_capacity, ⊤}
+use Rattle.std.specs.Prelude.{◌≡◌, ℕ, ◌+◌, ◌<◌, ◌≤◌, ◌^◌, List, [], ◌∷◌, ◌++◌, length, drop, slice_get, All, Option, Some, None, option_map, IfSome, IsSome, vec_len, vec_capacity, ⊤}
 use Rattle.std.specs.Vec.Iter.{into_iter_items}
-use Rattle.qfs_model_actor.specs.Shown.{lines_from}
+use Rattle.qfs_base.specs.declared.command.Command.{Command}
+use Rattle.qfs_base.specs.declared.command.ReplyLine.{ReplyLine}
+use Rattle.qfs_base.specs.declared.rules.Rules.{Rules}
+use Rattle.qfs_machine.specs.Asking.{MayHandOut}
+use Rattle.qfs_model_actor.specs.Command.{work_of}
+use Rattle.qfs_model_actor.specs.Shown.{kept_report, lines_from}
 use Rattle.qfs_machine.specs.declared.machine.Readiness.{Readiness}
 use Rattle.qfs_machine.specs.declared.machine.Readiness.TheVariants.{Unready, Ready, Out}
 use Rattle.qfs_model_actor.specs.Actor.{Actor, work_left}
-use Rattle.qfs_model_actor.specs.Work.{request_in}
-use Rattle.qfs_actor.specs.CommandMachine.{rest_of, readiness_of}
+use Rattle.qfs_model_actor.specs.Work.{Report, Work, ends, request_in}
+use Rattle.qfs_actor.specs.CommandMachine.{rest_of_machine, readiness_of}
 use Rattle.qfs_actor.specs.Forms.{IsBuilt}
 use Rattle.qfs_actor.specs.declared.state.ActorState.{ActorState}
 use Rattle.qfs_actor.specs.declared.command_machine.CommandMachine.{CommandMachine}
@@ -22,8 +27,43 @@ HasTaken Unready = ⊥
 HasTaken Ready = ⊤
 HasTaken Out = ⊤
 
--- what is kept is that of this actor: the commands that haven't begun, the machine of the present one, and the lines of
--- those that have ended, with room for one more while a request is prepared
+-- the machine, if there is one, is ready for its next request, and it may hand it out
+abbrev pub IsReadyIn : Option CommandMachine → Type 0
+IsReadyIn machine = IfSome machine (λ it. readiness_of it ≡ Ready)
+
+abbrev pub MayHandOutIn : Option CommandMachine → Type 0
+MayHandOutIn machine = IfSome machine (λ it. MayHandOut (readiness_of it) (rest_of_machine it))
+
+-- the machine, if there is one, has something to ask
+abbrev pub AsksIn : Option CommandMachine → Type 0
+AsksIn machine = IfSome machine (λ it. IsSome (request_in (rest_of_machine it)))
+
+-- what the first of these commands asks, which is the actor's command of this number
+abbrev pub first_work : Rules → ℕ → List Command → Option Work
+first_work rules number commands =
+    option_map (λ command. work_of rules number command) (slice_get commands 0)
+
+-- all commands of an actor that has a present one
+abbrev pub commands_of : ActorState → ℕ
+commands_of state = length state.replies.items + 1 + length (into_iter_items state.ahead)
+
+-- the line of the present command, where it has ended with this report
+abbrev pub line_of : ActorState → Report → ReplyLine
+line_of state report =
+    record {
+      actor = state.setting.number;
+      command = length state.replies.items + 1;
+      reply = kept_report report;
+    }
+
+-- the line of the present command, of which this is left, was put behind the lines of the others
+abbrev pub AddsLine : Work → ActorState → ActorState → Type 0
+AddsLine work before after =
+    (report : Report) → work ≡ ends report
+    → after.replies.items ≡ before.replies.items ++ line_of before report ∷ []
+
+-- what is kept is that of this actor: the commands that haven't begun, the machine of the present
+-- one, and the lines of those that have ended, with room for one more while a request is prepared
 pub record IsOf (actor : Actor) (state : ActorState) : Type 0 where
   pub number : state.setting.number ≡ actor.number
   pub rules : state.setting.rules ≡ actor.rules
@@ -31,7 +71,8 @@ pub record IsOf (actor : Actor) (state : ActorState) : Type 0 where
   pub few : length actor.commands < 2 ^ 16
   pub built : All IsBuilt actor.commands
   pub ahead : into_iter_items state.ahead ≡ drop (length actor.ended + 1) actor.commands
-  pub machine : option_map rest_of state.machine ≡ work_left actor
-  pub asks : IfSome state.machine (λ machine. IsSome (request_in (rest_of machine)))
+  pub machine : option_map rest_of_machine state.machine ≡ work_left actor
+  pub asks : AsksIn state.machine
   pub lines : state.replies.items ≡ lines_from actor.number 1 actor.ended
-  pub room : HasTaken (readiness_in state.machine) → vec_len state.replies < vec_capacity state.replies
+  pub room : HasTaken (readiness_in state.machine)
+      → vec_len state.replies < vec_capacity state.replies

@@ -1,7 +1,7 @@
 //! An actor: its commands, one after another.
 #![tactic(auto)]
 
-ghost use Rattle.std.specs.Prelude.{◌≡◌, ◌<◌, ◌≤◌, ◌^◌, length, All, IfSome, OnOk, OnErr, None, Some};
+ghost use Rattle.std.specs.Prelude.{◌≡◌, ◌<◌, ◌≤◌, ◌^◌, length, All, IfSome, OnOk, OnErr};
 ghost use Rattle.qfs_model_actor.specs.Actor.{request_of, node_of, after_reply};
 ghost use Rattle.qfs_machine.specs.Askable.{IsAskable};
 ghost use Rattle.qfs_machine.specs.Asking.{IsOut, after_asking};
@@ -39,14 +39,15 @@ impl Model for Actor {
 
     ghost use Rattle.qfs_actor.specs.State.{IsOf, readiness_in};
 
-    ghost view = { λ it. record { actor = it.model.value; readiness = readiness_in it.state.machine } };
+    ghost view = { λ it.
+        record { actor = it.model.value; readiness = readiness_in it.state.machine } };
 
     ghost invariant = { λ it. IsOf it.model.value it.state };
 }
 
 impl Actor {
-    /// An actor at its first command. Each command is one that is built so far: a put or a get. Takes
-    /// no memory.
+    /// An actor at its first command. Each command is one that is built so far: a put or a get.
+    /// Takes no memory.
     pub fn new(alloc: Global, rules: Rules, number: ActorId, commands: Listing<Command>) -> Actor
         requires tries { 1 ≤ rules.tries }
         requires few { length commands < 2 ^ 16 }

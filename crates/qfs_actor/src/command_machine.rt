@@ -1,11 +1,11 @@
 //! The machine of a command.
-#![tactic(auto, unfolding(crate::specs::CommandMachine::rest_of, crate::specs::CommandMachine::readiness_of))]
+#![tactic(auto, unfolding(crate::specs::CommandMachine::rest_of_machine, crate::specs::CommandMachine::readiness_of))]
 
 ghost use Rattle.std.specs.Prelude.{◌≡◌, ◌≤◌, ℕ};
 ghost use Rattle.qfs_machine.specs.declared.machine.Readiness.{Readiness};
 ghost use Rattle.qfs_model_actor.specs.Command.{work_of, file_work};
 ghost use Rattle.qfs_actor.specs.Forms.{IsBuilt, IsBuiltFile};
-ghost use Rattle.qfs_actor.specs.CommandMachine.{rest_of, readiness_of};
+ghost use Rattle.qfs_actor.specs.CommandMachine.{rest_of_machine, readiness_of};
 
 use qfs_base::command::{Command, Excerpt, FileCommand, Reply};
 use qfs_base::numbers::NodeId;
@@ -29,7 +29,7 @@ impl CommandMachine {
     pub fn begin(alloc: Global, rules: Rules, number: u16, command: Command) -> CommandMachine
         requires tries { 1 ≤ rules.tries }
         requires built { IsBuilt command }
-        ensures rest { rest_of result ≡ work_of rules number command }
+        ensures rest { rest_of_machine result ≡ work_of rules number command }
         ensures unready { readiness_of result ≡ Readiness.Unready }
     {
         match command {
@@ -43,7 +43,7 @@ impl CommandMachine {
 fn begin_file(alloc: Global, rules: Rules, number: u16, command: FileCommand) -> CommandMachine
     requires tries { 1 ≤ rules.tries }
     requires built { IsBuiltFile command }
-    ensures rest { rest_of result ≡ file_work rules number command }
+    ensures rest { rest_of_machine result ≡ file_work rules number command }
     ensures unready { readiness_of result ≡ Readiness.Unready }
 {
     match command {
@@ -58,7 +58,7 @@ fn begin_file(alloc: Global, rules: Rules, number: u16, command: FileCommand) ->
 }
 
 impl Machine for CommandMachine {
-    ghost rest = { rest_of };
+    ghost rest = { rest_of_machine };
 
     ghost readiness = { readiness_of };
 

@@ -2,17 +2,17 @@
 //! those reported that have ended.
 #![tactic(auto)]
 
-ghost use Rattle.std.specs.Prelude.{◌≡◌, ℕ, ◌+◌, ◌<◌, ◌≤◌, ◌^◌, None, IfSome, IsSome, All, OnOk, OnErr, length, drop, slice_get, option_map, vec_len, vec_capacity, List, [], ◌∷◌, ◌++◌};
+ghost use Rattle.std.specs.Prelude.{◌≡◌, ◌+◌, ◌<◌, ◌≤◌, ◌^◌, None, IfSome, All, OnOk, OnErr};
+ghost use Rattle.std.specs.Prelude.{length, drop, option_map, vec_len, vec_capacity};
 ghost use Rattle.std.specs.Vec.Iter.{into_iter_items};
 ghost use Rattle.qfs_model_actor.specs.Actor.{Actor, starting, after_reply, request_of, node_of};
-ghost use Rattle.qfs_model_actor.specs.Command.{work_of};
-ghost use Rattle.qfs_model_actor.specs.Work.{Report, ends, request_in};
+ghost use Rattle.qfs_model_actor.specs.Work.{request_in};
 ghost use Rattle.qfs_machine.specs.Askable.{IsAskable};
-ghost use Rattle.qfs_machine.specs.Asking.{IsOut, MayAsk, after_asking};
-ghost use Rattle.qfs_model_actor.specs.Shown.{kept_report};
+ghost use Rattle.qfs_machine.specs.Asking.{IsOut, after_asking};
 ghost use Rattle.qfs_machine.specs.declared.machine.Readiness.{Readiness};
-ghost use Rattle.qfs_actor.specs.State.{IsOf, readiness_in};
-ghost use Rattle.qfs_actor.specs.CommandMachine.{rest_of, readiness_of};
+ghost use Rattle.qfs_actor.specs.State.{commands_of, first_work, readiness_in};
+ghost use Rattle.qfs_actor.specs.State.{AddsLine, AsksIn, IsOf, IsReadyIn, MayHandOutIn};
+ghost use Rattle.qfs_actor.specs.CommandMachine.{rest_of_machine};
 ghost use Rattle.qfs_actor.specs.Forms.{IsBuilt};
 
 use crate::actor_model::Setting;
@@ -48,8 +48,9 @@ fn begin_next(
     requires tries { 1 ≤ setting.now.rules.tries }
     requires few { ended + length (into_iter_items ahead.old) < 2 ^ 16 }
     requires built { All IsBuilt (into_iter_items ahead.old) }
-    ensures rest { option_map rest_of result ≡ option_map (λ command. work_of setting.now.rules (ended + 1) command) (slice_get (into_iter_items ahead.old) 0) }
-    ensures asks { IfSome result (λ machine. IsSome (request_in (rest_of machine))) }
+    ensures rest { option_map rest_of_machine result
+        ≡ first_work setting.now.rules (ended + 1) (into_iter_items ahead.old) }
+    ensures asks { AsksIn result }
     ensures ahead { into_iter_items ahead.new ≡ drop 1 (into_iter_items ahead.old) }
     ensures unready { readiness_in result ≡ Readiness.Unready }
 {
@@ -82,12 +83,14 @@ impl ActorState {
         }
     }
 
-    /// Takes the memory for the next request, for its reply and for the line of the command's report.
+    /// Takes the memory for the next request, for its reply and for the line of the command's
+    /// report.
     pub fn ready(&mut self) -> Result<(), AllocError>
         requires { IsOut (readiness_in self.old.machine) → ⊥ }
         ensures of { (actor : Actor) → IsOf actor self.old → IsOf actor self.new }
-        ensures ok { OnOk result (IfSome self.new.machine (λ machine. readiness_of machine ≡ Readiness.Ready)) }
-        ensures err { OnErr result (readiness_in self.new.machine ≡ readiness_in self.old.machine) }
+        ensures ok { OnOk result (IsReadyIn self.new.machine) }
+        ensures err { OnErr result
+            (readiness_in self.new.machine ≡ readiness_in self.old.machine) }
     {
         match &mut self.machine {
             Some(machine) => {
@@ -110,10 +113,11 @@ impl ActorState {
 
     /// Hands the next request out.
     pub fn next(&mut self) -> Option<NodeRequest>
-        requires { IfSome self.old.machine (λ machine. MayAsk (readiness_of machine) (rest_of machine)) }
+        requires { MayHandOutIn self.old.machine }
         ensures of { (actor : Actor) → IsOf actor self.old → IsOf actor self.new }
         ensures request { (actor : Actor) → IsOf actor self.old → result ≡ request_of actor }
-        ensures out { readiness_in self.new.machine ≡ after_asking result (readiness_in self.old.machine) }
+        ensures out { readiness_in self.new.machine
+            ≡ after_asking result (readiness_in self.old.machine) }
         ensures askable { IfSome result IsAskable }
     {
         match &mut self.machine {
@@ -126,7 +130,8 @@ impl ActorState {
     pub fn took(&mut self, reply: NodeReply)
         requires out { IsOut (readiness_in self.old.machine) }
         requires of { (actor : Actor) × IsOf actor self.old }
-        ensures of { (actor : Actor) → IsOf actor self.old → IsOf (after_reply actor reply) self.new }
+        ensures of { (actor : Actor) → IsOf actor self.old
+            → IsOf (after_reply actor reply) self.new }
         ensures unready { readiness_in self.new.machine ≡ Readiness.Unready }
     {
         match self.machine.take() {
@@ -144,15 +149,17 @@ impl ActorState {
 
     /// Keeps the report of the present command, which has ended, and begins the next one.
     fn end(&mut self, machine: CommandMachine)
-        requires ended { request_in (rest_of machine) ≡ None }
+        requires ended { request_in (rest_of_machine machine) ≡ None }
         requires room { vec_len self.old.replies < vec_capacity self.old.replies }
         requires tries { 1 ≤ self.old.setting.rules.tries }
-        requires few { length self.old.replies.items + 1 + length (into_iter_items self.old.ahead) < 2 ^ 16 }
+        requires few { commands_of self.old < 2 ^ 16 }
         requires built { All IsBuilt (into_iter_items self.old.ahead) }
         ensures setting { self.new.setting ≡ self.old.setting }
-        ensures line { (report : Report) → rest_of machine ≡ ends report → self.new.replies.items ≡ self.old.replies.items ++ record { actor = self.old.setting.number; command = length self.old.replies.items + 1; reply = kept_report report } ∷ [] }
-        ensures rest { option_map rest_of self.new.machine ≡ option_map (λ command. work_of self.old.setting.rules (length self.old.replies.items + 2) command) (slice_get (into_iter_items self.old.ahead) 0) }
-        ensures asks { IfSome self.new.machine (λ machine. IsSome (request_in (rest_of machine))) }
+        ensures line { AddsLine (rest_of_machine machine) self.old self.new }
+        ensures rest { option_map rest_of_machine self.new.machine
+            ≡ first_work self.old.setting.rules (length self.old.replies.items + 2)
+            (into_iter_items self.old.ahead) }
+        ensures asks { AsksIn self.new.machine }
         ensures ahead { into_iter_items self.new.ahead ≡ drop 1 (into_iter_items self.old.ahead) }
         ensures unready { readiness_in self.new.machine ≡ Readiness.Unready }
     {

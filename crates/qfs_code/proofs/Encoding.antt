@@ -26,7 +26,7 @@ bytes-append (x ∷ xs) ys h k =
     let parts = and_parts (ltb x 256) (list_all (λ x. ltb x 256) xs) h in
     ap₂ (λ b c. b && c) parts.0 (bytes-append xs ys parts.1 k)
 
-byte_at : (slot : List ℕ) (t : ℕ) → All (λ byte. byte < 256) slot → get_or slot t 0 < 256
+pub byte_at : (slot : List ℕ) (t : ℕ) → All (λ byte. byte < 256) slot → get_or slot t 0 < 256
 byte_at slot t bytes = ⊎_elim (λ inside. bytes t 0 inside) (λ past. omega (arith, get_or_past slot t 0 past)) (cases_lt t (length slot))
 
 pub column_bytes : (slots : List (List ℕ)) (t : ℕ) → All (λ slot. All (λ byte. byte < 256) slot) slots → list_all (λ x. ltb x 256) (column slots t) ≡ true

@@ -8,4 +8,4 @@ mod LeftOut
 mod Words
 mod WantedSlot
 pub mod Restoring
-mod Encoding
+pub mod Encoding

@@ -11,7 +11,7 @@ use Rattle.qfs_device.specs.declared.log_disk.MetaDisks.{MetaDisks}
 use Rattle.qfs_driver.proofs.Places.{some_is, in_first, mapped_at, unmapped_at, below_length, length_past, behind_first}
 use Rattle.qfs_driver.specs.Playing.{Continues}
 use Rattle.qfs_driver.proofs.Remaining.{remain_from, same_remain, servers_remain}
-use Rattle.qfs_driver.specs.Run.{AllRemain, StandAfter, StayInPlace, counts_of}
+use Rattle.qfs_driver.specs.Run.{AllRemain, LeavesDevices, StandAfter, StayInPlace, counts_of}
 use Rattle.qfs_model_headline.specs.Faults.{FaultsShow}
 use Rattle.qfs_model_headline.specs.Nodes.{has_failed, is_put_or_start, IsServerDevice, IsDeviceOf}
 use Rattle.qfs_model_server.specs.Server.{Server}
@@ -20,9 +20,10 @@ use Rattle.qfs_model_world.specs.Events.{events}
 use Rattle.qfs_model_world.specs.Headline.{failed_at}
 use Rattle.qfs_model_world.specs.World.{World, numbered, after}
 use Rattle.qfs_store.specs.Stored.{Stored}
-use Rattle.qfs_world.specs.Calls.{AreDevicesOf, GoesOn, Starts, stored_over}
+use Rattle.qfs_world.specs.Calls.{AreDevicesOf, GoesOn, Starts}
+use Rattle.qfs_nodes.specs.Nodes.{stored_over}
 use Rattle.qfs_world.specs.Follows.{Follows, IsServer, StandForAll}
-use Rattle.qfs_world.specs.Running.{Running}
+use Rattle.qfs_world.specs.View.{WorldView}
 
 -- ---- the devices of a world
 
@@ -58,7 +59,7 @@ hands_out false device server same = same
 
 module _ {D L : Type 0} where
   -- a device of a world's server
-  world_devices : (told : D → Option Held) (faults : D → ℕ) (world : Running D L) (devices : List D)
+  world_devices : (told : D → Option Held) (faults : D → ℕ) (world : WorldView D L) (devices : List D)
       → Follows world.script world.counts world.order world.meta world.stores world.actors → AreDevicesOf told faults world devices
       → (number : ℕ) (device : D) (server : Server) → numbered devices number ≡ Some device
       → numbered (after world.script world.order).servers number ≡ Some server
@@ -82,55 +83,65 @@ module _ {D L : Type 0} where
             at.is.held.handed_out server.handed_out at.is.handed_out;
       }
 
-module _ {D L : Type 0} (told : D → Option Held) (faults : D → ℕ) (script : Script) (came behind : List D) (disks : MetaDisks L)
-    (started ended : Running D L) (enough : script.servers ≤ length came)
-    (starts : Starts told faults script came disks started) (continues : Continues started ended)
-    (are : AreDevicesOf told faults ended behind) where
+-- a world was made of a script over devices, its actors took steps, and it was taken apart
+pub record Ran {D L : Type 0} (told : D → Option Held) (faults : D → ℕ) (script : Script) (came behind : List D) (disks : MetaDisks L) (started ended : WorldView D L) : Type 0 where
+  pub enough : script.servers ≤ length came
+  pub starts : Starts told faults script came disks started
+  pub continues : Continues started ended
+  pub are : AreDevicesOf told faults ended behind
+
+module _ {D L : Type 0} {told : D → Option Held} {faults : D → ℕ} {script : Script} {came behind : List D} {disks : MetaDisks L}
+    {started ended : WorldView D L} (ran : Ran told faults script came behind disks started ended) where
   -- ---- each in its place
 
   -- as many stores as the script has servers
   pub count_first : length started.stores ≡ script.servers
   count_first =
-      ap length starts.stores_are ∙ length-map (take script.servers came) (stored_over told faults script.layout.s) ∙ length-take-le script.servers came enough
+      ap length ran.starts.stores_are ∙ length-map (take script.servers came) (stored_over told faults script.layout.s) ∙ length-take-le script.servers came ran.enough
 
   pub count_last : length ended.stores ≡ script.servers
-  count_last = sym (length_all_zip GoesOn started.stores ended.stores continues.stores_go_on) ∙ count_first
+  count_last = sym (length_all_zip GoesOn started.stores ended.stores ran.continues.stores_go_on) ∙ count_first
 
-  pub run_stays : StayInPlace script.servers came behind
-  run_stays =
-      let spare : drop script.servers behind ≡ drop script.servers came =
-      ap (λ k. drop k behind) (sym count_last) ∙ are.others_are ∙ continues.spare_is ∙ starts.spare_are in
+  spare_stays : drop script.servers behind ≡ drop script.servers came
+  spare_stays =
+      ap (λ k. drop k behind) (sym count_last) ∙ ran.are.others_are ∙ ran.continues.spare_is ∙ ran.starts.spare_are
+
+  as_many : length behind ≡ length came
+  as_many =
       let full : min (length ended.stores) (length behind) ≡ length ended.stores =
       sym (length-take (length ended.stores) behind) ∙ sym (length-map (take (length ended.stores) behind) told)
-      ∙ ap length are.told_are ∙ length-map ended.stores (λ (stored : Stored). stored.told) in
+      ∙ ap length ran.are.told_are ∙ length-map ended.stores (λ (stored : Stored). stored.told) in
       let rest : length behind - script.servers ≡ length came - script.servers =
-      sym (length-drop script.servers behind) ∙ ap length spare ∙ length-drop script.servers came in
-      record { as_many = omega (arith, full, rest, count_last, enough); spare = spare }
+      sym (length-drop script.servers behind) ∙ ap length spare_stays ∙ length-drop script.servers came in
+      omega (arith, full, rest, count_last, ran.enough)
 
-  pub run_remains : AllRemain told faults came behind
+  run_remains : AllRemain told faults came behind
   run_remains =
       let n = script.servers in
       let first : AllRemain told faults (take n came) (take n behind) =
       servers_remain told faults script.layout.s (take n came) (take n behind) ended.stores
-      (subst (λ stores. AllZip GoesOn stores ended.stores) starts.stores_are continues.stores_go_on)
-      (ap (λ k. map told (take k behind)) (sym count_last) ∙ are.told_are)
-      (ap (λ k. map faults (take k behind)) (sym count_last) ∙ are.faults_are) in
+      (subst (λ stores. AllZip GoesOn stores ended.stores) ran.starts.stores_are ran.continues.stores_go_on)
+      (ap (λ k. map told (take k behind)) (sym count_last) ∙ ran.are.told_are)
+      (ap (λ k. map faults (take k behind)) (sym count_last) ∙ ran.are.faults_are) in
       remain_from told faults n came behind first
-      (same_remain told faults (drop n came) (drop n behind) run_stays.spare)
+      (same_remain told faults (drop n came) (drop n behind) spare_stays)
+
+  pub run_stays : StayInPlace told faults script.servers came behind
+  run_stays = record { as_many = as_many; spare = spare_stays; remain = run_remains }
 
   -- a device above the servers is as it came
   spare_same : (k : ℕ) (before after_run : D) → script.servers ≤ k → slice_get came k ≡ Some before → slice_get behind k ≡ Some after_run
       → after_run ≡ before
   spare_same k before after_run past was is = some_is
       (sym is ∙ behind_first script.servers k behind past
-      ∙ ap (λ (devices : List D). slice_get devices (k - script.servers)) run_stays.spare
+      ∙ ap (λ (devices : List D). slice_get devices (k - script.servers)) spare_stays
       ∙ sym (behind_first script.servers k came past) ∙ was)
 
   -- how often a server's device had failed at the start, and how often it has at the end
   count_came : (k old : ℕ) → k < script.servers → slice_get (map faults came) k ≡ Some old → slice_get ended.counts k ≡ Some old
   count_came k old below was =
       let first = unmapped_at faults came k old was in
-      ap (λ (counts : List ℕ). slice_get counts k) (continues.counts_are ∙ starts.counts_are)
+      ap (λ (counts : List ℕ). slice_get counts k) (ran.continues.counts_are ∙ ran.starts.counts_are)
       ∙ mapped_at faults (take script.servers came) k first.of (in_first script.servers k came first.of below first.there)
       ∙ ap Some first.is
 
@@ -141,7 +152,7 @@ module _ {D L : Type 0} (told : D → Option Held) (faults : D → ℕ) (script 
       sym last.is
       ∙ some_is
       (sym (mapped_at faults (take (length ended.stores) behind) k last.of (in_first (length ended.stores) k behind last.of below last.there))
-      ∙ ap (λ (counts : List ℕ). slice_get counts k) are.faults_are
+      ∙ ap (λ (counts : List ℕ). slice_get counts k) ran.are.faults_are
       ∙ mapped_at (λ (stored : Stored). stored.faults) ended.stores k stored there)
 
   -- ---- what they hold
@@ -152,17 +163,17 @@ module _ {D L : Type 0} (told : D → Option Held) (faults : D → ℕ) (script 
       → IsDeviceOf ended.script.layout.s told (events ended.script ended.order) number before after_run found
   unfolding numbered
   device_of follows number before after_run was is (Some server) at =
-      world_devices told faults ended behind follows are number after_run server is at
+      world_devices told faults ended behind follows ran.are number after_run server is at
   device_of follows zero before after_run was is None at = absurd (cc)
   device_of follows (suc k) before after_run was is None at =
       let none : slice_get follows.servers k ≡ None = sym (ap (λ (w : World). slice_get w.servers k) follows.world) ∙ at in
       let past = no_store ended.script.layout.s ended.stores follows.servers k follows.stand none in
       spare_same k before after_run (omega (arith, past, count_last)) was is
 
-  pub devices_stand : Follows ended.script ended.counts ended.order ended.meta ended.stores ended.actors
+  devices_stand : Follows ended.script ended.counts ended.order ended.meta ended.stores ended.actors
       → StandAfter told ended.script ended.order came behind
   devices_stand follows = record {
-    as_many = run_stays.as_many;
+    as_many = as_many;
     each = λ number before after_run was is.
         device_of follows number before after_run was is (numbered (after ended.script ended.order).servers number) refl;
   }
@@ -201,9 +212,14 @@ module _ {D L : Type 0} (told : D → Option Held) (faults : D → ℕ) (script 
     unfolding numbered
     none_at_first = refl
 
-    pub faults_show : (left right : ℕ)
+    faults_show : (left right : ℕ)
         → FaultsShow ended.script ended.order (counts_of faults came left right) (counts_of faults behind left right)
     faults_show left right = record {
       devices = device_faults;
       disks = λ below_left below_right. omega (arith, follows.faults.elsewhere 0 none_at_first);
     }
+
+  -- what the order of the run leaves
+  pub leaves_devices : Follows ended.script ended.counts ended.order ended.meta ended.stores ended.actors
+      → LeavesDevices told faults ended.script ended.order came behind
+  leaves_devices follows = record { stand = devices_stand follows; faults_show = faults_show follows }

@@ -35,7 +35,7 @@ use Rattle.qfs_store.specs.Stored.{Stored}
 use Rattle.qfs_world.specs.Calls.{GoesOn, HasFailed, Steps}
 use Rattle.qfs_world.proofs.Simulation.{event as event_of, events-after}
 use Rattle.qfs_world.specs.Follows.{Follows, IsAfter}
-use Rattle.qfs_world.specs.Running.{Running, AllTell, turn_of}
+use Rattle.qfs_world.specs.View.{WorldView, AllTell, turn_of}
 
 -- ---- stores that go on
 
@@ -159,7 +159,7 @@ not_first xs (suc k) x is first = absurd (omega (arith, first))
 
 module _ {D L : Type 0} where
   -- a step at a server whose device failed, after others
-  risen_further : (a b c : Running D L) (server : ℕ) → Continues a b → HasFailed b c server → HasRisen a c server
+  risen_further : (a b c : WorldView D L) (server : ℕ) → Continues a b → HasFailed b.stores c.stores server → HasRisen a c server
   risen_further a b c server continues failed =
       let at = went_on_at a.stores b.stores server failed.old continues.stores_go_on failed.before_is in
       record {
@@ -172,15 +172,15 @@ module _ {D L : Type 0} where
       }
 
   -- no step was taken yet
-  pub drawn_at_start : (number : ℕ) (world : Running D L) → world.order ≡ [] → IsDrawnSo number world
+  pub drawn_at_start : (number : ℕ) (world : WorldView D L) → world.order ≡ [] → IsDrawnSo number world
   unfolding is_drawn drawn_from
   drawn_at_start number world none = record { drawn = λ tell. rw none refl; done = rw none refl }
 
-  pub words_at_start : (generator : Lcg) (world : Running D L) → world.order ≡ [] → generator ≡ generator_behind generator world.order
+  pub words_at_start : (generator : Lcg) (world : WorldView D L) → world.order ≡ [] → generator ≡ generator_behind generator world.order
   unfolding generator_behind
   words_at_start generator world none = rw none refl
 
-  pub continues_itself : (world : Running D L) → Continues world world
+  pub continues_itself : (world : WorldView D L) → Continues world world
   continues_itself world =
       record {
         script_is = refl;
@@ -190,10 +190,10 @@ module _ {D L : Type 0} where
         stores_go_on = all_go_on world.stores;
       }
 
-  pub continues_same : (before behind : Running D L) → behind ≡ before → Continues before behind
+  pub continues_same : (before behind : WorldView D L) → behind ≡ before → Continues before behind
   continues_same before behind same = subst (λ w. Continues before w) (sym same) (continues_itself before)
 
-  pub continues_further : (a b c : Running D L) → Continues a b → Continues b c → Continues a c
+  pub continues_further : (a b c : WorldView D L) → Continues a b → Continues b c → Continues a c
   continues_further a b c first second = record {
     script_is = second.script_is ∙ first.script_is;
     counts_are = second.counts_are ∙ first.counts_are;
@@ -202,12 +202,12 @@ module _ {D L : Type 0} where
     stores_go_on = all_go_on_further a.stores b.stores c.stores first.stores_go_on second.stores_go_on;
   }
 
-  turn_after : (world : Running D L) → Follows world.script world.counts world.order world.meta world.stores world.actors
+  turn_after : (world : WorldView D L) → Follows world.script world.counts world.order world.meta world.stores world.actors
       → turn world.script (after_order world.script world.order) ≡ turn_of world.script world.actors
   unfolding turn
   turn_after world follows = ap (λ (w : World). turn world.script w) follows.world
 
-  drawn_more : (number actor : ℕ) (outcome : Outcome) (before behind : Running D L) (turns : List ℕ)
+  drawn_more : (number actor : ℕ) (outcome : Outcome) (before behind : WorldView D L) (turns : List ℕ)
       → IsAfter before → turns ≡ turn_of before.script before.actors
       → drawn_of turns (pcg32 (generator_behind (generator_of number) before.order)).0 ≡ Some actor
       → Steps before actor outcome behind → IsDrawnSo number before → AllTell behind.stores
@@ -225,7 +225,7 @@ module _ {D L : Type 0} where
       rw (steps.others.script, steps.moves.order) grown
 
   -- the loop of a run: a drawn step more
-  pub drawn_further : (number actor : ℕ) (before behind : Running D L) (turns : List ℕ)
+  pub drawn_further : (number actor : ℕ) (before behind : WorldView D L) (turns : List ℕ)
       → IsAfter before → turns ≡ turn_of before.script before.actors
       → drawn_of turns (pcg32 (generator_behind (generator_of number) before.order)).0 ≡ Some actor
       → Steps before actor Came.Done behind → IsDrawnSo number before → IsDrawnSo number behind
@@ -234,7 +234,7 @@ module _ {D L : Type 0} where
     done = rw steps.moves.order (done-snoc before.order actor is.done);
   }
 
-  pub drawn_step_further : (number : ℕ) (generator : Lcg) (before behind : Running D L) (turns : List ℕ)
+  pub drawn_step_further : (number : ℕ) (generator : Lcg) (before behind : WorldView D L) (turns : List ℕ)
       → IsAfter before → turns ≡ turn_of before.script before.actors
       → generator ≡ generator_behind (generator_of number) before.order
       → TakesDrawnStep turns (pcg32 generator).0 before behind → IsDrawnSo number before → IsDrawnSo number behind
@@ -242,7 +242,7 @@ module _ {D L : Type 0} where
       drawn_further number taken.actor before behind turns after turns_are
       (ap (λ g. drawn_of turns (pcg32 g).0) (sym words) ∙ taken.drawn) taken.steps is
 
-  pub words_further : (number : ℕ) (generator : Lcg) (before behind : Running D L) (turns : List ℕ)
+  pub words_further : (number : ℕ) (generator : Lcg) (before behind : WorldView D L) (turns : List ℕ)
       → generator ≡ generator_behind (generator_of number) before.order
       → TakesDrawnStep turns (pcg32 generator).0 before behind
       → (pcg32 generator).1 ≡ generator_behind (generator_of number) behind.order
@@ -254,16 +254,16 @@ module _ {D L : Type 0} where
   -- ---- a step that failed
 
   -- an actor that goes to a server steps there
-  pub goes_there : (before behind : Running D L) (actor server : ℕ) (outcome : Outcome) (steps : Steps before actor outcome behind)
+  pub goes_there : (before behind : WorldView D L) (actor server : ℕ) (outcome : Outcome) (steps : Steps before actor outcome behind)
       → Some server ≡ option_and_then node_of (numbered before.actors actor) → steps.node ≡ server
   goes_there before behind actor server outcome steps goes =
       let there : option_and_then node_of (numbered before.actors actor) ≡ Some steps.node =
       ap (option_and_then node_of) steps.moves.of ∙ steps.moves.to in
       some_is (sym there ∙ sym goes)
 
-  fails_last : (actor server : ℕ) (before behind : Running D L)
+  fails_last : (actor server : ℕ) (before behind : WorldView D L)
       → Follows before.script before.counts before.order before.meta before.stores before.actors
-      → FailsAt before actor server behind → HasFailed before behind server → IsTrue (list_all is_done before.order)
+      → FailsAt before actor server behind → HasFailed before.stores behind.stores server → IsTrue (list_all is_done before.order)
       → FailsLast behind.script behind.order server
   fails_last actor server before behind follows fails failed done =
       let moves = fails.steps.moves in
@@ -289,13 +289,13 @@ module _ {D L : Type 0} where
         put_or_fetch = asks.askable;
       }
 
-  stops_at_server : (number actor server : ℕ) (start before behind : Running D L) (turns : List ℕ)
+  stops_at_server : (number actor server : ℕ) (start before behind : WorldView D L) (turns : List ℕ)
       → Continues start before → IsAfter before → turns ≡ turn_of before.script before.actors
       → drawn_of turns (pcg32 (generator_behind (generator_of number) before.order)).0 ≡ Some actor
       → FailsAt before actor server behind → IsDrawnSo number before → StopsAtServer number server start behind
   stops_at_server number actor server start before behind turns continues after turns_are drawn fails is =
       let steps = fails.steps in
-      let failed : HasFailed before behind server = subst (HasFailed before behind) fails.at (steps.cause refl) in
+      let failed : HasFailed before.stores behind.stores server = subst (HasFailed before.stores behind.stores) fails.at (steps.cause refl) in
       record {
         risen = risen_further start before behind server continues failed;
         drawn = λ tell. record {
@@ -304,7 +304,7 @@ module _ {D L : Type 0} where
         };
       }
 
-  drawn_stops : (number actor : ℕ) (start before behind : Running D L) (turns : List ℕ) (status : Status)
+  drawn_stops : (number actor : ℕ) (start before behind : WorldView D L) (turns : List ℕ) (status : Status)
       → Continues start before → IsAfter before → turns ≡ turn_of before.script before.actors
       → drawn_of turns (pcg32 (generator_behind (generator_of number) before.order)).0 ≡ Some actor
       → StopsStep before actor behind status → IsDrawnSo number before → StopsAt number start behind status
@@ -319,7 +319,7 @@ module _ {D L : Type 0} where
   drawn_stops number actor start before behind turns Ended.WriteFault continues after turns_are drawn stops is = absurd stops
 
   -- the loop of a run: a drawn step that ends it
-  pub drawn_step_stops : (number : ℕ) (generator : Lcg) (start before behind : Running D L) (turns : List ℕ) (status : Status)
+  pub drawn_step_stops : (number : ℕ) (generator : Lcg) (start before behind : WorldView D L) (turns : List ℕ) (status : Status)
       → Continues start before → IsAfter before → turns ≡ turn_of before.script before.actors
       → generator ≡ generator_behind (generator_of number) before.order
       → StopsDrawnStep turns (pcg32 generator).0 before behind status → IsDrawnSo number before → StopsAt number start behind status

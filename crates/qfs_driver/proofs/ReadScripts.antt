@@ -9,7 +9,7 @@ use Rattle.qfs_script.proofs.ScriptSaid.{IsFew, IsPlain, few_enough, read_script
 use Rattle.qfs_script.specs.Script.{read_lines}
 use Rattle.std.proofs.lemmas.List.Elements.{All-nil, All-cons}
 use Rattle.qfs_actor.specs.Forms.{IsBuilt}
-use Rattle.qfs_world.specs.Running.{AreBuilt, IsRunnable, commands_by_actor}
+use Rattle.qfs_nodes.specs.Scripts.{AreBuilt, IsRunnable, commands_by_actor}
 use Rattle.qfs_base.specs.declared.command.Command.TheVariants as Does
 use Rattle.qfs_base.specs.declared.command.FileCommand.TheVariants as File
 use Rattle.qfs_base.specs.declared.recipe.Form.TheVariants as Of

@@ -1,11 +1,12 @@
 -- Devices that remain in their places.
-use Rattle.std.proofs.Common.{◌≡◌, ℕ, zero, suc, ◌≤◌, List, [], ◌∷◌, take, drop, map, refl, sym, ◌∙◌, ap, subst, arith, Option}
+use Rattle.std.proofs.Common.{◌≡◌, ℕ, zero, suc, ◌≤◌, List, [], ◌∷◌, length, take, drop, map, refl, sym, ◌∙◌, ap, subst, arith, Option}
 use Rattle.std.specs.Prelude.{is_some}
 use Rattle.std.specs.List.{AllZip}
 use Rattle.qfs_device.specs.Held.{Held}
-use Rattle.qfs_driver.specs.Run.{AllRemain}
+use Rattle.qfs_driver.specs.Run.{AllRemain, StayInPlace}
 use Rattle.qfs_store.specs.Stored.{Stored}
-use Rattle.qfs_world.specs.Calls.{GoesOn, stored_over}
+use Rattle.qfs_world.specs.Calls.{GoesOn}
+use Rattle.qfs_nodes.specs.Nodes.{stored_over}
 
 first_is : {X : Type 0} {x y : X} {xs ys : List X} → x ∷ xs ≡ y ∷ ys → x ≡ y
 first_is same = cc
@@ -27,6 +28,13 @@ module _ {D : Type 0} (told : D → Option Held) (faults : D → ℕ) where
   -- devices that are as they came
   pub same_remain : (came behind : List D) → behind ≡ came → AllRemain told faults came behind
   same_remain came behind same = subst (AllRemain told faults came) (sym same) (all_remain came)
+
+  pub same_stay : (servers : ℕ) (came behind : List D) → behind ≡ came → StayInPlace told faults servers came behind
+  same_stay servers came behind same = record {
+    as_many = ap length same;
+    spare = ap (drop servers) same;
+    remain = same_remain came behind same;
+  }
 
   -- devices of servers whose stores went on
   pub servers_remain : (stripe : ℕ) (came behind : List D) (stores : List Stored)

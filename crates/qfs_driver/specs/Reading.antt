@@ -1,5 +1,5 @@
 -- What reading the script of a run comes to.
-use Rattle.std.specs.Prelude.{◌≡◌, ℕ, ◌<◌, ◌≤◌, ◌⊎◌, List, length, Option, ⊤, Ok, Err}
+use Rattle.std.specs.Prelude.{◌≡◌, ℕ, ◌<◌, ◌≤◌, ◌⊎◌, List, length, Option, Some, ⊤, Ok, Err}
 use Rattle.qfs_base.specs.declared.script.Script.{Script}
 use Rattle.qfs_base.specs.declared.script.ScriptCause.{ScriptCause}
 use Rattle.qfs_base.specs.declared.script.ScriptCause.TheVariants as Cause
@@ -22,6 +22,13 @@ pub record ReadsWhole (before after : Option (List ℕ)) (script : Script) : Typ
   pub short : length bytes ≤ most_script_bytes
   pub says : read_lines (text_lines bytes) ≡ Ok script
 
+-- the source tells what it has left, and that is the text of this script
+pub record TellsScript (left : Option (List ℕ)) (script : Script) : Type 0 where
+  pub bytes : List ℕ
+  pub left_is : left ≡ Some bytes
+  pub short : length bytes ≤ most_script_bytes
+  pub says : read_lines (text_lines bytes) ≡ Ok script
+
 -- the source gave more bytes than a script may have
 pub record TooBig (before after : Option (List ℕ)) : Type 0 where
   pub bytes : List ℕ
@@ -38,11 +45,13 @@ pub record BadLine (before after : Option (List ℕ)) (line : ℕ) : Type 0 wher
 
 -- a script is refused at a line, or at line 0 for its size
 abbrev pub IsRefused : Option (List ℕ) → Option (List ℕ) → ℕ → ScriptCause → Type 0
-IsRefused before after line cause = (cause ≡ Cause.NotYet) × (((line ≡ 0) × TooBig before after) ⊎ BadLine before after line)
+IsRefused before after line cause =
+    (cause ≡ Cause.NotYet) × (((line ≡ 0) × TooBig before after) ⊎ BadLine before after line)
 
 -- why a script isn't read: the source failed, memory is wanting, or the script is refused
 abbrev pub ReadEnds : Option (List ℕ) → Option (List ℕ) → ℕ → ℕ → Status → Type 0
 ReadEnds before after faults faults' Ended.ReadFault = Rose faults faults'
 ReadEnds before after faults faults' Ended.NoMemory = ⊤
-ReadEnds before after faults faults' (Ended.BadScript line cause) = IsRefused before after line cause
+ReadEnds before after faults faults' (Ended.BadScript line cause) =
+    IsRefused before after line cause
 ReadEnds before after faults faults' _ = ⊥

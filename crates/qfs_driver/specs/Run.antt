@@ -33,18 +33,28 @@ module _ {D : Type 0} where
 
   -- the counts of faults of these devices, beside those of the disks
   abbrev pub counts_of : (D → ℕ) → List D → ℕ → ℕ → Counts
-  counts_of faults devices left right = record { devices = map faults devices; left = left; right = right }
+  counts_of faults devices left right =
+      record { devices = map faults devices; left = left; right = right }
 
-  -- the text of a script and of an order that fits it, is whole and is drawn from a number, in which every step came out
-  -- done; what the run leaves on the devices; and their faults, whatever the counts of the disks, which stay. In this order
-  -- there is one file history, every reply is that of a file stored, of bytes read or of a refusal, every get that is served
-  -- well reads the bytes of its path at its place, and no deletion names a current copy
-  pub record IsRunOf (told : D → Option Held) (faults : D → ℕ) (number : ℕ) (script : Script) (came behind : List D) (text : List ℕ) : Type 0 where
+  -- what an order of a script leaves: devices that stand for its servers, and faults that show it,
+  -- whatever the counts of the disks, which stay
+  pub record LeavesDevices (told : D → Option Held) (faults : D → ℕ) (script : Script)
+      (order : List Step) (came behind : List D) : Type 0 where
+    pub stand : StandAfter told script order came behind
+    pub faults_show : (left right : ℕ)
+        → FaultsShow script order (counts_of faults came left right) (counts_of faults behind left right)
+
+  -- the text of a script and of an order that fits it, is whole and is drawn from a number, in
+  -- which every step came out done; and what the run leaves on the devices. In this order there is
+  -- one file history, every reply is that of a file stored, of bytes read or of a refusal, every
+  -- get that is served well reads the bytes of its path at its place, and no deletion names a
+  -- current copy
+  pub record IsRunOf (told : D → Option Held) (faults : D → ℕ) (number : ℕ) (script : Script)
+      (came behind : List D) (text : List ℕ) : Type 0 where
     pub order : List Step
     pub printed : IsPrintedDrawn number script order text
     pub done : IsTrue (list_all is_done order)
-    pub devices : StandAfter told script order came behind
-    pub faults_show : (left right : ℕ) → FaultsShow script order (counts_of faults came left right) (counts_of faults behind left right)
+    pub devices : LeavesDevices told faults script order came behind
     pub one_history : OneFileHistory script order
     pub plain : PlainReplies script order
     pub every_get : EveryGet script order
@@ -55,12 +65,8 @@ module _ {D : Type 0} where
   Prints told faults number script came behind text =
       ServersTell told script.servers came → IsRunOf told faults number script came behind text
 
-  -- all devices are in their places, and those above the servers are as they came
-  pub record StayInPlace (servers : ℕ) (before behind : List D) : Type 0 where
-    pub as_many : length behind ≡ length before
-    pub spare : drop servers behind ≡ drop servers before
-
-  -- a device tells what it holds exactly where it told it before, and its count of faults hasn't fallen
+  -- a device tells what it holds exactly where it told it before, and its count of faults hasn't
+  -- fallen
   pub record Remains (told : D → Option Held) (faults : D → ℕ) (before behind : D) : Type 0 where
     pub tells : is_some (told behind) ≡ is_some (told before)
     pub never_falls : faults before ≤ faults behind
@@ -68,6 +74,13 @@ module _ {D : Type 0} where
   -- so do all devices, each in its place
   abbrev pub AllRemain : (D → Option Held) → (D → ℕ) → List D → List D → Type 0
   AllRemain told faults before behind = AllZip (Remains told faults) before behind
+
+  -- all devices are in their places, and those above the servers are as they came
+  pub record StayInPlace (told : D → Option Held) (faults : D → ℕ) (servers : ℕ)
+      (before behind : List D) : Type 0 where
+    pub as_many : length behind ≡ length before
+    pub spare : drop servers behind ≡ drop servers before
+    pub remain : AllRemain told faults before behind
 
   -- the count of faults of a server's device rose
   pub record HasFault (faults : D → ℕ) (server : ℕ) (before behind : List D) : Type 0 where
@@ -77,38 +90,44 @@ module _ {D : Type 0} where
     pub behind_is : numbered behind server ≡ Some new
     pub rose : Rose (faults old) (faults new)
 
-  -- a run of a script went by an order that fits it and is drawn from a number, until a Put or a Fetch failed at a server. What
-  -- it leaves on the devices, and their faults, whatever the counts of the disks
-  pub record IsRunTo (told : D → Option Held) (faults : D → ℕ) (number : ℕ) (script : Script) (server : ℕ) (came behind : List D) : Type 0 where
+  -- a run of a script went by an order that fits it and is drawn from a number, until a Put or a
+  -- Fetch failed at a server; and what it leaves on the devices
+  pub record IsRunTo (told : D → Option Held) (faults : D → ℕ) (number : ℕ) (script : Script)
+      (server : ℕ) (came behind : List D) : Type 0 where
     pub order : List Step
     pub fitting : IsTrue (fits script order)
     pub drawn : IsTrue (is_drawn number script order)
     pub fails : FailsLast script order server
-    pub devices : StandAfter told script order came behind
-    pub faults_show : (left right : ℕ) → FaultsShow script order (counts_of faults came left right) (counts_of faults behind left right)
+    pub devices : LeavesDevices told faults script order came behind
 
-  -- the device of a server of a script failed, and as far as the devices told what they held, in a Put or Fetch that ended a run
-  pub record FailsAtServer (told : D → Option Held) (faults : D → ℕ) (number : ℕ) (script : Script) (server : ℕ) (came behind : List D) : Type 0 where
+  -- the device of a server of a script failed, and as far as the devices told what they held, in a
+  -- Put or Fetch that ended a run
+  pub record FailsAtServer (told : D → Option Held) (faults : D → ℕ) (number : ℕ) (script : Script)
+      (server : ℕ) (came behind : List D) : Type 0 where
     pub one_of_them : server ≤ script.servers
     pub fault : HasFault faults server came behind
-    pub run : ServersTell told script.servers came → IsRunTo told faults number script server came behind
+    pub run : ServersTell told script.servers came
+        → IsRunTo told faults number script server came behind
 
-  -- the devices of a run are left standing for the servers after an order that fits the script, and their faults show it,
-  -- whatever the counts of the disks
-  pub record IsLeftAfter (told : D → Option Held) (faults : D → ℕ) (script : Script) (came behind : List D) : Type 0 where
+  -- the devices of a run are as an order that fits the script leaves them
+  pub record IsLeftAfter (told : D → Option Held) (faults : D → ℕ) (script : Script)
+      (came behind : List D) : Type 0 where
     pub order : List Step
     pub fitting : IsTrue (fits script order)
-    pub devices : StandAfter told script order came behind
-    pub faults_show : (left right : ℕ) → FaultsShow script order (counts_of faults came left right) (counts_of faults behind left right)
+    pub devices : LeavesDevices told faults script order came behind
 
-  -- memory was wanting in a run of a script: all devices are as they came, or as far as they told what they held, they are
-  -- left standing after some order
+  -- memory was wanting in a run of a script: all devices are as they came, or as far as they told
+  -- what they held, they are left standing after some order
   abbrev pub StopsForMemory : (D → Option Held) → (D → ℕ) → Script → List D → List D → Type 0
   StopsForMemory told faults script came behind =
-      (behind ≡ came) ⊎ (ServersTell told script.servers came → IsLeftAfter told faults script came behind)
+      (behind ≡ came)
+      ⊎ (ServersTell told script.servers came → IsLeftAfter told faults script came behind)
 
   -- why a run of a script stops early: memory is wanting, or the device of a server failed
-  abbrev pub StopsOver : (D → Option Held) → (D → ℕ) → ℕ → Script → List D → List D → Status → Type 0
-  StopsOver told faults number script came behind Ended.NoMemory = StopsForMemory told faults script came behind
-  StopsOver told faults number script came behind (Ended.DeviceFault server) = FailsAtServer told faults number script server came behind
+  abbrev pub StopsOver : (D → Option Held) → (D → ℕ) → ℕ → Script → List D → List D → Status
+      → Type 0
+  StopsOver told faults number script came behind Ended.NoMemory =
+      StopsForMemory told faults script came behind
+  StopsOver told faults number script came behind (Ended.DeviceFault server) =
+      FailsAtServer told faults number script server came behind
   StopsOver told faults number script came behind status = ⊥

@@ -16,8 +16,8 @@ use Rattle.qfs_driver.specs.declared.status.Status.TheVariants as Ended
 abbrev pub number_of : Plan → ℕ
 number_of (By.Drawn number) = number
 
--- what a run finds outside and leaves there: what is left in the source, what was written to the sink, how often the two have
--- failed, and the devices
+-- what a run finds outside and leaves there: what is left in the source, what was written to the
+-- sink, how often the two have failed, and the devices
 pub record Outside (D : Type 0) : Type 0 where
   pub left : Option (List ℕ)
   pub source_faults : ℕ
@@ -25,9 +25,10 @@ pub record Outside (D : Type 0) : Type 0 where
   pub sink_faults : ℕ
   pub devices : List D
 
--- the outside of these streams and devices, by what a source has left, what was written to a sink, and the counts of their
--- faults
-abbrev pub outside_of : {S K D : Type 0} → (S → Option (List ℕ)) → (S → ℕ) → (K → Option (List ℕ)) → (K → ℕ)
+-- the outside of these streams and devices, by what a source has left, what was written to a sink,
+-- and the counts of their faults
+abbrev pub outside_of : {S K D : Type 0} → (S → Option (List ℕ)) → (S → ℕ) → (K → Option (List ℕ))
+    → (K → ℕ)
     → S → K → List D → Outside D
 outside_of left source_faults written sink_faults source sink devices = record {
   left = left source;
@@ -39,21 +40,24 @@ outside_of left source_faults written sink_faults source sink devices = record {
 
 module _ {D : Type 0} where
   -- a script was read whole, and this is the text of its run
-  pub record Runs (told : D → Option Held) (faults : D → ℕ) (number : ℕ) (before after : Outside D) (text : List ℕ) : Type 0 where
+  pub record Runs (told : D → Option Held) (faults : D → ℕ) (number : ℕ) (before after : Outside D)
+      (text : List ℕ) : Type 0 where
     pub script : Script
     pub read : ReadsWhole before.left after.left script
     pub enough : script.servers ≤ length before.devices
     pub prints : Prints told faults number script before.devices after.devices text
-    pub places : StayInPlace script.servers before.devices after.devices
+    pub places : StayInPlace told faults script.servers before.devices after.devices
 
   -- the text of the run was written whole
-  pub record WritesWhole (told : D → Option Held) (faults : D → ℕ) (number : ℕ) (before after : Outside D) : Type 0 where
+  pub record WritesWhole (told : D → Option Held) (faults : D → ℕ) (number : ℕ)
+      (before after : Outside D) : Type 0 where
     pub text : List ℕ
     pub runs : Runs told faults number before after text
     pub written : Appends text before.written after.written
 
   -- a first part of the text of the run was written, and the sink failed
-  pub record WritesPart (told : D → Option Held) (faults : D → ℕ) (number : ℕ) (before after : Outside D) : Type 0 where
+  pub record WritesPart (told : D → Option Held) (faults : D → ℕ) (number : ℕ)
+      (before after : Outside D) : Type 0 where
     pub text : List ℕ
     pub runs : Runs told faults number before after text
     pub count : ℕ
@@ -70,36 +74,52 @@ module _ {D : Type 0} where
     pub fewer : devices < servers
 
   -- a script was read whole, and the device of one of its servers failed in its run
-  pub record StopsAtFault (told : D → Option Held) (faults : D → ℕ) (number server : ℕ) (before after : Outside D) : Type 0 where
+  pub record StopsAtFault (told : D → Option Held) (faults : D → ℕ) (number server : ℕ)
+      (before after : Outside D) : Type 0 where
     pub script : Script
     pub read : ReadsWhole before.left after.left script
     pub enough : script.servers ≤ length before.devices
     pub fails : FailsAtServer told faults number script server before.devices after.devices
-    pub places : StayInPlace script.servers before.devices after.devices
+    pub places : StayInPlace told faults script.servers before.devices after.devices
 
   -- memory was wanting in the run of a script that was read whole
-  pub record StopsInRun (told : D → Option Held) (faults : D → ℕ) (before after : Outside D) : Type 0 where
+  pub record StopsInRun (told : D → Option Held) (faults : D → ℕ) (before after : Outside D)
+      : Type 0 where
     pub script : Script
     pub read : ReadsWhole before.left after.left script
     pub most : script.servers ≤ MOST_SERVERS
     pub enough : script.servers ≤ length before.devices
     pub stops : StopsForMemory told faults script before.devices after.devices
-    pub places : StayInPlace script.servers before.devices after.devices
+    pub places : StayInPlace told faults script.servers before.devices after.devices
 
   -- memory was wanting: all devices are as they came, or it was so in a run
   abbrev pub LacksMemory : (D → Option Held) → (D → ℕ) → Outside D → Outside D → Type 0
-  LacksMemory told faults before after = (after.devices ≡ before.devices) ⊎ StopsInRun told faults before after
+  LacksMemory told faults before after =
+      (after.devices ≡ before.devices) ⊎ StopsInRun told faults before after
 
   -- each status has its cause; want of memory may come at any time
   abbrev pub EndsSo : (D → Option Held) → (D → ℕ) → ℕ → Outside D → Outside D → Status → Type 0
   EndsSo told faults number before after Ended.Ok = WritesWhole told faults number before after
   EndsSo told faults number before after Ended.Usage = ⊥
-  EndsSo told faults number before after (Ended.BadScript line cause) = IsRefused before.left after.left line cause
-  EndsSo told faults number before after (Ended.TooFewDevices servers devices) = LacksDevices servers devices before after
-  EndsSo told faults number before after Ended.ReadFault = Rose before.source_faults after.source_faults
-  EndsSo told faults number before after Ended.WriteFault = WritesPart told faults number before after
+  EndsSo told faults number before after (Ended.BadScript line cause) =
+      IsRefused before.left after.left line cause
+  EndsSo told faults number before after (Ended.TooFewDevices servers devices) =
+      LacksDevices servers devices before after
+  EndsSo told faults number before after Ended.ReadFault =
+      Rose before.source_faults after.source_faults
+  EndsSo told faults number before after Ended.WriteFault =
+      WritesPart told faults number before after
   EndsSo told faults number before after Ended.NoMemory = LacksMemory told faults before after
-  EndsSo told faults number before after (Ended.DeviceFault server) = StopsAtFault told faults number server before after
+  EndsSo told faults number before after (Ended.DeviceFault server) =
+      StopsAtFault told faults number server before after
+
+-- where a script has more servers than there are devices, a run ends so, unless the source fails or
+-- memory is wanting
+abbrev pub IsTooFew : (servers devices : ℕ) → Status → Type 0
+IsTooFew servers devices (Ended.TooFewDevices asked there) = (asked ≡ servers) × (there ≡ devices)
+IsTooFew servers devices Ended.ReadFault = ⊤
+IsTooFew servers devices Ended.NoMemory = ⊤
+IsTooFew servers devices status = ⊥
 
 -- nothing is written but with the statuses Ok and WriteFault
 abbrev pub OnUnwritten : Status → Type 0 → Type 0

@@ -1,8 +1,10 @@
 //! A run on one thread, from the script's bytes to the text that is written.
-ghost use Rattle.std.specs.Prelude.{◌≡◌, All, length};
+ghost use Rattle.std.specs.Prelude.{◌≡◌, ◌<◌, ◌≤◌, All, length};
 ghost use Rattle.qfs_driver.specs.Run.{AllRemain};
-ghost use Rattle.qfs_driver.specs.Serial.{EndsSo, OnUntouched, OnUnwritten, number_of, outside_of};
-ghost use Rattle.qfs_world.specs.Calls.{IsNew};
+ghost use Rattle.qfs_base.specs.declared.script.Script.{Script};
+ghost use Rattle.qfs_driver.specs.Reading.{TellsScript};
+ghost use Rattle.qfs_driver.specs.Serial.{EndsSo, IsTooFew, OnUntouched, OnUnwritten, number_of, outside_of};
+ghost use Rattle.qfs_nodes.specs.Nodes.{IsNew};
 
 use crate::reading::read_script;
 use crate::run::run;
@@ -26,7 +28,8 @@ pub enum Plan {
 ///   text was written.
 /// - DeviceFault: the count of faults of this server's device rose; as far as the servers' devices
 ///   tell, in a Put or a Fetch, the last step of an order that fits the script and is drawn.
-/// - TooFewDevices: a script was read whole that has more servers than there are devices.
+/// - TooFewDevices: a script was read whole that has more servers than there are devices. Where the
+///   source tells that it has such a script, no other status comes but ReadFault and NoMemory.
 /// - BadScript: the source was read to its end, and this line is the first that isn't of the forms
 ///   built so far; or, at line 0, it gave more than 16,777,216 bytes.
 /// - ReadFault: the count of the source's faults rose.
@@ -34,7 +37,8 @@ pub enum Plan {
 ///   they came; or, as far as the servers' devices tell, they stand after an order that fits the
 ///   script that was read.
 ///
-/// Nothing is written but with Ok and WriteFault. With each status every device stands in its
+/// Nothing is written but with Ok and WriteFault. The counts of faults of source and sink haven't
+/// fallen. With each status every device stands in its
 /// place: it tells what it holds exactly where it told it before, and its count of faults hasn't
 /// fallen. Those above the script's servers are as they came; with ReadFault, BadScript and
 /// TooFewDevices, all. The disks are always as they came.
@@ -51,6 +55,11 @@ pub fn serial<S: Source, K: Sink, D: ChunkDevice, L: LogDisk>(
         (outside_of S.left S.faults K.written K.faults script.old out.old devices.old.items)
         (outside_of S.left S.faults K.written K.faults script.new out.new devices.new.items)
         result }
+    ensures too_few { (asked : Script) → TellsScript (S.left script.old) asked
+        → length devices.old.items < asked.servers
+        → IsTooFew asked.servers (length devices.old.items) result }
+    ensures source_count { S.faults script.old ≤ S.faults script.new }
+    ensures sink_count { K.faults out.old ≤ K.faults out.new }
     ensures unwritten { OnUnwritten result (out.new ≡ out.old) }
     ensures untouched { OnUntouched result (devices.new ≡ devices.old) }
     ensures places { length devices.new.items ≡ length devices.old.items }
@@ -77,6 +86,8 @@ fn drawn<S: Source, K: Sink, D: ChunkDevice, L: LogDisk>(
         (outside_of S.left S.faults K.written K.faults script.old out.old devices.old.items)
         (outside_of S.left S.faults K.written K.faults script.new out.new devices.new.items)
         result }
+    ensures source_count { S.faults script.old ≤ S.faults script.new }
+    ensures sink_count { K.faults out.old ≤ K.faults out.new }
     ensures unwritten { OnUnwritten result (out.new ≡ out.old) }
     ensures untouched { OnUntouched result (devices.new ≡ devices.old) }
     ensures places { length devices.new.items ≡ length devices.old.items }

@@ -3,7 +3,7 @@ ghost use Rattle.std.specs.Prelude.{◌≡◌, ◌<◌, [], length, OnOk, OnErr,
 ghost use Rattle.rand_pcg.specs.Pcg.{pcg32};
 ghost use Rattle.qfs_driver.specs.Playing.{Continues, IsDrawnSo, HasEnded, StopsAt, StopsDrawnStep, StopsStep, TakesDrawnStep};
 ghost use Rattle.qfs_world.specs.Calls.{HasTurn, Steps};
-ghost use Rattle.qfs_world.specs.Running.{turn_of};
+ghost use Rattle.qfs_world.specs.View.{turn_of};
 
 use crate::draws::{draw, generator_of};
 use crate::status::Status;

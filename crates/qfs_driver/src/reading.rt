@@ -1,5 +1,5 @@
 //! The script of a run is read whole.
-ghost use Rattle.std.specs.Prelude.{IfOk, IfErr};
+ghost use Rattle.std.specs.Prelude.{◌≤◌, IfOk, IfErr};
 ghost use Rattle.qfs_driver.specs.Reading.{ReadsWhole, ReadEnds};
 
 use crate::status::Status;
@@ -16,6 +16,7 @@ const MOST_SCRIPT_BYTES: usize = 16_777_216;
 /// at line 0.
 pub fn read_script<S: Source>(alloc: Global, source: &mut S) -> Result<Script, Status>
     ensures ok { IfOk result (ReadsWhole (S.left source.old) (S.left source.new)) }
+    ensures never_falls { S.faults source.old ≤ S.faults source.new }
     ensures err { IfErr result (ReadEnds (S.left source.old) (S.left source.new)
         (S.faults source.old) (S.faults source.new)) }
 {

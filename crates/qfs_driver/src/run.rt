@@ -1,8 +1,8 @@
 //! A script is run over devices and disks that are handed in, and its text is made.
 ghost use Rattle.std.specs.Prelude.{◌≡◌, ◌≤◌, length, All, IfOk, IfErr};
-ghost use Rattle.qfs_driver.specs.Run.{AllRemain, Prints, StayInPlace, StopsOver};
+ghost use Rattle.qfs_driver.specs.Run.{Prints, StayInPlace, StopsOver};
 ghost use Rattle.qfs_driver.specs.Scripts.{IsReadScript};
-ghost use Rattle.qfs_world.specs.Calls.{IsNew};
+ghost use Rattle.qfs_nodes.specs.Nodes.{IsNew};
 
 use crate::output::text_of;
 use crate::play::play;
@@ -15,7 +15,7 @@ use std::mem;
 
 /// Runs a script by the order that is drawn from a number, and gives its text. The error is why
 /// the run stopped early. In either case the devices stand in their places again.
-#[tactic(auto, using(crate::proofs::Remaining::same_remain))]
+#[tactic(auto, using(crate::proofs::Remaining::same_stay))]
 pub fn run<D: ChunkDevice, L: LogDisk>(
     alloc: Global,
     number: u64,
@@ -30,8 +30,8 @@ pub fn run<D: ChunkDevice, L: LogDisk>(
         devices.old.items devices.new.items text.items) }
     ensures err { IfErr result (StopsOver D.told D.faults number script.now
         devices.old.items devices.new.items) }
-    ensures places { StayInPlace script.now.servers devices.old.items devices.new.items }
-    ensures kept { AllRemain D.told D.faults devices.old.items devices.new.items }
+    ensures places { StayInPlace D.told D.faults script.now.servers
+        devices.old.items devices.new.items }
     ensures disks { disks.new ≡ disks.old }
 {
     let taken = mem::replace(devices, Vec::new(alloc));

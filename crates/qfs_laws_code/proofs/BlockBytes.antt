@@ -1,20 +1,15 @@
 -- The bytes of a block's slots are bytes.
-use Rattle.std.proofs.Common.{ℕ, zero, suc, ◌+◌, ◌*◌, ◌<◌, Bool, true, false, List, [], ◌∷◌, get_or, map, arith, lit<, All}
+use Rattle.std.proofs.Common.{ℕ, ◌+◌, ◌*◌, ◌<◌, Bool, true, false, List, [], ◌∷◌, map, lit<, All}
 use Rattle.std.specs.Prelude.{nat_lt}
 use Rattle.std.proofs.lemmas.Nat.{xor_lt}
 use Rattle.qfs_base.specs.Layout.{offset_of}
 use Rattle.qfs_base.specs.Shape.{Shape}
 use Rattle.qfs_base.specs.Sizes.{DATA_SLOTS}
+use Rattle.qfs_code.proofs.Encoding.{byte_at}
 use Rattle.qfs_galois.specs.Field.{product, power}
 use Rattle.qfs_galois.proofs.FieldLaws.{power-lt, product-lt}
 use Rattle.qfs_model_slot.specs.CodeWord.{data_slots, weighted_sum, parity}
 use Rattle.qfs_model_slot.specs.Slot.{data_byte, data_bytes, byte_of_kind, slot_byte}
-
--- what stands at a place of bytes is a byte, also behind their end
-pub byte_at : (bytes : List ℕ) (i : ℕ) → All (λ byte. byte < 256) bytes → get_or bytes i 0 < 256
-byte_at [] i each = lit< tt
-byte_at (b ∷ bs) zero each = each 0 0 (omega arith)
-byte_at (b ∷ bs) (suc i) each = byte_at bs i (λ k d inside. each (suc k) d (omega arith))
 
 -- a weighted sum of bytes is a byte
 sum_lt : (f : ℕ → ℕ) → ((j : ℕ) → f j < 256) → (e i : ℕ) (js : List ℕ) → weighted_sum e i (map f js) < 256

@@ -8,7 +8,8 @@ use Rattle.qfs_base.specs.declared.request.MetaRequest.TheVariants as Ask
 use Rattle.qfs_base.specs.declared.request.NodeRequest.{NodeRequest}
 use Rattle.qfs_base.specs.declared.request.NodeRequest.TheVariants as To
 
--- the metaserver is asked to make, grant, close and give up a file that is put, and to open and release one that is read
+-- the metaserver is asked to make, grant, close and give up a file that is put, and to open and
+-- release one that is read
 abbrev pub IsAskedOfMeta : MetaRequest → Type 0
 IsAskedOfMeta (Ask.Create path command len) = ⊤
 IsAskedOfMeta (Ask.Grant file index slot again) = ⊤
@@ -18,7 +19,8 @@ IsAskedOfMeta (Ask.OpenFile path) = ⊤
 IsAskedOfMeta (Ask.Release lease) = ⊤
 IsAskedOfMeta request = ⊥
 
--- a chunk server is asked to store a slot of a block, of no more bytes than a chunk can have, and to read bytes of one
+-- a chunk server is asked to store a slot of a block, of no more bytes than a chunk can have, and
+-- to read bytes of one
 abbrev pub IsAskedOfServer : ChunkRequest → Type 0
 IsAskedOfServer (Serve.Put key life bytes) = (key.slot < SLOTS) × (length bytes ≤ MOST_CHUNK_BYTES)
 IsAskedOfServer (Serve.Fetch key life from room) = ⊤

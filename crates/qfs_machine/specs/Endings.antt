@@ -22,21 +22,21 @@ ending_of_chunk Did.NoMemory = Some By.NoMemory
 ending_of_chunk answer = None
 
 -- the report of a command that ends so
-unfoldable pub report_of : Ending → Report
-report_of (By.Dropped turn) = Report.Dropped turn
-report_of By.LogFault = Report.LogFault
-report_of By.NoMemory = Report.NoMemory
-report_of (By.BadLog right offset) = Report.BadLog right offset
-report_of By.Unnamed = Report.Unnamed
+unfoldable pub report_of_ending : Ending → Report
+report_of_ending (By.Dropped turn) = Report.Dropped turn
+report_of_ending By.LogFault = Report.LogFault
+report_of_ending By.NoMemory = Report.NoMemory
+report_of_ending (By.BadLog right offset) = Report.BadLog right offset
+report_of_ending By.Unnamed = Report.Unnamed
 
--- what is left of a command that ends so: a dropped actor, and one that was answered what its request doesn't allow, end
--- at once; all others give up first
-unfoldable pub ended : (Report → Work) → Ending → Work
-ended give_up (By.Dropped turn) = ends (Report.Dropped turn)
-ended give_up By.Unnamed = ends Report.Unnamed
-ended give_up ending = give_up (report_of ending)
+-- what is left of a command that ends so: a dropped actor, and one that was answered what its
+-- request doesn't allow, end at once; all others give up first
+unfoldable pub ended_by : (Report → Work) → Ending → Work
+ended_by give_up (By.Dropped turn) = ends (Report.Dropped turn)
+ended_by give_up By.Unnamed = ends Report.Unnamed
+ended_by give_up ending = give_up (report_of_ending ending)
 
 -- what is left of a command that ends so, or goes on
 unfoldable pub ended_or : (Report → Work) → Work → Option Ending → Work
 ended_or give_up next None = next
-ended_or give_up next (Some ending) = ended give_up ending
+ended_or give_up next (Some ending) = ended_by give_up ending

@@ -1,9 +1,9 @@
 //! How any command may end, whatever it does.
-#![tactic(auto, unfolding(crate::specs::Endings::ending_of_meta, crate::specs::Endings::ending_of_chunk, crate::specs::Endings::report_of, qfs_model_actor::specs::Shown::shown_reply))]
+#![tactic(auto, unfolding(crate::specs::Endings::ending_of_meta, crate::specs::Endings::ending_of_chunk, crate::specs::Endings::report_of_ending, qfs_model_actor::specs::Shown::shown_reply))]
 
 ghost use Rattle.std.specs.Prelude.{◌≡◌};
 ghost use Rattle.qfs_model_actor.specs.Shown.{kept_report};
-ghost use Rattle.qfs_machine.specs.Endings.{ending_of_meta, ending_of_chunk, report_of};
+ghost use Rattle.qfs_machine.specs.Endings.{ending_of_meta, ending_of_chunk, report_of_ending};
 
 use qfs_base::command::{Excerpt, Reply};
 use qfs_base::numbers::Turn;
@@ -53,7 +53,7 @@ impl Ending {
 
     /// The reply of a command that ends so, as it is kept. Takes no memory.
     pub fn into_reply(self) -> Reply<Excerpt>
-        ensures { result ≡ kept_report (report_of self) }
+        ensures { result ≡ kept_report (report_of_ending self) }
     {
         match self {
             Ending::Dropped { turn } => Reply::Dropped { turn },

@@ -1,8 +1,8 @@
 //! A machine carries out one command of an actor, a request at a time.
-ghost use Rattle.std.specs.Prelude.{◌≡◌, None, IfSome, OnOk, OnErr, option_map};
-ghost use Rattle.qfs_model_actor.specs.Work.{Work, goes_on, request_in, node_of_request};
+ghost use Rattle.std.specs.Prelude.{◌≡◌, None, IfSome, OnOk, OnErr};
+ghost use Rattle.qfs_model_actor.specs.Work.{Work, goes_on, request_in};
 ghost use Rattle.qfs_machine.specs.declared.machine.Readiness.{Readiness};
-ghost use Rattle.qfs_machine.specs.Asking.{IsOut, MayAsk, after_asking};
+ghost use Rattle.qfs_machine.specs.Asking.{IsOut, MayHandOut, after_asking, node_asked};
 ghost use Rattle.qfs_machine.specs.Askable.{IsAskable};
 ghost use Rattle.qfs_machine.specs.Kept.{Reports};
 
@@ -46,11 +46,11 @@ pub trait Machine: Drop + Send + Sync {
     /// The node of the next request, or of the one that is out: 0 is the metaserver, s is server s.
     /// None where the machine has ended.
     fn goes_to(&self) -> Option<NodeId>
-        ensures { result ≡ option_map node_of_request (request_in (rest self.now)) };
+        ensures { result ≡ node_asked (rest self.now) };
 
     /// Hands the next request out, if the machine hasn't ended.
     fn next(&mut self) -> Option<NodeRequest>
-        requires { MayAsk (readiness self.old) (rest self.old) }
+        requires { MayHandOut (readiness self.old) (rest self.old) }
         ensures request { result ≡ request_in (rest self.old) }
         ensures rest { rest self.new ≡ rest self.old }
         ensures out { readiness self.new ≡ after_asking result (readiness self.old) }

@@ -8,6 +8,7 @@ use Rattle.std.proofs.lemmas.Grind.{div_ceil_times}
 use Rattle.std.proofs.lemmas.List.Concat.{length-flat_map}
 use Rattle.std.proofs.lemmas.List.FromFn.{length-map-range_with_len, length-range_with_len}
 use Rattle.std.proofs.lemmas.List.Sums.{sum_by-le}
+use Rattle.qfs_base.specs.EachLaws.{each_all, each_weaker}
 use Rattle.qfs_base.specs.Recipe.{pattern_byte}
 use Rattle.qfs_base.specs.Shape.{Shape}
 use Rattle.qfs_base.specs.Table.{Each}
@@ -18,7 +19,7 @@ use Rattle.qfs_base.specs.declared.script.Script.{Script}
 use Rattle.qfs_model_script.specs.InScript.{IsCommand, IsScript, actors_of, len_put, lens_put, blocks_in, chunk_bytes_of_block, chunk_bytes_in}
 use Rattle.qfs_model_script.specs.MadeScript.{file_in, files_each, words_each, writers, words_of_writer, puts_from, writer, reader, emptied_server, writing_phase, repairing_phase, reading_phase, script_of_words, words_of, script_generator, made_script}
 use Rattle.qfs_model_script.proofs.MadeNames.{directory_path, file_path, IsWord, words_fit}
-use Rattle.qfs_model_script.proofs.SmallPuts.{each_all, each_then, each_flat, IsSmall, lens_small, length-lens}
+use Rattle.qfs_model_script.proofs.SmallPuts.{each_flat, IsSmall, lens_small, length-lens}
 use lib.Count.{ones}
 
 -- ---- what holds of each
@@ -158,14 +159,14 @@ module _ (words : List ℕ) (each : Each IsWord words) where
   commands_few : length (flat_map (λ commands. commands) actors) ≤ 2420
   commands_few =
       let short : All (λ commands. length commands ≤ 121) actors =
-      each_all (λ commands. length commands ≤ 121) actors (each_then AreFew (λ commands. length commands ≤ 121) (λ commands is. is.few) actors few) in
+      each_all (λ commands. length commands ≤ 121) actors (each_weaker AreFew (λ commands. length commands ≤ 121) (λ commands is. is.few) actors few) in
       omega (arith, length-actors, length-flat_map (λ commands. commands) actors, sum_by-le length 121 actors short)
 
   small_puts : Each (λ len. len ≤ 40000) (lens_put script)
   unfolding actors
   small_puts =
       lens_small 40000 (flat_map (λ commands. commands) actors)
-      (each_flat (IsSmall 40000) actors (each_then AreFew (Each (IsSmall 40000)) (λ commands is. is.small) actors few))
+      (each_flat (IsSmall 40000) actors (each_weaker AreFew (Each (IsSmall 40000)) (λ commands is. is.small) actors few))
 
   few_puts : length (lens_put script) ≤ 2420
   unfolding actors
@@ -182,9 +183,9 @@ module _ (words : List ℕ) (each : Each IsWord words) where
         term = omega arith;
         phases = (omega arith, omega arith);
         few_actors = omega (arith, length-actors);
-        few_commands = each_then AreFew (λ commands. length commands ≤ 4096) (λ commands is. omega (arith, is.few)) actors few;
-        commands = each_then AreFew (Each (IsCommand 12)) (λ commands is. is.ranges) actors few;
-        blocks_of_put = each_then (λ len. len ≤ 40000) (λ len. blocks_in made_layout len ≤ 65536) (λ len most. omega (arith, few_blocks len most)) (lens_put script) small_puts;
+        few_commands = each_weaker AreFew (λ commands. length commands ≤ 4096) (λ commands is. omega (arith, is.few)) actors few;
+        commands = each_weaker AreFew (Each (IsCommand 12)) (λ commands is. is.ranges) actors few;
+        blocks_of_put = each_weaker (λ len. len ≤ 40000) (λ len. blocks_in made_layout len ≤ 65536) (λ len most. omega (arith, few_blocks len most)) (lens_put script) small_puts;
         blocks = omega (arith, few_puts, sum_by-le (blocks_in made_layout) 4 (lens_put script) (λ k d inside. few_blocks _ (all_small k d inside)));
         chunk_bytes = omega (arith, few_puts, sum_by-le (chunk_bytes_in made_layout) 73728 (lens_put script) (λ k d inside. few_bytes _ (all_small k d inside)));
         order = tt;

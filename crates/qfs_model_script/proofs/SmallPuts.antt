@@ -1,25 +1,13 @@
 -- Commands whose puts are small, and what all puts of a script come to then.
-use Rattle.std.proofs.Common.{ℕ, zero, suc, ◌≤◌, List, [], ◌∷◌, ◌++◌, length, Option, Some, None, arith, All}
+use Rattle.std.proofs.Common.{ℕ, suc, ◌≤◌, List, [], ◌∷◌, length, Option, Some, None, arith}
 use Rattle.std.specs.Prelude.{flat_map, filter_map, IfSome}
 use Rattle.std.specs.List.{cons_option}
+use Rattle.qfs_base.specs.EachLaws.{each_append}
 use Rattle.qfs_base.specs.Table.{Each}
 use Rattle.qfs_base.specs.declared.command.Command.{Command}
 use Rattle.qfs_model_script.specs.InScript.{len_put}
 
 -- ---- what holds of each
-
-pub each_all : {X : Type 0} (P : X → Type 0) (xs : List X) → Each P xs → All P xs
-each_all P [] each k d inside = absurd (omega arith)
-each_all P (x ∷ xs) each zero d inside = each.0
-each_all P (x ∷ xs) each (suc k) d inside = each_all P xs each.1 k d (omega arith)
-
-pub each_then : {X : Type 0} (P Q : X → Type 0) → ((x : X) → P x → Q x) → (xs : List X) → Each P xs → Each Q xs
-each_then P Q then [] each = tt
-each_then P Q then (x ∷ xs) each = (then x each.0, each_then P Q then xs each.1)
-
-pub each_append : {X : Type 0} (P : X → Type 0) (xs ys : List X) → Each P xs → Each P ys → Each P (xs ++ ys)
-each_append P [] ys each more = more
-each_append P (x ∷ xs) ys each more = (each.0, each_append P xs ys each.1 more)
 
 pub each_flat : {X : Type 0} (P : X → Type 0) (lists : List (List X)) → Each (Each P) lists → Each P (flat_map (λ xs. xs) lists)
 each_flat P [] each = tt

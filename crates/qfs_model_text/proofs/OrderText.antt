@@ -4,6 +4,7 @@ use Rattle.std.specs.Prelude.{decimal, if◌then◌else◌}
 use Rattle.std.proofs.lemmas.Bool.{and_parts, ltb-true}
 use Rattle.std.proofs.lemmas.Fmt.{decimal_injective}
 use Rattle.std.proofs.lemmas.List.{replicate-append-replicate}
+use Rattle.qfs_base.specs.EachLaws.{each_append}
 use borrow.Author.Tests.{eqb-true}
 use Rattle.qfs_base.specs.Order.{steps_of_runs}
 use Rattle.qfs_base.specs.Sizes.{LONGEST_RUN}
@@ -14,7 +15,7 @@ use Rattle.qfs_base.specs.declared.history.Step.{Step}
 use Rattle.qfs_base.specs.declared.order.StepRun.{StepRun}
 use Rattle.qfs_model_text.specs.Line.{more_words}
 use Rattle.qfs_model_text.specs.Order.{same_outcome, goes_on_run, outcome_mark, run_word, ends_run, runs_after, runs, HasActor, LinesTellOrders}
-use Rattle.qfs_model_text.proofs.WordsApart.{Begins, same_cut, same_words, IsInWord, IsDigit, digits_of, each_append}
+use Rattle.qfs_model_text.proofs.WordsApart.{Begins, same_cut, same_words, IsInWord, IsDigit, digits_of}
 
 -- ---- a run's word
 
@@ -163,7 +164,7 @@ words_told [] = refl
 words_told (step ∷ steps) = words_after step 1 steps
 
 -- what a step that goes on a run is
-alike : (first second : Outcome) → same_outcome first second ≡ true → first ≡ second
+pub alike : (first second : Outcome) → same_outcome first second ≡ true → first ≡ second
 unfolding same_outcome
 alike Ended.Done Ended.Done is = refl
 alike Ended.Done Ended.Failed is = absurd (cc)

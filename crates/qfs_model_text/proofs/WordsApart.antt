@@ -2,12 +2,9 @@
 use Rattle.std.proofs.Common.{◌≡◌, ℕ, ◌+◌, ◌%◌, ◌^◌, ◌<◌, ◌≤◌, List, [], ◌∷◌, ◌++◌, refl, sym, subst, arith, ◌∙◌, append_assoc}
 use Rattle.std.specs.Prelude.{decimal}
 use Rattle.std.proofs.lemmas.Fmt.{decimal_by_steps}
+use Rattle.qfs_base.specs.EachLaws.{each_append}
 use Rattle.qfs_base.specs.Table.{Each}
 use Rattle.qfs_model_text.specs.Line.{Words, more_words}
-
-pub each_append : {X : Type 0} (P : X → Type 0) (xs ys : List X) → Each P xs → Each P ys → Each P (xs ++ ys)
-each_append P [] ys each more = more
-each_append P (x ∷ xs) ys each more = (each.0, each_append P xs ys each.1 more)
 
 -- a text that begins with such a byte
 pub record Begins (Ends : ℕ → Type 0) (text : List ℕ) : Type 0 where

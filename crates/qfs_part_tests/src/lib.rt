@@ -1,15 +1,8 @@
-//! The tests of the parts that stand alone: lists, the field and the code, layouts, recipes, paths,
-//! records, devices, numbers in scripts. A crate with tests is proved twice, so they stand apart from
-//! the crates that they test. Expected values come from worked rows and tables, and never from the
-//! program.
+//! The tests of the parts that stand alone: lists, layouts, recipes, paths, numbers in scripts. A
+//! crate with tests is proved twice, so they stand apart from the crates that they test. Expected
+//! values come from worked rows and tables, and never from the program.
 #![tactic(auto)]
 
-#[cfg(test)]
-mod code;
-#[cfg(test)]
-mod devices;
-#[cfg(test)]
-mod field;
 #[cfg(test)]
 mod layout;
 #[cfg(test)]
@@ -18,7 +11,5 @@ mod lists;
 mod paths;
 #[cfg(test)]
 mod recipe;
-#[cfg(test)]
-mod records;
 #[cfg(test)]
 mod script;

@@ -14,30 +14,30 @@ use Rattle.qfs_model_actor.specs.Hold.{opened, unnamed, was_released, end_with}
 use Rattle.qfs_model_actor.specs.Shown.{kept_report}
 use Rattle.qfs_model_actor.specs.Tree.{refused}
 use Rattle.qfs_model_actor.specs.Work.{Report, Work, ends}
-use Rattle.qfs_machine.specs.Endings.{report_of as common_report}
+use Rattle.qfs_machine.specs.Endings.{report_of_ending}
 use Rattle.qfs_machine.specs.declared.ending.Ending.{Ending}
 use Rattle.qfs_machine.specs.declared.ending.Ending.TheVariants as By
-use Rattle.qfs_reader.specs.Rest.{rest_at, report_of}
-use Rattle.qfs_reader.specs.Standing.{IsAt}
+use Rattle.qfs_reader.specs.Rest.{rest_of_get, report_of_get}
+use Rattle.qfs_reader.specs.ReaderState.{IsGetStage}
 use Rattle.qfs_reader.specs.declared.stage.Get.{Get}
 use Rattle.qfs_reader.specs.declared.stage.GetEnding.TheVariants as With
 use Rattle.qfs_reader.specs.declared.stage.Stage.{Stage}
 use Rattle.qfs_reader.specs.declared.stage.Stage.TheVariants as At
 
 -- a get that ends as any command may
-pub ended-rest : (get : Get) (stage : Stage) (ending : Ending) → stage ≡ At.Ended (With.Common ending) (kept_report (common_report ending))
-    → rest_at get stage ≡ ends (common_report ending)
-unfolding rest_at report_of
+pub ended-rest : (get : Get) (stage : Stage) (ending : Ending) → stage ≡ At.Ended (With.Common ending) (kept_report (report_of_ending ending))
+    → rest_of_get get stage ≡ ends (report_of_ending ending)
+unfolding rest_of_get report_of_get
 ended-rest get stage ending is = rw is refl
 
-pub ended-at : (get : Get) (stage : Stage) (ending : Ending) → stage ≡ At.Ended (With.Common ending) (kept_report (common_report ending))
-    → IsAt get stage
-unfolding report_of
+pub ended-at : (get : Get) (stage : Stage) (ending : Ending) → stage ≡ At.Ended (With.Common ending) (kept_report (report_of_ending ending))
+    → IsGetStage get stage
+unfolding report_of_get
 ended-at get stage ending is = rw is refl
 
-pub unnamed-rest : (get : Get) (stage : Stage) → stage ≡ At.Ended (With.Common By.Unnamed) (kept_report (common_report By.Unnamed))
-    → rest_at get stage ≡ unnamed
-unfolding rest_at report_of common_report
+pub unnamed-rest : (get : Get) (stage : Stage) → stage ≡ At.Ended (With.Common By.Unnamed) (kept_report (report_of_ending By.Unnamed))
+    → rest_of_get get stage ≡ unnamed
+unfolding rest_of_get report_of_get report_of_ending
 unnamed-rest get stage is = rw is refl
 
 pub released-other : (next : Work) (answer : MetaReply) → ((place : ℕ) → answer ≡ Said.Done place → ⊥) → (answer ≡ Said.Gone → ⊥)

@@ -12,8 +12,9 @@ use Rattle.qfs_model_actor.specs.Ask.{ask, key_of, on_chunk, fetch}
 use Rattle.qfs_model_actor.specs.Get.{attempt, was_opened}
 use Rattle.qfs_model_actor.specs.Hold.{nothing, opened, unnamed, ask_or, on_answer, on_meta, was_released, end_with, give_back}
 use Rattle.qfs_model_actor.specs.Work.{Work, ends, goes_on, node_of_request, request_in}
-use Rattle.qfs_reader.specs.Rest.{again, opening, rest_at, rest_of_position, window_bytes}
-use Rattle.qfs_reader.specs.Standing.{IsAt, IsReadable, HasEnded}
+use Rattle.qfs_machine.specs.Asking.{node_asked}
+use Rattle.qfs_reader.specs.Rest.{rest_of_get, rest_of_position, window_bytes}
+use Rattle.qfs_reader.specs.ReaderState.{IsGetStage, IsAtSlot, IsEnd}
 use Rattle.qfs_reader.specs.declared.stage.Attempt.{Attempt}
 use Rattle.qfs_reader.specs.declared.stage.Get.{Get}
 use Rattle.qfs_reader.specs.declared.stage.GetEnding.{GetEnding}
@@ -22,74 +23,37 @@ use Rattle.qfs_reader.specs.declared.stage.Stage.{Stage}
 use Rattle.qfs_reader.specs.declared.stage.Stage.TheVariants as At
 use Rattle.qfs_reader.proofs.Fetches.{position-fetch}
 
-pub position-asks : (get : Get) (attempt : Attempt) (position : Position) → IsReadable position
+pub position-asks : (get : Get) (attempt : Attempt) (position : Position) → IsAtSlot position
     → request_in (rest_of_position get attempt position)
     ≡ Some (To.Chunk position.copy.server
     (Serve.Fetch (key_of (record { file = attempt.opened.file; index = position.block }) position.slot position.copy.version) position.copy.life (position.window.first_row * get.layout.s) (replicate (window_bytes get.layout position.window) 0)))
 unfolding fetch request_in
 position-asks get attempt position readable = rw (position-fetch get attempt position readable) refl
 
-pub position-node : (get : Get) (attempt : Attempt) (position : Position) → IsReadable position
-    → Some position.copy.server ≡ option_map node_of_request (request_in (rest_of_position get attempt position))
+pub position-node : (get : Get) (attempt : Attempt) (position : Position) → IsAtSlot position
+    → Some position.copy.server ≡ node_asked (rest_of_position get attempt position)
 unfolding node_of_request
 position-node get attempt position readable = rw (position-asks get attempt position readable) refl
 
-pub position-meta : (get : Get) (attempt : Attempt) (position : Position) (answer : MetaReply) → IsReadable position
+pub position-meta : (get : Get) (attempt : Attempt) (position : Position) (answer : MetaReply) → IsAtSlot position
     → unnamed ≡ goes_on (rest_of_position get attempt position) (From.Meta answer)
 unfolding fetch goes_on on_chunk
 position-meta get attempt position answer readable = rw (position-fetch get attempt position readable) refl
 
-pub opening-meta : (get : Get) (more : ℕ) (answer : MetaReply)
-    → on_answer (end_with nothing) (was_opened get.layout (again get more) get.range) answer ≡ goes_on (opening get more) (From.Meta answer)
-unfolding attempt ask ask_or goes_on on_meta
-opening-meta get more answer = refl
-
-pub opening-chunk : (get : Get) (more : ℕ) (reply : ChunkReply) → unnamed ≡ goes_on (opening get more) (From.Chunk reply)
-unfolding attempt ask ask_or goes_on on_meta
-opening-chunk get more reply = refl
-
-pub opening-node : (get : Get) (more : ℕ) → Some 0 ≡ option_map node_of_request (request_in (opening get more))
-unfolding attempt ask ask_or request_in node_of_request
-opening-node get more = refl
-
--- a lease is given back before the get goes on so
-pub releasing-meta : (lease : ℕ) (next : Work) (answer : MetaReply)
-    → on_answer ends (was_released next) answer ≡ goes_on (give_back next (opened lease)) (From.Meta answer)
-unfolding give_back ask_or goes_on on_meta
-releasing-meta lease next answer = refl
-
-pub releasing-chunk : (lease : ℕ) (next : Work) (reply : ChunkReply) → unnamed ≡ goes_on (give_back next (opened lease)) (From.Chunk reply)
-unfolding give_back ask_or goes_on on_meta
-releasing-chunk lease next reply = refl
-
-pub releasing-node : (lease : ℕ) (next : Work) → Some 0 ≡ option_map node_of_request (request_in (give_back next (opened lease)))
-unfolding give_back ask_or request_in node_of_request
-releasing-node lease next = refl
-
--- all requests but those for bytes of a slot go to the metaserver
-pub other-node : (get : Get) (stage : Stage) → ((attempt : Attempt) (position : Position) → stage ≡ At.Reading attempt position → ⊥)
-    → ((ending : GetEnding) (kept : Reply Excerpt) → stage ≡ At.Ended ending kept → ⊥)
-    → Some 0 ≡ option_map node_of_request (request_in (rest_at get stage))
-unfolding rest_at end_with
-other-node get (At.Opening more) a b = opening-node get more
-other-node get (At.Reading attempt position) a b = absurd (a attempt position refl)
-other-node get (At.Releasing lease ending kept) a b = releasing-node lease _
-other-node get (At.Retrying lease more) a b = releasing-node lease _
-other-node get (At.Ended ending kept) a b = absurd (b ending kept refl)
-
+-- a chunk server's answer is none to any other request
 pub other-chunk : (get : Get) (stage : Stage) (reply : ChunkReply) → ((attempt : Attempt) (position : Position) → stage ≡ At.Reading attempt position → ⊥)
     → ((ending : GetEnding) (kept : Reply Excerpt) → stage ≡ At.Ended ending kept → ⊥)
-    → unnamed ≡ goes_on (rest_at get stage) (From.Chunk reply)
-unfolding rest_at end_with
-other-chunk get (At.Opening more) reply a b = opening-chunk get more reply
+    → unnamed ≡ goes_on (rest_of_get get stage) (From.Chunk reply)
+unfolding rest_of_get attempt ask ask_or end_with give_back goes_on on_meta
+other-chunk get (At.Opening more) reply a b = refl
 other-chunk get (At.Reading attempt position) reply a b = absurd (a attempt position refl)
-other-chunk get (At.Releasing lease ending kept) reply a b = releasing-chunk lease _ reply
-other-chunk get (At.Retrying lease more) reply a b = releasing-chunk lease _ reply
+other-chunk get (At.Releasing lease ending kept) reply a b = refl
+other-chunk get (At.Retrying lease more) reply a b = refl
 other-chunk get (At.Ended ending kept) reply a b = absurd (b ending kept refl)
 
 -- a get that asks nothing has ended
-pub ended-if_none : (get : Get) (stage : Stage) → IsAt get stage → request_in (rest_at get stage) ≡ None → HasEnded stage
-unfolding rest_at attempt ask ask_or end_with give_back request_in
+pub ended-if_none : (get : Get) (stage : Stage) → IsGetStage get stage → request_in (rest_of_get get stage) ≡ None → IsEnd stage
+unfolding rest_of_get attempt ask ask_or end_with give_back request_in
 ended-if_none get (At.Opening more) at none = cc
 ended-if_none get (At.Reading attempt position) at none = let asks = rw (position-asks get attempt position at.readable) at none in cc
 ended-if_none get (At.Releasing lease ending kept) at none = cc

@@ -15,25 +15,11 @@ use Rattle.qfs_model_actor.specs.Read.{Source, are_too_few, causes_of, sources_o
 use Rattle.qfs_model_actor.specs.Windows.{window_offset, cut_to_range}
 use Rattle.qfs_stripe.specs.Touched.{IsWindowBehind, AreInOrder}
 use Rattle.qfs_reader.specs.Parts.{pieces_of}
-use Rattle.qfs_reader.specs.Rest.{rest_of_blocks, rest_of_windows, rest_of_position, behind_window, reading_at, opening}
+use Rattle.qfs_reader.specs.Rest.{rest_of_blocks, rest_of_windows, rest_of_position, behind_window, reading_at, rest_of_opening}
 use Rattle.qfs_reader.specs.Sources.{IsNext}
 use Rattle.qfs_reader.specs.declared.stage.Attempt.{Attempt}
 use Rattle.qfs_reader.specs.declared.stage.Get.{Get}
 use Rattle.qfs_reader.specs.declared.stage.Position.{Position}
-
-pub enough_left : (sources : List Source) → are_too_few sources ≡ false → 6 ≤ count_by is_ok sources
-unfolding are_too_few
-enough_left sources enough = grind (arith, nat_tests, enough)
-
--- a window is read from its first slot that can be read
-pub position-begins : (get : Get) (attempt : Attempt) (block : ℕ) (window : Window) (windows : List Window) (sources : List Source)
-    (slot : ℕ) (copy : Copy) → IsNext sources 0 slot copy
-    → rest_of_position get attempt (record { block = block; window = window; windows = windows; sources = sources; slot = slot; copy = copy; have = [] })
-    ≡ rest_of_windows get attempt block (window ∷ windows) sources attempt.got
-unfolding rest_of_position read_windows pieces_of
-position-begins get attempt block window windows sources slot copy next =
-    let position : Position = record { block = block; window = window; windows = windows; sources = sources; slot = slot; copy = copy; have = [] } in
-    sym (next.passed (reading_at get attempt block) window 5 [] (behind_window get attempt position attempt.got))
 
 -- behind the last window of a block comes the next block
 pub no_windows : (get : Get) (attempt : Attempt) (block : ℕ) (sources : List Source) (got : List ℕ)
@@ -73,7 +59,7 @@ unfolding reading_of attempts end_with
 stops-for_good get attempt block sources none = let zero_more : attempt.more ≡ 0 = omega (arith, none) in rw zero_more refl
 
 pub stops-again : (get : Get) (attempt : Attempt) (block : ℕ) (sources : List Source) → 0 < attempt.more
-    → give_back (opening get (attempt.more - 1)) (opened attempt.opened.lease) ≡ (reading_at get attempt block).too_few (causes_of sources)
+    → give_back (rest_of_opening get (attempt.more - 1)) (opened attempt.opened.lease) ≡ (reading_at get attempt block).too_few (causes_of sources)
 unfolding reading_of attempts
 stops-again get attempt block sources some = let one_more : attempt.more ≡ suc (attempt.more - 1) = omega (arith, some) in
     ap (λ n. give_back (attempts n get.layout get.path get.range (Report.ReadTooFew attempt.opened.place block (causes_of sources))) (opened attempt.opened.lease)) (sym one_more)

@@ -1,5 +1,6 @@
 -- Passing over slots, and the causes of those that can't be read.
-use Rattle.std.proofs.Common.{◌≡◌, ◌∙◌, refl, ap, arith, ℕ, suc, ◌+◌, ◌-◌, ◌<◌, ◌≤◌, List, [], ◌∷◌, ◌++◌, length, take, get_or, count_by, is_ok, Some, None, Ok, Err}
+use Rattle.std.proofs.Common.{◌≡◌, ◌∙◌, refl, ap, arith, ℕ, suc, ◌+◌, ◌-◌, ◌<◌, ◌≤◌, false, List, [], ◌∷◌, ◌++◌, length, take, get_or, count_by, is_ok, Some, None, Ok, Err}
+use Rattle.std.proofs.lemmas.Bool.Decides.{nat_tests}
 use Rattle.std.proofs.lemmas.Grind.{common_steps}
 use Rattle.std.proofs.lemmas.List.{take_more, append-nil}
 use Rattle.std.proofs.lemmas.List.Elements.{filter_map-append}
@@ -9,8 +10,12 @@ use Rattle.std.specs.List.{enumerate_from, filter_map, slice_get, cons_option}
 use Rattle.qfs_base.specs.declared.chunk.Copy.{Copy}
 use Rattle.qfs_base.specs.declared.lists.Cause.{Cause}
 use Rattle.qfs_base.specs.declared.lists.SlotCause.{SlotCause}
-use Rattle.qfs_model_actor.specs.Read.{Source, at_source, read_slots, cause_at, causes_of}
+use Rattle.qfs_model_actor.specs.Read.{Source, are_too_few, at_source, read_slots, cause_at, causes_of}
 use Rattle.qfs_reader.specs.Sources.{PassesTo}
+
+pub enough_left : (sources : List Source) → are_too_few sources ≡ false → 6 ≤ count_by is_ok sources
+unfolding are_too_few
+enough_left sources enough = grind (arith, nat_tests, enough)
 
 pub passes_over : (sources : List Source) (slot : ℕ) (cause : Cause) → slot < 9 → slice_get sources slot ≡ Some (Err cause)
     → PassesTo sources slot (slot + 1)

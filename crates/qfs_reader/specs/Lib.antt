@@ -2,4 +2,4 @@ pub mod ReadSoFar
 pub mod Sources
 pub mod Parts
 pub mod Rest
-pub mod Standing
+pub mod ReaderState

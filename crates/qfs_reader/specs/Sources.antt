@@ -10,7 +10,8 @@ use Rattle.qfs_model_actor.specs.Work.{Work}
 -- a read that comes to one slot goes on from another
 abbrev pub PassesTo : List Source → ℕ → ℕ → Type 0
 PassesTo sources slot next =
-    (reading : Reading) (w : Window) (wanted : ℕ) (pieces : List Piece) (behind : List Source → List Piece → Work)
+    (reading : Reading) (w : Window) (wanted : ℕ) (pieces : List Piece)
+    (behind : List Source → List Piece → Work)
     → read_slots reading w (suc wanted) (slots_from slot) sources pieces behind
     ≡ read_slots reading w (suc wanted) (slots_from next) sources pieces behind
 

@@ -1,14 +1,14 @@
 //! How a get goes from window to window and from block to block.
-#![tactic(auto, unfolding(crate::specs::Rest::rest_at, crate::specs::Rest::report_of, qfs_model_actor::specs::Get::reading_of))]
+#![tactic(auto, unfolding(crate::specs::Rest::rest_of_get, crate::specs::Rest::report_of_get, qfs_model_actor::specs::Get::reading_of))]
 
 ghost use Rattle.std.specs.Prelude.{◌≡◌, ◌*◌, ◌/◌, ◌≤◌, ◌∷◌, length, false};
 ghost use Rattle.qfs_base.specs.Layout.{block_bytes};
 ghost use Rattle.qfs_model_actor.specs.Get.{listed_in};
-ghost use Rattle.qfs_model_actor.specs.Read.{are_too_few, causes_of, sources_of};
-ghost use Rattle.qfs_model_actor.specs.Windows.{window_offset};
-ghost use Rattle.qfs_stripe.specs.Touched.{IsTouched, AreInOrder};
-ghost use Rattle.qfs_reader.specs.Rest.{rest_at, rest_of_windows, rest_of_blocks, behind_window, pieces_at, reading_at};
-ghost use Rattle.qfs_reader.specs.Standing.{IsAt, IsBefore, IsInWindow, IsRange, HasRoom};
+ghost use Rattle.qfs_model_actor.specs.Read.{are_too_few, sources_of};
+ghost use Rattle.qfs_reader.specs.Rest.{rest_of_blocks, rest_of_get, rest_of_read_window};
+ghost use Rattle.qfs_reader.specs.Rest.{rest_of_windows, rest_if_too_few};
+ghost use Rattle.qfs_reader.specs.ReaderState.{IsAtWindow, IsBefore, IsGetStage, IsInWindow};
+ghost use Rattle.qfs_reader.specs.ReaderState.{IsReadRange, HasWindowRoom};
 ghost use Rattle.qfs_reader.specs.Parts.{AreBelow};
 
 use crate::parts::add_window;
@@ -29,14 +29,11 @@ fn begin_window(
     windows: BlockWindows,
     sources: Sources,
 ) -> Stage
-    requires range { IsRange attempt.from attempt.to }
-    requires block { IsTouched get.now.layout.s get.now.layout.r attempt.from attempt.to block }
-    requires order { AreInOrder block window.first_row get.now.layout.r (window ∷ windows) }
+    requires window { IsAtWindow get.now attempt block window windows }
     requires enough { are_too_few sources ≡ false }
-    requires got { IsBefore attempt (window_offset get.now.layout window) }
-    ensures rest { rest_at get.now result
+    ensures rest { rest_of_get get.now result
         ≡ rest_of_windows get.now attempt block (window ∷ windows) sources attempt.got }
-    ensures at { IsAt get.now result }
+    ensures at { IsGetStage get.now result }
 {
     let _ = get;
     let (slot, copy) = next_source(&sources, 0);
@@ -64,11 +61,11 @@ fn sources_in(opened: &Opened, block: u32) -> Sources
 
 /// The stage of a get that has read its file up to a block.
 pub fn next_block(get: &Get, attempt: Attempt, block: u32) -> Stage
-    requires range { IsRange attempt.from attempt.to }
+    requires range { IsReadRange attempt.from attempt.to }
     requires first { attempt.from / block_bytes get.now.layout.s get.now.layout.r ≤ block }
     requires got { IsBefore attempt (block * block_bytes get.now.layout.s get.now.layout.r) }
-    ensures rest { rest_at get.now result ≡ rest_of_blocks get.now attempt block attempt.got }
-    ensures at { IsAt get.now result }
+    ensures rest { rest_of_get get.now result ≡ rest_of_blocks get.now attempt block attempt.got }
+    ensures at { IsGetStage get.now result }
 {
     let blocks = get.layout.blocks_touched(attempt.from, attempt.to);
     if block >= blocks.end {
@@ -93,8 +90,8 @@ pub fn next_block(get: &Get, attempt: Attempt, block: u32) -> Stage
 /// The stage of a get that finds too few slots of a block: it opens its file again where an attempt
 /// is left, and nothing is kept of what it read.
 pub fn too_few(get: &Get, attempt: Attempt, block: u32, sources: Sources) -> Stage
-    ensures rest { rest_at get.now result ≡ (reading_at get.now attempt block).too_few (causes_of sources) }
-    ensures at { IsAt get.now result }
+    ensures rest { rest_of_get get.now result ≡ rest_if_too_few get.now attempt block sources }
+    ensures at { IsGetStage get.now result }
 {
     let _ = get;
     let lease = attempt.opened.lease;
@@ -118,10 +115,9 @@ pub fn window_read(get: &Get, attempt: Attempt, position: Position) -> Stage
     requires enough { are_too_few position.sources ≡ false }
     requires have { 6 ≤ length position.have }
     requires below { AreBelow 9 position.have }
-    requires room { HasRoom get.now attempt position.window }
-    ensures rest { rest_at get.now result
-        ≡ behind_window get.now attempt position attempt.got position.sources (pieces_at get.now attempt position) }
-    ensures at { IsAt get.now result }
+    requires room { HasWindowRoom get.now attempt position.window }
+    ensures rest { rest_of_get get.now result ≡ rest_of_read_window get.now attempt position }
+    ensures at { IsGetStage get.now result }
 {
     let mut attempt = attempt;
     let start = window_offset(&get.layout, &position.window);

@@ -1,13 +1,13 @@
 //! How a get goes on when the metaserver has answered.
-#![tactic(auto, unfolding(crate::specs::Rest::rest_at, crate::specs::Rest::report_of, qfs_model_actor::specs::Get::is_whole))]
+#![tactic(auto, unfolding(crate::specs::Rest::rest_of_get, crate::specs::Rest::report_of_get, qfs_machine::specs::Endings::report_of_ending, qfs_model_actor::specs::Get::is_whole, qfs_model_actor::specs::Get::read_if_whole, qfs_model_actor::specs::Get::was_opened, qfs_model_actor::specs::Hold::was_released, qfs_model_actor::specs::Shown::shown_reply, qfs_model_actor::specs::Tree::refused))]
 
 ghost use Rattle.std.specs.Prelude.{◌≡◌, ◌≤◌};
 ghost use Rattle.qfs_base.specs.Sizes.{MOST_FILE_BYTES};
-ghost use Rattle.qfs_model_actor.specs.Get.{is_whole, read_if_whole, read_range, was_opened};
-ghost use Rattle.qfs_model_actor.specs.Hold.{nothing, end_with, on_answer, was_released};
-ghost use Rattle.qfs_model_actor.specs.Work.{ends};
-ghost use Rattle.qfs_reader.specs.Rest.{again, rest_at};
-ghost use Rattle.qfs_reader.specs.Standing.{IsAt};
+ghost use Rattle.qfs_model_actor.specs.Get.{is_whole};
+ghost use Rattle.qfs_model_actor.specs.Hold.{was_released};
+ghost use Rattle.qfs_reader.specs.Rest.{after_opening, on_opening, on_release};
+ghost use Rattle.qfs_reader.specs.Rest.{rest_if_whole, rest_of_get, rest_of_whole};
+ghost use Rattle.qfs_reader.specs.ReaderState.{IsGetStage};
 
 use crate::block::next_block;
 use crate::fetch::ended;
@@ -30,8 +30,8 @@ fn is_whole(layout: &Layout, opened: &Opened) -> bool
 /// The stage of a get whose file is open and whole.
 fn read(alloc: Global, get: &Get, more: u32, opened: Opened) -> Stage
     requires { opened.len ≤ MOST_FILE_BYTES }
-    ensures rest { rest_at get.now result ≡ read_range get.now.layout (again get.now more) opened get.now.range }
-    ensures at { IsAt get.now result }
+    ensures rest { rest_of_get get.now result ≡ rest_of_whole get.now more opened }
+    ensures at { IsGetStage get.now result }
 {
     let from = get.range.from;
     let to = from.saturating_add(get.range.count).min(opened.len);
@@ -57,9 +57,8 @@ fn read(alloc: Global, get: &Get, more: u32, opened: Opened) -> Stage
 
 /// The stage of a get at an answer that opens its file.
 fn open(alloc: Global, get: &Get, more: u32, opened: Opened) -> Stage
-    ensures rest { rest_at get.now result
-        ≡ read_if_whole get.now.layout (again get.now more) get.now.range opened (is_whole get.now.layout opened) }
-    ensures at { IsAt get.now result }
+    ensures rest { rest_of_get get.now result ≡ rest_if_whole get.now more opened }
+    ensures at { IsGetStage get.now result }
 {
     if is_whole(&get.layout, &opened) {
         read(alloc, get, more, opened)
@@ -70,8 +69,8 @@ fn open(alloc: Global, get: &Get, more: u32, opened: Opened) -> Stage
 
 /// The stage of a get at an answer to its request for the file that doesn't end every command.
 fn opened_or_refused(alloc: Global, get: &Get, more: u32, answer: MetaReply) -> Stage
-    ensures rest { rest_at get.now result ≡ was_opened get.now.layout (again get.now more) get.now.range answer }
-    ensures at { IsAt get.now result }
+    ensures rest { rest_of_get get.now result ≡ after_opening get.now more answer }
+    ensures at { IsGetStage get.now result }
 {
     match answer {
         MetaReply::Opened(opened) => open(alloc, get, more, opened),
@@ -85,9 +84,8 @@ fn opened_or_refused(alloc: Global, get: &Get, more: u32, answer: MetaReply) -> 
 
 /// The stage of a get at the answer to its request for the file, where so many attempts may follow.
 pub fn opened(alloc: Global, get: &Get, more: u32, answer: MetaReply) -> Stage
-    ensures rest { rest_at get.now result
-        ≡ on_answer (end_with nothing) (was_opened get.now.layout (again get.now more) get.now.range) answer }
-    ensures at { IsAt get.now result }
+    ensures rest { rest_of_get get.now result ≡ on_opening get.now more answer }
+    ensures at { IsGetStage get.now result }
 {
     match Ending::of_meta(&answer) {
         Some(ending) => ended(ending),
@@ -98,9 +96,9 @@ pub fn opened(alloc: Global, get: &Get, more: u32, answer: MetaReply) -> Stage
 /// The stage of a get whose lease was given back, and which comes to `next` then, or whose answer
 /// doesn't say so. The lease may be gone.
 fn given_back(get: &Get, next: Stage, answer: &MetaReply) -> Stage
-    requires { IsAt get.now next }
-    ensures rest { rest_at get.now result ≡ was_released (rest_at get.now next) answer.now }
-    ensures at { IsAt get.now result }
+    requires { IsGetStage get.now next }
+    ensures rest { rest_of_get get.now result ≡ was_released (rest_of_get get.now next) answer.now }
+    ensures at { IsGetStage get.now result }
 {
     let _ = get;
     match answer {
@@ -113,9 +111,9 @@ fn given_back(get: &Get, next: Stage, answer: &MetaReply) -> Stage
 /// The stage of a get at the answer to the request that gives its lease back, behind which it comes
 /// to `next`.
 pub fn released(get: &Get, next: Stage, answer: &MetaReply) -> Stage
-    requires { IsAt get.now next }
-    ensures rest { rest_at get.now result ≡ on_answer ends (was_released (rest_at get.now next)) answer.now }
-    ensures at { IsAt get.now result }
+    requires { IsGetStage get.now next }
+    ensures rest { rest_of_get get.now result ≡ on_release (rest_of_get get.now next) answer.now }
+    ensures at { IsGetStage get.now result }
 {
     match Ending::of_meta(answer) {
         Some(ending) => ended(ending),

@@ -1,14 +1,11 @@
 //! The bytes that the slots of a block gave in a window: nine parts of one length, one after
 //! another, of which those of the slots at hand are filled.
 
-ghost use Rattle.std.specs.Prelude.{◌≡◌, ◌≢◌, ℕ, ◌+◌, ◌-◌, ◌*◌, ◌<◌, ◌≤◌, ◌^◌, ◌++◌, length, true, map};
-ghost use Rattle.std.specs.List.{range_with_len};
-ghost use Rattle.qfs_base.specs.Mask.{IsMask, has_slot};
-ghost use Rattle.qfs_code.specs.Code.{slots_of};
-ghost use Rattle.qfs_model_slot.specs.Restored.{restored};
-ghost use Rattle.qfs_model_actor.specs.Pieces.{data_of, row_of, rows_of_file};
-ghost use Rattle.qfs_model_actor.specs.Windows.{cut_to_range};
-ghost use Rattle.qfs_reader.specs.Parts.{part_at, pieces_of, AreBelow};
+ghost use Rattle.std.specs.Prelude.{◌≡◌, ◌+◌, ◌-◌, ◌*◌, ◌<◌, ◌≤◌, ◌^◌, length};
+ghost use Rattle.qfs_model_actor.specs.Pieces.{data_of};
+ghost use Rattle.qfs_reader.specs.Parts.{data_parts, part_at, pieces_of, restored_part};
+ghost use Rattle.qfs_reader.specs.Parts.{row_of_parts, rows_given, rows_of_parts, with_piece};
+ghost use Rattle.qfs_reader.specs.Parts.{AddsCut, AreBelow, IsSameAtHand, IsSameBut};
 
 use crate::cut::cut_to_range;
 use crate::read_so_far::ReadSoFar;
@@ -19,16 +16,32 @@ use qfs_code::laws::slots_not_at_hand_have_no_influence;
 use qfs_code::restore;
 
 /// Writes the part of a slot.
-pub fn put_part(nine: &mut [u8], size: usize, slot: Slot, bytes: &[u8])
+fn put_part(nine: &mut [u8], size: usize, slot: Slot, bytes: &[u8])
     requires slot { slot < 9 }
     requires nine { length nine.old ≡ 9 * size }
     requires bytes { length bytes.now ≡ size }
     ensures len { length nine.new ≡ 9 * size }
     ensures put { part_at size nine.new slot ≡ bytes.now }
-    ensures others { (j : ℕ) → j ≢ slot → part_at size nine.new j ≡ part_at size nine.old j }
+    ensures others { IsSameBut size slot nine.old nine.new }
 {
     let start = slot as usize * size;
     nine[start..start + size].copy_from_slice(bytes);
+}
+
+/// Keeps what a slot gave that lies behind those at hand, and answers those at hand with it.
+pub fn keep_part(nine: &mut Vec<u8>, size: usize, have: Mask, slot: Slot, bytes: &[u8]) -> Mask
+    requires slot { slot < 9 }
+    requires nine { length nine.old.items ≡ 9 * size }
+    requires bytes { length bytes.now ≡ size }
+    requires below { AreBelow slot have }
+    ensures len { length nine.new.items ≡ 9 * size }
+    ensures pieces { pieces_of size nine.new.items result
+        ≡ with_piece (pieces_of size nine.old.items have) slot bytes.now }
+    ensures count { length result ≡ length have + 1 }
+    ensures below { AreBelow (slot + 1) result }
+{
+    put_part(nine.as_mut_slice(), size, slot, bytes);
+    have.with(slot)
 }
 
 /// Makes the part of a slot anew from those of six slots at hand, unless it is at hand itself.
@@ -39,9 +52,9 @@ fn restore_part(nine: &mut [u8], size: usize, have: Mask, want: Slot, spare: &mu
     requires nine { length nine.old ≡ 9 * size }
     requires spare { length spare.old ≡ size }
     ensures len { length nine.new ≡ 9 * size }
-    ensures restored { part_at size nine.new want ≡ restored have size (slots_of 9 size nine.old) want }
-    ensures others { (j : ℕ) → j ≢ want → part_at size nine.new j ≡ part_at size nine.old j }
-    ensures kept { (j : ℕ) → has_slot have j ≡ true → part_at size nine.new j ≡ part_at size nine.old j }
+    ensures restored { part_at size nine.new want ≡ restored_part size nine.old have want }
+    ensures others { IsSameBut size want nine.old nine.new }
+    ensures kept { IsSameAtHand size have nine.old nine.new }
 {
     if !have.contains(want) {
         restore(have, nine, size, want, spare);
@@ -56,7 +69,7 @@ pub fn restore_data(nine: &mut [u8], size: usize, have: Mask, spare: &mut [u8])
     requires spare { length spare.old ≡ size }
     requires mask { AreBelow 9 have }
     ensures len { length nine.new ≡ 9 * size }
-    ensures data { map (part_at size nine.new) (range_with_len 0 6) ≡ data_of (pieces_of size nine.old have) }
+    ensures data { data_parts size nine.new ≡ data_of (pieces_of size nine.old have) }
 {
     // What stands in the parts that aren't at hand changes on the way, and doesn't matter.
     slots_not_at_hand_have_no_influence();
@@ -81,7 +94,7 @@ fn add_row(
     requires stripe { stripe ≤ 65536 }
     requires fits { start + 6 * stripe < 2 ^ 32 }
     requires got { length got.old ≤ start - from }
-    ensures got { got.new ≡ got.old ++ cut_to_range from to start (row_of stripe (map (part_at size nine.now) (range_with_len 0 6)) row) }
+    ensures got { AddsCut from to start (row_of_parts stripe size nine.now row) got.old got.new }
     ensures bound { length got.new ≤ start + 6 * stripe - from }
 {
     for slot in 0..DATA_SLOTS as usize {
@@ -106,7 +119,8 @@ pub fn add_rows(
     requires stripe { stripe ≤ 65536 }
     requires fits { start + rows * (6 * stripe) < 2 ^ 32 }
     requires got { length got.old ≤ start - from }
-    ensures got { got.new ≡ got.old ++ cut_to_range from to start (rows_of_file stripe rows (map (part_at (rows * stripe) nine.now) (range_with_len 0 6))) }
+    ensures got { AddsCut from to start (rows_of_parts stripe (rows * stripe) rows nine.now)
+        got.old got.new }
     ensures bound { length got.new ≤ start + rows * (6 * stripe) - from }
 {
     let size = rows * stripe;
@@ -137,7 +151,7 @@ pub fn add_window(
     requires stripe { stripe ≤ 65536 }
     requires fits { start + rows * (6 * stripe) < 2 ^ 32 }
     requires got { length got.old ≤ start - from }
-    ensures got { got.new ≡ got.old ++ cut_to_range from to start (rows_of_file stripe rows (data_of (pieces_of (rows * stripe) nine.old have))) }
+    ensures got { AddsCut from to start (rows_given stripe rows nine.old have) got.old got.new }
     ensures bound { length got.new ≤ start + rows * (6 * stripe) - from }
 {
     restore_data(nine, rows * stripe, have, spare);

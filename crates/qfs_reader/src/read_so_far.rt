@@ -1,8 +1,9 @@
 //! What a get keeps of the bytes that it has read.
 #![tactic(auto, unfolding(qfs_model_actor::specs::Shown::shown_if_few, qfs_model_actor::specs::Shown::excerpt_of))]
 
-ghost use Rattle.std.specs.Prelude.{◌≡◌, ◌+◌, ◌<◌, ◌^◌, [], ◌++◌, length, nat_le, IfOk};
-ghost use Rattle.qfs_model_actor.specs.Shown.{excerpt_of, shown_if_few, most_shown};
+ghost use Rattle.std.specs.Prelude.{◌≡◌, ◌+◌, ◌<◌, ◌^◌, [], ◌++◌, length, IfOk};
+ghost use Rattle.qfs_model_actor.specs.Shown.{excerpt_of};
+ghost use Rattle.qfs_reader.specs.ReadSoFar.{shown_of};
 
 use qfs_base::command::{Excerpt, Shown};
 use qfs_base::listing::Listing;
@@ -69,7 +70,7 @@ impl ReadSoFar {
 
     /// What is shown of the bytes: all of them or, of more than 32, their SHA-256.
     fn shown(&self, alloc: Global) -> Result<Shown, AllocError>
-        ensures { IfOk result (λ shown. shown ≡ shown_if_few self.now (nat_le (length self.now) most_shown)) }
+        ensures { IfOk result (λ shown. shown ≡ shown_of self.now) }
     {
         let len = self.len as usize;
         if len <= MOST_SHOWN {

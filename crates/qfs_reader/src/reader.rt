@@ -4,9 +4,8 @@ ghost use Rattle.std.specs.Prelude.{◌≡◌, ◌≤◌};
 ghost use Rattle.qfs_machine.specs.Kept.{Reports};
 ghost use Rattle.qfs_machine.specs.declared.machine.Readiness.{Readiness};
 ghost use Rattle.qfs_model_actor.specs.Get.{get_work, range_of};
-ghost use Rattle.qfs_model_actor.specs.Work.{goes_on};
-ghost use Rattle.qfs_reader.specs.Rest.{rest_at};
-ghost use Rattle.qfs_reader.specs.Standing.{rest_of, HasEnded, IsAt, IsSupplied};
+ghost use Rattle.qfs_reader.specs.Rest.{rest_after, rest_of_get};
+ghost use Rattle.qfs_reader.specs.ReaderState.{rest_of_reader, IsEnd, IsGetStage, IsSupplied};
 
 use crate::fetch::{ended, fetched};
 use crate::meta::{opened, released};
@@ -36,25 +35,26 @@ pub struct Reader {
 }
 
 impl Model for Reader {
-    ghost use Rattle.qfs_reader.specs.Standing.{Standing};
+    ghost use Rattle.qfs_reader.specs.ReaderState.{ReaderState};
 
-    ghost Value = { Standing };
+    ghost Value = { ReaderState };
 
-    ghost use Rattle.qfs_machine.specs.Asking.{IsPending};
-    ghost use Rattle.qfs_reader.specs.Rest.{rest_at};
-    ghost use Rattle.qfs_reader.specs.Standing.{IsAt, IsSuppliedWhile};
+    ghost use Rattle.qfs_machine.specs.Asking.{IsPrepared};
+    ghost use Rattle.qfs_reader.specs.Rest.{rest_of_get};
+    ghost use Rattle.qfs_reader.specs.ReaderState.{IsGetStage, IsSuppliedWhile};
 
-    ghost view = { λ it. record { get = it.get; stage = it.stage; readiness = it.pending.readiness } };
+    ghost view = { λ it.
+        record { get = it.get; stage = it.stage; readiness = it.pending.readiness } };
 
     ghost invariant = { λ it.
-        IsAt it.get it.stage
-        × IsPending (rest_at it.get it.stage) it.pending.readiness it.pending.request
+        IsGetStage it.get it.stage
+        × IsPrepared (rest_of_get it.get it.stage) it.pending.readiness it.pending.request
         × IsSuppliedWhile it.pending.readiness it.get it.stage };
 }
 
 impl Reader {
-    /// The get of the bytes of the file at this path, or of a range of them, which opens its file up
-    /// to `tries` times. Takes no memory.
+    /// The get of the bytes of the file at this path, or of a range of them, which opens its file
+    /// up to `tries` times. Takes no memory.
     pub fn new(
         alloc: Global,
         path: Path,
@@ -63,7 +63,7 @@ impl Reader {
         tries: u32,
     ) -> Reader
         requires { 1 ≤ tries }
-        ensures rest { rest_of result ≡ get_work layout tries path range }
+        ensures rest { rest_of_reader result ≡ get_work layout tries path range }
         ensures unready { result.readiness ≡ Readiness.Unready }
     {
         let get = Get {
@@ -96,10 +96,10 @@ fn range_of(range: Option<Range>) -> Range
 
 /// The stage of a get behind the reply to its request, for whose reply it has the memory.
 fn stage_after(alloc: Global, get: &Get, stage: Stage, reply: NodeReply) -> Stage
-    requires at { IsAt get.now stage }
+    requires at { IsGetStage get.now stage }
     requires supplied { IsSupplied get.now stage }
-    ensures rest { rest_at get.now result ≡ goes_on (rest_at get.now stage) reply }
-    ensures at { IsAt get.now result }
+    ensures rest { rest_of_get get.now result ≡ rest_after get.now stage reply }
+    ensures at { IsGetStage get.now result }
 {
     match reply {
         NodeReply::Meta(answer) => after_meta(alloc, get, stage, answer),
@@ -108,11 +108,12 @@ fn stage_after(alloc: Global, get: &Get, stage: Stage, reply: NodeReply) -> Stag
 }
 
 /// The stage of a get at an answer of the metaserver.
+#[tactic(auto, unfolding(crate::specs::Rest::rest_of_get, qfs_model_actor::specs::Work::goes_on, qfs_model_actor::specs::Hold::on_meta, qfs_model_actor::specs::Hold::ask_or, qfs_model_actor::specs::Hold::end_with, qfs_model_actor::specs::Hold::give_back, qfs_model_actor::specs::Ask::ask, qfs_model_actor::specs::Get::attempt))]
 fn after_meta(alloc: Global, get: &Get, stage: Stage, answer: MetaReply) -> Stage
-    requires at { IsAt get.now stage }
+    requires at { IsGetStage get.now stage }
     requires supplied { IsSupplied get.now stage }
-    ensures rest { rest_at get.now result ≡ goes_on (rest_at get.now stage) (NodeReply.Meta answer) }
-    ensures at { IsAt get.now result }
+    ensures rest { rest_of_get get.now result ≡ rest_after get.now stage (NodeReply.Meta answer) }
+    ensures at { IsGetStage get.now result }
 {
     match stage {
         Stage::Opening { more } => opened(alloc, get, more, answer),
@@ -128,10 +129,11 @@ fn after_meta(alloc: Global, get: &Get, stage: Stage, answer: MetaReply) -> Stag
 
 /// The stage of a get at an answer of a chunk server.
 fn after_chunk(get: &Get, stage: Stage, reply: &ChunkReply) -> Stage
-    requires at { IsAt get.now stage }
+    requires at { IsGetStage get.now stage }
     requires supplied { IsSupplied get.now stage }
-    ensures rest { rest_at get.now result ≡ goes_on (rest_at get.now stage) (NodeReply.Chunk reply.now) }
-    ensures at { IsAt get.now result }
+    ensures rest { rest_of_get get.now result
+        ≡ rest_after get.now stage (NodeReply.Chunk reply.now) }
+    ensures at { IsGetStage get.now result }
 {
     match stage {
         Stage::Reading(attempt, position) => fetched(get, attempt, position, reply),
@@ -142,9 +144,9 @@ fn after_chunk(get: &Get, stage: Stage, reply: &ChunkReply) -> Stage
 
 /// The report of a get that has ended, as it is kept.
 fn into_kept(get: &Get, stage: Stage) -> Reply<Excerpt>
-    requires at { IsAt get.now stage }
-    requires ended { HasEnded stage }
-    ensures { Reports (rest_at get.now stage) result }
+    requires at { IsGetStage get.now stage }
+    requires ended { IsEnd stage }
+    ensures { Reports (rest_of_get get.now stage) result }
 {
     let _ = get;
     match stage {
@@ -154,7 +156,7 @@ fn into_kept(get: &Get, stage: Stage) -> Reply<Excerpt>
 }
 
 impl Machine for Reader {
-    ghost rest = { rest_of };
+    ghost rest = { rest_of_reader };
 
     ghost readiness = { λ it. it.readiness };
 

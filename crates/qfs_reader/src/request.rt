@@ -1,13 +1,13 @@
 //! What a get asks at each stage.
-#![tactic(auto, unfolding(crate::specs::Rest::rest_at, qfs_model_actor::specs::Work::request_in, qfs_model_actor::specs::Hold::end_with, qfs_model_actor::specs::Hold::give_back, qfs_model_actor::specs::Hold::ask_or, qfs_model_actor::specs::Ask::ask, qfs_model_actor::specs::Ask::fetch, qfs_model_actor::specs::Get::attempt))]
+#![tactic(auto, unfolding(crate::specs::Rest::rest_of_get, qfs_model_actor::specs::Work::request_in, qfs_model_actor::specs::Work::node_of_request, qfs_model_actor::specs::Hold::end_with, qfs_model_actor::specs::Hold::give_back, qfs_model_actor::specs::Hold::ask_or, qfs_model_actor::specs::Ask::ask, qfs_model_actor::specs::Ask::fetch, qfs_model_actor::specs::Get::attempt))]
 
-ghost use Rattle.std.specs.Prelude.{◌≡◌, IfOk, IfSome, Some, option_map, replicate};
+ghost use Rattle.std.specs.Prelude.{◌≡◌, IfOk, IfSome, replicate};
 ghost use Rattle.qfs_base.specs.declared.request.MetaRequest.TheVariants as Ask;
 ghost use Rattle.qfs_base.specs.declared.request.NodeRequest.TheVariants as To;
 ghost use Rattle.qfs_machine.specs.Askable.{IsAskable};
-ghost use Rattle.qfs_model_actor.specs.Work.{node_of_request, request_in};
-ghost use Rattle.qfs_reader.specs.Rest.{rest_at, rest_of_position};
-ghost use Rattle.qfs_reader.specs.Standing.{IsAt, IsPosition};
+ghost use Rattle.qfs_machine.specs.Asking.{Asks, AsksNext, node_asked};
+ghost use Rattle.qfs_reader.specs.Rest.{rest_of_get, rest_of_position};
+ghost use Rattle.qfs_reader.specs.ReaderState.{IsGetStage, IsPosition};
 
 use crate::stage::{Attempt, Get, Position, Stage};
 use crate::window::{first_byte, window_bytes};
@@ -18,6 +18,9 @@ use qfs_base::numbers::{LeaseId, NodeId};
 use qfs_base::path::Path;
 use qfs_base::request::{ChunkRequest, MetaRequest, NodeRequest};
 use std::alloc::{AllocError, Global};
+
+/// The node number of the metaserver.
+const METASERVER: NodeId = 0;
 
 /// The request that opens the file at a path.
 fn open_request(path: &Path) -> Result<NodeRequest, AllocError>
@@ -50,7 +53,7 @@ fn fetch_request(
     position: &Position,
 ) -> Result<NodeRequest, AllocError>
     requires { IsPosition get.now attempt.now position.now }
-    ensures request { IfOk result (λ request. request_in (rest_of_position get.now attempt.now position.now) ≡ Some request) }
+    ensures request { IfOk result (Asks (rest_of_position get.now attempt.now position.now)) }
     ensures askable { IfOk result IsAskable }
 {
     let copy = position.copy;
@@ -79,8 +82,8 @@ pub fn request_at(
     get: &Get,
     stage: &Stage,
 ) -> Result<Option<NodeRequest>, AllocError>
-    requires { IsAt get.now stage.now }
-    ensures request { IfOk result (λ request. request_in (rest_at get.now stage.now) ≡ request) }
+    requires { IsGetStage get.now stage.now }
+    ensures request { IfOk result (AsksNext (rest_of_get get.now stage.now)) }
     ensures askable { IfOk result (λ request. IfSome request IsAskable) }
 {
     match stage {
@@ -100,13 +103,15 @@ pub fn request_at(
 
 /// The node of the next request: 0 is the metaserver, s is server s. None where the get has ended.
 pub fn node_of(get: &Get, stage: &Stage) -> Option<NodeId>
-    requires { IsAt get.now stage.now }
-    ensures { result ≡ option_map node_of_request (request_in (rest_at get.now stage.now)) }
+    requires { IsGetStage get.now stage.now }
+    ensures { result ≡ node_asked (rest_of_get get.now stage.now) }
 {
     let _ = get;
     match stage {
+        Stage::Opening { .. } => Some(METASERVER),
         Stage::Reading(_, position) => Some(position.copy.server),
+        Stage::Releasing(..) => Some(METASERVER),
+        Stage::Retrying { .. } => Some(METASERVER),
         Stage::Ended(..) => None,
-        _ => Some(0),
     }
 }

@@ -2,7 +2,8 @@
 #![tactic(auto, unfolding(qfs_model_actor::specs::Read::source_of_listed, qfs_model_actor::specs::Read::sources_of, qfs_model_actor::specs::Read::are_too_few, qfs_model_actor::specs::Read::cause_at))]
 
 ghost use Rattle.std.specs.Prelude.{◌≡◌, ◌<◌, take, count_by, is_ok, slice_get, IfOk, Some};
-ghost use Rattle.qfs_model_actor.specs.Read.{source_of_listed, sources_of, are_too_few, cause_at, causes_of};
+ghost use Rattle.qfs_model_actor.specs.Read.{are_too_few, cause_at, causes_of};
+ghost use Rattle.qfs_model_actor.specs.Read.{source_of_listed, sources_of};
 ghost use Rattle.qfs_reader.specs.Sources.{IsNext};
 
 use qfs_base::chunk::Copy;

@@ -1,16 +1,14 @@
 //! The memory that a get takes before each of its requests.
-#![tactic(auto, unfolding(crate::specs::Rest::rest_at, crate::specs::Rest::report_of, qfs_model_actor::specs::Shown::shown_reply))]
+#![tactic(auto, unfolding(crate::specs::Rest::rest_of_get, crate::specs::Rest::report_of_get, qfs_model_actor::specs::Shown::shown_reply))]
 
 ghost use Rattle.std.specs.Prelude.{◌≡◌, ◌≤◌, length, IfOk, OnErr, OnOk};
-ghost use Rattle.qfs_base.specs.Sizes.{WINDOW_ROWS};
-ghost use Rattle.qfs_reader.specs.Rest.{rest_at};
-ghost use Rattle.qfs_reader.specs.Standing.{IsAt, IsKeptOf, IsOtherRoom, IsSupplied, HasRoom};
+ghost use Rattle.qfs_reader.specs.Rest.{rest_of_get};
+ghost use Rattle.qfs_reader.specs.ReaderState.{IsGetStage, IsKeptOf, IsRoom, IsSupplied};
 
 use crate::sources::causes_of;
-use crate::stage::{Attempt, Get, GetEnding, Stage};
+use crate::stage::{Get, GetEnding, Stage};
 use crate::window::window_bytes;
 use qfs_base::command::{Excerpt, Reply};
-use qfs_base::layout::Window;
 use qfs_base::sizes::SLOTS;
 use std::alloc::{AllocError, Global};
 
@@ -21,26 +19,25 @@ fn room(alloc: Global, len: usize) -> Result<Vec<u8>, AllocError>
     vec![in alloc; 0; len]
 }
 
-/// Takes room for what the slots give in a window, unless it is there.
+/// Takes room for nine parts of `size` bytes and one more, unless it is there.
 fn make_room(
     alloc: Global,
-    get: &Get,
-    attempt: &mut Attempt,
-    window: Window,
+    size: usize,
+    nine: &mut Vec<u8>,
+    spare: &mut Vec<u8>,
 ) -> Result<(), AllocError>
-    requires { window.rows ≤ WINDOW_ROWS }
-    ensures ok { OnOk result (HasRoom get.now attempt.new window) }
-    ensures there { HasRoom get.now attempt.old window → attempt.new ≡ attempt.old }
-    ensures other { IsOtherRoom attempt.old attempt.new }
-    ensures err { OnErr result (attempt.new ≡ attempt.old) }
+    requires { size ≤ 1048576 }
+    ensures ok { OnOk result (IsRoom size nine.new.items spare.new.items) }
+    ensures there { IsRoom size nine.old.items spare.old.items
+        → (nine.new ≡ nine.old) × (spare.new ≡ spare.old) }
+    ensures err { OnErr result ((nine.new ≡ nine.old) × (spare.new ≡ spare.old)) }
 {
-    let size = window_bytes(&get.layout, &window);
     let all = SLOTS as usize * size;
-    if attempt.nine.len() != all || attempt.spare.len() != size {
-        let nine = room(alloc, all)?;
-        let spare = room(alloc, size)?;
-        attempt.nine = nine;
-        attempt.spare = spare;
+    if nine.len() != all || spare.len() != size {
+        let parts = room(alloc, all)?;
+        let part = room(alloc, size)?;
+        *nine = parts;
+        *spare = part;
     }
     Ok(())
 }
@@ -80,13 +77,16 @@ fn report(alloc: Global, ending: &GetEnding) -> Result<Reply<Excerpt>, AllocErro
 /// Takes the memory for the reply to a stage's request: room for the bytes of a slot, or the report
 /// that the get ends with.
 pub fn supply(alloc: Global, get: &Get, stage: &mut Stage) -> Result<(), AllocError>
-    requires { IsAt get.now stage.old }
-    ensures rest { rest_at get.now stage.new ≡ rest_at get.now stage.old }
-    ensures at { IsAt get.now stage.new }
+    requires { IsGetStage get.now stage.old }
+    ensures rest { rest_of_get get.now stage.new ≡ rest_of_get get.now stage.old }
+    ensures at { IsGetStage get.now stage.new }
     ensures supplied { OnOk result (IsSupplied get.now stage.new) }
 {
     match stage {
-        Stage::Reading(attempt, position) => make_room(alloc, get, attempt, position.window),
+        Stage::Reading(attempt, position) => {
+            let size = window_bytes(&get.layout, &position.window);
+            make_room(alloc, size, &mut attempt.nine, &mut attempt.spare)
+        }
         Stage::Releasing(_, ending, kept) => {
             let made = report(alloc, ending)?;
             *kept = Some(made);

@@ -6,6 +6,7 @@ use Rattle.std.specs.List.{starts_with}
 use Rattle.std.proofs.lemmas.Bool.Decides.{nat_tests}
 use Rattle.std.proofs.lemmas.List.{take_at, drop_at, length-append, take-append-drop, length-take}
 use Rattle.std.proofs.lemmas.List.Elements.{All-from_get_or, All-take}
+use Rattle.std.proofs.lemmas.Option.{same_Some}
 use Rattle.qfs_base.specs.Shape.{IsStripe}
 use Rattle.qfs_base.specs.declared.chunk.ChunkKey.{ChunkKey}
 use Rattle.qfs_model_server.specs.Chunk.{Chunk}
@@ -13,7 +14,7 @@ use Rattle.qfs_record.specs.declared.chunk.ChunkRead.{ChunkRead}
 use Rattle.qfs_record.specs.declared.head.Head.{Head}
 use Rattle.qfs_record.specs.Part.{AreBytes}
 use Rattle.qfs_record.specs.ChunkRecord.{block, slot, chunk_key, chunk_len, fields, is_stripe, stripe_part, first_head, second_head, IsNamed, IsHead, head_text, head_at, head_part, first_read, second_read, named_stripe, head_of, IsChunk, chunk_record}
-use Rattle.qfs_record.proofs.PartLaws.{IsPart, Takes, some_is, map_some, number8, number32, pair-is_part, such-is_part, shaped-is_part, marked-is_part}
+use Rattle.qfs_record.proofs.PartLaws.{IsPart, Takes, map_some, number8, number32, pair-is_part, such-is_part, shaped-is_part, marked-is_part}
 
 -- ---- heads
 
@@ -158,7 +159,7 @@ reading head rest = Some (head, rest)
 
 same_parts : (head other : Head) (rest after : List ℕ) → reading head rest ≡ reading other after → (head ≡ other) × (rest ≡ after)
 same_parts head other rest after same =
-    let all = some_is {A = Head × List ℕ} (head, rest) (other, after) same in
+    let all = same_Some {A = Head × List ℕ} (head, rest) (other, after) same in
     (ap (λ (r : Head × List ℕ). r.0) all, ap (λ (r : Head × List ℕ). r.1) all)
 
 abbrev pub some_chunk : Head → ℕ → Option ChunkRead

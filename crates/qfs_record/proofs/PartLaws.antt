@@ -11,6 +11,8 @@ use Rattle.std.proofs.Math.Nat.{mod-eq_of_lt}
 use Rattle.std.proofs.lemmas.List.{take_at, drop_at, take-append-drop, length-append, length-take, get_or_past}
 use Rattle.std.proofs.lemmas.List.Elements.{All-take, All-drop, All-tail}
 use Rattle.std.proofs.lemmas.Nat.{be_bytes_2, be_bytes_4, be_bytes_8, from_be_bytes-to_be_bytes_2, from_be_bytes-to_be_bytes_4, from_be_bytes-to_be_bytes_8}
+use Rattle.std.proofs.lemmas.Option.{same_Some}
+use Rattle.qfs_base.specs.ListLaws.{cond_passed}
 use Rattle.qfs_record.specs.Part.{Part, AreBytes, number, number_at, pair, such, shaped, marked, counted, counted_at, flag, flag_at, optional, optional_at, optional_text, many_at, listed}
 
 -- bytes are a value's text and a rest
@@ -33,13 +35,6 @@ then_some (Some x) f y e = (x, refl, e)
 pub map_some : {A B : Type 0} (read : Option A) (f : A → B) (y : B) → option_map f read ≡ Some y → (x : A) × (read ≡ Some x) × (f x ≡ y)
 map_some None f y e = absurd cc
 map_some (Some x) f y e = (x, refl, cc)
-
-if_some : {A : Type 0} (b : Bool) (read : Option A) (y : A) → cond b read None ≡ Some y → (b ≡ true) × (read ≡ Some y)
-if_some true read y e = (refl, e)
-if_some false read y e = absurd cc
-
-pub some_is : {A : Type 0} (x y : A) → Some x ≡ Some y → x ≡ y
-some_is x y e = cc
 
 unless_some : {A : Type 0} (b : Bool) (x y : A) → cond b None (Some x) ≡ Some y → (b ≡ false) × (x ≡ y)
 unless_some true x y e = absurd cc
@@ -162,10 +157,10 @@ such_spelled : {A : Type 0} (test : A → Bool) (part : Part A) → IsPart part 
 such_spelled {A} test part is bytes value rest are read =
     let f = then_some (part.read bytes) _ (value, rest) read in
     let front = f.0 in
-    let passed = if_some (test front.0) (Some front) (value, rest) f.2 in
+    let passed = cond_passed (test front.0) (Some front) (value, rest) f.2 in
     let p = is.spelled bytes front.0 front.1 are f.1 in
     let takes : Takes (such test part) bytes front.0 front.1 = record { fits = (p.fits, passed.0); parts = p.parts; rest_fits = p.rest_fits } in
-    let same : front ≡ (value, rest) = some_is front (value, rest) passed.1 in
+    let same : front ≡ (value, rest) = same_Some front (value, rest) passed.1 in
     subst (λ (r : A × List ℕ). Takes (such test part) bytes r.0 r.1) same takes
 
 pub such-is_part : {A : Type 0} (test : A → Bool) (part : Part A) → IsPart part → IsPart (such test part)
@@ -194,7 +189,7 @@ shaped-is_part to from part back forth is = record {
 
 marked_spelled : {A : Type 0} (mark : List ℕ) (part : Part A) → IsPart part → (bytes : List ℕ) (value : A) (rest : List ℕ) → AreBytes bytes → (marked mark part).read bytes ≡ Some (value, rest) → Takes (marked mark part) bytes value rest
 marked_spelled mark part is bytes value rest are read =
-    let begins = if_some (starts_with nat_eq bytes mark) (part.read (drop (length mark) bytes)) (value, rest) read in
+    let begins = cond_passed (starts_with nat_eq bytes mark) (part.read (drop (length mark) bytes)) (value, rest) read in
     let p = is.spelled (drop (length mark) bytes) value rest (All-drop (λ byte. byte < 256) (length mark) bytes are) begins.1 in
     record {
       fits = p.fits;
@@ -245,11 +240,11 @@ counted32 = record { again = counted_again w32 wide32; spelled = counted_spelled
 flag_spelled : (bytes : List ℕ) (truth : Bool) (rest : List ℕ) → AreBytes bytes → flag_at bytes ≡ Some (truth, rest) → Takes flag bytes truth rest
 flag_spelled [] truth rest are read = absurd cc
 flag_spelled (zero ∷ bytes) truth rest are read =
-    let same = some_is {A = Bool × List ℕ} (false, bytes) (truth, rest) read in
+    let same = same_Some {A = Bool × List ℕ} (false, bytes) (truth, rest) read in
     let takes : Takes flag (0 ∷ bytes) false bytes = record { fits = tt; parts = refl; rest_fits = All-tail (λ byte. byte < 256) 0 bytes are } in
     subst (λ (r : Bool × List ℕ). Takes flag (0 ∷ bytes) r.0 r.1) same takes
 flag_spelled (suc zero ∷ bytes) truth rest are read =
-    let same = some_is {A = Bool × List ℕ} (true, bytes) (truth, rest) read in
+    let same = same_Some {A = Bool × List ℕ} (true, bytes) (truth, rest) read in
     let takes : Takes flag (1 ∷ bytes) true bytes = record { fits = tt; parts = refl; rest_fits = All-tail (λ byte. byte < 256) 1 bytes are } in
     subst (λ (r : Bool × List ℕ). Takes flag (1 ∷ bytes) r.0 r.1) same takes
 flag_spelled (suc (suc byte) ∷ bytes) truth rest are read = absurd cc
@@ -264,7 +259,7 @@ flag-is_part = record { again = flag_again; spelled = flag_spelled }
 optional_spelled : {A : Type 0} (part : Part A) → IsPart part → (bytes : List ℕ) (value : Option A) (rest : List ℕ) → AreBytes bytes → optional_at part bytes ≡ Some (value, rest) → Takes (optional part) bytes value rest
 optional_spelled part is [] value rest are read = absurd cc
 optional_spelled {A} part is (zero ∷ bytes) value rest are read =
-    let same = some_is {A = Option A × List ℕ} (None, bytes) (value, rest) read in
+    let same = same_Some {A = Option A × List ℕ} (None, bytes) (value, rest) read in
     let takes : Takes (optional part) (0 ∷ bytes) None bytes = record { fits = tt; parts = refl; rest_fits = All-tail (λ byte. byte < 256) 0 bytes are } in
     subst (λ (r : Option A × List ℕ). Takes (optional part) (0 ∷ bytes) r.0 r.1) same takes
 optional_spelled {A} part is (suc zero ∷ bytes) value rest are read =
@@ -291,7 +286,7 @@ record TakesMany {A : Type 0} (part : Part A) (count : ℕ) (bytes : List ℕ) (
 
 many_spelled : {A : Type 0} (part : Part A) → IsPart part → (count : ℕ) (bytes : List ℕ) (values : List A) (rest : List ℕ) → AreBytes bytes → many_at part count bytes ≡ Some (values, rest) → TakesMany part count bytes values rest
 many_spelled {A} part is zero bytes values rest are read =
-    let same = some_is {A = List A × List ℕ} ([], bytes) (values, rest) read in
+    let same = same_Some {A = List A × List ℕ} ([], bytes) (values, rest) read in
     let takes : TakesMany part 0 bytes [] bytes = record { long = refl; fits = tt; parts = refl; rest_fits = are } in
     subst (λ (r : List A × List ℕ). TakesMany part 0 bytes r.0 r.1) same takes
 many_spelled {A} part is (suc count) bytes values rest are read =

@@ -1,6 +1,6 @@
 //! Runs through the program's call, over sources, sinks and devices in memory.
 ghost use Rattle.std.specs.Prelude.{All, IfOk};
-ghost use Rattle.qfs_world.specs.Calls.{IsNew};
+ghost use Rattle.qfs_nodes.specs.Nodes.{IsNew};
 
 use qfs_base::script::ScriptCause;
 use qfs_device::{

@@ -9,6 +9,7 @@ use Rattle.std.proofs.lemmas.Bool.{cases_lt}
 use Rattle.std.proofs.lemmas.Grind.{div_ceil_times}
 use Rattle.std.proofs.lemmas.Nat.{div-add-mod', mod_below}
 use Rattle.qfs_base.specs.Layout.{block_bytes, row_bytes, blocks_of, window_at, windows_of_rows}
+use Rattle.qfs_base.specs.ListLaws.{div_ceil-least}
 use Rattle.qfs_stripe.specs.Touched.{IsTouched, AreTouched, AreInOrder, first_touched, past_touched}
 
 -- ---- parts of a number, rounded up
@@ -29,14 +30,6 @@ part_before a d q some less =
           let whole : a ≤ div_ceil a d * d = (div_ceil_times a d some).0 in
           let le : div_ceil a d * d ≤ q * d = mul-le-mul_right d past in
           absurd (omega (arith, less, whole, le))
-    ]
-
--- so many parts are enough
-parts_least : (a d q : ℕ) → 0 < d → a ≤ q * d → div_ceil a d ≤ q
-parts_least a d q some enough =
-    elim (cases_lt q (div_ceil a d)) [
-      | inl more ↦ absurd (omega (arith, enough, part_begins a d q some more))
-      | inr least ↦ least
     ]
 
 -- the part that a lies in, before the parts of a greater b end
@@ -63,7 +56,7 @@ block_of_file s r from to k whole touched = part_before to (block_bytes s r) k w
 pub rows_most : (s r to k : ℕ) → 0 < row_bytes s → past_touched s r to k ≤ r
 rows_most s r to k some =
     let rows : block_bytes s r ≡ r * row_bytes s = grind arith in
-    parts_least (min (to - k * block_bytes s r) (block_bytes s r)) (row_bytes s) r some (omega (arith, rows))
+    div_ceil-least (min (to - k * block_bytes s r) (block_bytes s r)) (row_bytes s) r some (omega (arith, rows))
 
 less_inside : (from to start size : ℕ) → 0 < size → from < to → start < to → from < start + size → from - start < min (to - start) size
 less_inside from to start size whole some starts ends = omega arith

@@ -20,14 +20,24 @@ use Rattle.qfs_model_world.specs.World.{numbered, start, after}
 use Rattle.qfs_model_store.specs.Stands.{kept}
 use Rattle.qfs_store.proofs.FreshLaws.{fresh_stands}
 use Rattle.qfs_store.specs.Stored.{Stored, StandsOn, no_copies}
-use Rattle.qfs_world.specs.AtWork.{IsAtWork, AreNumbered, image_of, meta_of, stores_of, actors_of, sizes_of, starts_from, total}
-use Rattle.qfs_world.specs.Calls.{IsNew, stored_over}
+use Rattle.qfs_world.specs.AtWork.{IsAtWork, AreNumbered}
+use Rattle.qfs_base.specs.declared.command.Command.{Command}
+use Rattle.qfs_base.specs.declared.rules.Rules.{Rules}
+use Rattle.qfs_model_actor.specs.Actor.{starting}
+use Rattle.qfs_nodes.specs.Nodes.{image_of, stores_of, IsNew, nodes_with, stored_over}
+use Rattle.qfs_nodes.specs.Scripts.{meta_of, IsRunnable, commands_by_actor}
+use Rattle.qfs_nodes.specs.Actors.{actors_of, sizes_of, starts_from, total}
 use Rattle.qfs_world.specs.Follows.{CountFaults, Follows, HoldNoOthers, IsServer, StandForAll}
-use Rattle.qfs_world.specs.Running.{AllTell, IsRunnable, commands_by_actor}
-use Rattle.qfs_world.specs.declared.node.NodeState.{NodeState}
-use Rattle.qfs_world.proofs.Nodes.{nodes_with, stores-with}
-use Rattle.qfs_world.proofs.Starts.{length_starts, starts-actors, starts-numbered, total_sizes}
+use Rattle.qfs_world.specs.View.{AllTell}
+use Rattle.qfs_nodes.specs.declared.node.NodeState.{NodeState}
+use Rattle.qfs_nodes.proofs.Stores.{stores-with}
+use Rattle.qfs_nodes.proofs.Starts.{length_starts, starts-actors, total_sizes}
 use Rattle.qfs_world.proofs.Step.{again}
+
+starts-numbered : (rules : Rules) (number : ℕ) (xs : List (List Command)) → AreNumbered number (starts_from rules number xs)
+unfolding starting
+starts-numbered rules number [] = tt
+starts-numbered rules number (x ∷ xs) = (refl, λ out. out, starts-numbered rules (number + 1) xs)
 
 -- the metaserver that a script starts with
 abbrev pub first_meta : Script → Metaserver

@@ -26,14 +26,6 @@ use Rattle.qfs_world.specs.Calls.{GoesOn}
 use Rattle.qfs_world.specs.Follows.{CountFaults}
 use Rattle.qfs_world.proofs.Lists.{get-set, get-set-other}
 
--- a device of this server has failed once between these
-pub record FailedAt (stores stores' : List Stored) (node : ℕ) : Type 0 where
-  pub old : Stored
-  pub new : Stored
-  pub was : numbered stores node ≡ Some old
-  pub is_now : numbered stores' node ≡ Some new
-  pub rose : RoseOnce old.faults new.faults
-
 -- ---- what a store counts
 
 -- a refusal is no failure

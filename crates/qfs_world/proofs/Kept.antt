@@ -37,9 +37,9 @@ use Rattle.qfs_store.specs.Serves.{Answers, FetchLeaves, Serves}
 use Rattle.qfs_store.specs.Stored.{Stored}
 use Rattle.qfs_store.specs.declared.copies.CopySize.{CopySize}
 use Rattle.qfs_world.specs.Follows.{CountFaults, Follows, HoldNoOthers, StandForAll}
-use Rattle.qfs_world.specs.Running.{AllTell, turn_of}
-use Rattle.qfs_world.specs.Turns.{no_server}
-use Rattle.qfs_world.specs.declared.node.NodeState.{NodeState}
+use Rattle.qfs_world.specs.View.{AllTell, turn_of}
+use Rattle.qfs_nodes.specs.Turns.{no_server}
+use Rattle.qfs_nodes.specs.declared.node.NodeState.{NodeState}
 use Rattle.qfs_world.proofs.Faults.{IsDone, counts-on, failed-once, none-fails, refusal-done, same-count, sure-nowhere}
 use Rattle.qfs_world.proofs.Nodes.{OfMeta, OfStore, OfNone}
 use Rattle.qfs_world.proofs.Others.{meta-empties, down-empties, no-other-after, no-others-longer, no-others-set}

@@ -1,7 +1,5 @@
-pub mod Asked
 pub mod Begin
 pub mod Faults
-pub mod Home
 pub mod Kept
 pub mod Lists
 pub mod Nodes
@@ -9,7 +7,5 @@ pub mod Numbered
 pub mod Others
 pub mod Simulation
 pub mod Stands
-pub mod Starts
 pub mod Step
-pub mod Tries
 pub mod TurnLists

@@ -19,10 +19,11 @@ use Rattle.qfs_model_actor.specs.Work.{node_of_request}
 use Rattle.qfs_model_world.specs.World.{numbered}
 use Rattle.qfs_store.specs.Serves.{Serves}
 use Rattle.qfs_store.specs.Stored.{Stored}
-use Rattle.qfs_world.specs.AtWork.{stores_of, place_in, TakesTurn}
-use Rattle.qfs_world.specs.Turns.{MetaServes, MetaTurns, StoreTurns, Passes, Takes, no_server}
-use Rattle.qfs_world.specs.declared.node.NodeState.{NodeState}
-use Rattle.qfs_world.specs.declared.node.NodeState.TheVariants as Node
+use Rattle.qfs_nodes.specs.Nodes.{nodes_with}
+use Rattle.qfs_world.specs.AtWork.{place_in, TakesTurn}
+use Rattle.qfs_nodes.specs.Turns.{MetaServes, MetaTurns, StoreTurns, Passes, Takes, no_server}
+use Rattle.qfs_nodes.specs.declared.node.NodeState.{NodeState}
+use Rattle.qfs_nodes.specs.declared.node.NodeState.TheVariants as Node
 use Rattle.qfs_world.proofs.Lists.{map-set}
 
 place-none : (count : ℕ) → place_in count (Some 0) ≡ 0
@@ -51,18 +52,6 @@ pub node-chunk : (actor : Actor) (server : ℕ) (request : ChunkRequest) → req
     → node_of actor ≡ Some server
 unfolding node_of_request
 node-chunk actor server request asked = node-asked actor (To.Chunk server request) asked
-
-stores-map : (D : Type 0) (stores : List Stored) → stores_of {D = D} (map Node.Store stores) ≡ stores
-stores-map D [] = refl
-stores-map D (stored ∷ stores) = ap (λ rest. stored ∷ rest) (stores-map D stores)
-
-module _ {D : Type 0} where
-  -- the metaserver and behind it the chunk servers
-  abbrev pub nodes_with : Metaserver → List Stored → List (NodeState D)
-  nodes_with meta stores = Node.Meta meta ∷ map Node.Store stores
-
-pub stores-with : (D : Type 0) (meta : Metaserver) (stores : List Stored) → stores_of (nodes_with {D = D} meta stores) ≡ stores
-stores-with D meta stores = stores-map D stores
 
 module _ {D : Type 0} where
   -- the metaserver served the actor's request

@@ -11,8 +11,9 @@ use Rattle.qfs_model_actor.specs.Actor.{Actor, request_of, has_finished, moved_o
 use Rattle.qfs_model_actor.specs.Steps.{left}
 use Rattle.qfs_model_actor.specs.Work.{Work, ends, asks, goes_on}
 use Rattle.qfs_model_actor.proofs.Left.{left-falls}
-use Rattle.qfs_world.specs.AtWork.{AreNumbered, actors_of}
-use Rattle.qfs_world.specs.Running.{steps_left}
+use Rattle.qfs_world.specs.AtWork.{AreNumbered}
+use Rattle.qfs_nodes.specs.Actors.{actors_of}
+use Rattle.qfs_world.specs.View.{steps_left}
 use Rattle.qfs_world.proofs.Lists.{map-set}
 
 -- an actor keeps its number

@@ -39,7 +39,7 @@ use Rattle.qfs_store.specs.Serves.{Answers, Does, FetchLeaves, IsLife, PutLeaves
 use Rattle.qfs_store.specs.Stored.{Stored, StandsOn}
 use Rattle.qfs_store.specs.declared.copies.CopySize.{CopySize}
 use Rattle.qfs_world.specs.Follows.{HoldNoOthers}
-use Rattle.qfs_world.specs.Turns.{no_server}
+use Rattle.qfs_nodes.specs.Turns.{no_server}
 use Rattle.qfs_world.proofs.Lists.{get-set-other}
 
 -- ---- what was left stays so in one step more

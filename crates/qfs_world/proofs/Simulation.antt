@@ -16,7 +16,7 @@ use Rattle.qfs_model_world.specs.Events.{Event, event_asking, event_by, event_in
 use Rattle.qfs_model_world.specs.World.{World, Turned, start, numbered, renumbered, node_turn, handed_over, move_asking, move_actor, move, after}
 use Rattle.qfs_model_world.specs.Fits.{turn, may_end, is_possible, is_possible_for, is_possible_of, may_come, fits}
 use Rattle.qfs_model_world.proofs.Orders.{after-snoc, fits-snoc}
-use Rattle.qfs_world.specs.Running.{turn_of}
+use Rattle.qfs_world.specs.View.{turn_of}
 
 same-self : (outcome : Outcome) → same_outcome outcome outcome ≡ true
 unfolding same_outcome

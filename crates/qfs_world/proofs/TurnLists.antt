@@ -5,7 +5,7 @@ use Rattle.std.specs.List.{list_any}
 use Rattle.qfs_base.specs.declared.command.Command.{Command}
 use Rattle.qfs_model_actor.specs.Actor.{Actor, has_finished}
 use Rattle.qfs_model_world.specs.Fits.{unfinished, by_phase, first_filled}
-use Rattle.qfs_world.specs.AtWork.{sizes_of, by_sizes}
+use Rattle.qfs_nodes.specs.Actors.{sizes_of, by_sizes}
 use Rattle.qfs_world.proofs.Lists.{get-take, get-drop}
 
 -- an actor of this number is among these, and it hasn't finished

@@ -1,44 +1,33 @@
 -- What the calls of a world promise.
-use Rattle.std.specs.Prelude.{ℕ, ◌≡◌, ◌<◌, ◌≤◌, ◌==◌, List, [], ◌∷◌, ◌++◌, length, take, drop, map, flat_map, Option, Some, IsTrue, is_some}
+use Rattle.std.specs.Prelude.{ℕ, ◌≡◌, ◌<◌, ◌≤◌, ◌==◌, List, [], take, drop, map, Option, Some, IsTrue, is_some}
 use Rattle.std.specs.List.{AllZip, list_any}
-use Rattle.std.specs.Option.{ForSome}
 use Rattle.qfs_base.specs.Rules.{rules_of}
-use Rattle.qfs_base.specs.declared.command.ReplyLine.{ReplyLine}
 use Rattle.qfs_base.specs.declared.history.Outcome.{Outcome}
 use Rattle.qfs_base.specs.declared.history.Outcome.TheVariants as Ended
 use Rattle.qfs_base.specs.declared.reply.NodeReply.{NodeReply}
 use Rattle.qfs_base.specs.declared.script.Script.{Script}
 use Rattle.qfs_device.specs.Fault.{RoseOnce}
-use Rattle.qfs_device.specs.Held.{Held, new_device}
+use Rattle.qfs_device.specs.Held.{Held}
 use Rattle.qfs_device.specs.declared.log_disk.MetaDisks.{MetaDisks}
 use Rattle.qfs_model_actor.specs.Actor.{Actor, after_reply, node_of}
 use Rattle.qfs_model_meta.specs.Step.{opening}
-use Rattle.qfs_model_world.specs.Text.{lines_of_actor}
 use Rattle.qfs_model_world.specs.World.{numbered, renumbered, numbered_actors}
-use Rattle.qfs_store.specs.Stored.{Stored, no_copies}
-use Rattle.qfs_world.specs.AtWork.{TakesTurn, meta_of}
-use Rattle.qfs_world.specs.Running.{Running, commands_by_actor, turn_of, steps_left}
-use Rattle.qfs_world.specs.declared.node.NodeState.{NodeState}
-use Rattle.qfs_world.specs.declared.node.NodeState.TheVariants as Node
+use Rattle.qfs_nodes.specs.Nodes.{AreHome, nodes_with, stores_over}
+use Rattle.qfs_nodes.specs.Scripts.{commands_by_actor, meta_of}
+use Rattle.qfs_nodes.specs.declared.node.NodeState.{NodeState}
+use Rattle.qfs_store.specs.Stored.{Stored}
+use Rattle.qfs_world.specs.AtWork.{TakesTurn}
+use Rattle.qfs_world.specs.View.{WorldView, turn_of, steps_left, with_step}
 
 -- ---- a new world
 
--- as far as a device tells what it holds, it is new
-abbrev pub IsNew : {D : Type 0} → (D → Option Held) → D → Type 0
-IsNew told device = ForSome (told device) (λ held. held ≡ new_device)
-
--- a server over a device, under a layout of this stripe: it is up and knows of no copies
-abbrev pub stored_over : {D : Type 0} → (D → Option Held) → (D → ℕ) → ℕ → D → Stored
-stored_over told faults stripe device =
-    record { stripe = stripe; known = no_copies; told = told device; faults = faults device }
-
 module _ {D L : Type 0} where
   -- the world in which a script starts, over these devices and disks
-  pub record Starts (told : D → Option Held) (faults : D → ℕ) (script : Script) (devices : List D) (disks : MetaDisks L) (world : Running D L) : Type 0 where
+  pub record Starts (told : D → Option Held) (faults : D → ℕ) (script : Script) (devices : List D) (disks : MetaDisks L) (world : WorldView D L) : Type 0 where
     pub script_is : world.script ≡ script
     pub counts_are : world.counts ≡ map faults (take script.servers devices)
     pub meta_is : world.meta ≡ opening script.servers
-    pub stores_are : world.stores ≡ map (stored_over told faults script.layout.s) (take script.servers devices)
+    pub stores_are : world.stores ≡ stores_over told faults script.layout.s (take script.servers devices)
     pub actors_are : world.actors ≡ numbered_actors (rules_of script) 1 (commands_by_actor script)
     pub order_is : world.order ≡ []
     pub spare_are : world.spare ≡ drop script.servers devices
@@ -51,37 +40,37 @@ pub record GoesOn (before behind : Stored) : Type 0 where
   pub tells : is_some behind.told ≡ is_some before.told
   pub never_falls : before.faults ≤ behind.faults
 
+-- the node of this number is a server whose device failed once
+pub record HasFailed (before behind : List Stored) (node : ℕ) : Type 0 where
+  pub old : Stored
+  pub new : Stored
+  pub before_is : numbered before node ≡ Some old
+  pub behind_is : numbered behind node ≡ Some new
+  pub rose : RoseOnce old.faults new.faults
+
 module _ {D L : Type 0} where
   -- it is this actor's turn
-  abbrev pub HasTurn : Running D L → ℕ → Type 0
+  abbrev pub HasTurn : WorldView D L → ℕ → Type 0
   HasTurn world actor = IsTrue (list_any (λ number. number == actor) (turn_of world.script world.actors))
 
-  -- the node of this number is a server whose device failed once
-  pub record HasFailed (before behind : Running D L) (node : ℕ) : Type 0 where
-    pub old : Stored
-    pub new : Stored
-    pub before_is : numbered before.stores node ≡ Some old
-    pub behind_is : numbered behind.stores node ≡ Some new
-    pub rose : RoseOnce old.faults new.faults
-
   -- the nodes: the metaserver, and behind it the chunk servers
-  abbrev pub nodes_of : Running D L → List (NodeState D)
-  nodes_of world = Node.Meta (meta_of world.script world.meta) ∷ map Node.Store world.stores
+  abbrev pub nodes_of : WorldView D L → List (NodeState D)
+  nodes_of world = nodes_with (meta_of world.script world.meta) world.stores
 
   -- an actor of this number took its step: its node served its request, and it took the reply, by which the step came out so.
   -- The order has one entry more
-  pub record ActorMoves (before : Running D L) (number : ℕ) (outcome : Outcome) (node : ℕ) (behind : Running D L) : Type 0 where
+  pub record ActorMoves (before : WorldView D L) (number : ℕ) (outcome : Outcome) (node : ℕ) (behind : WorldView D L) : Type 0 where
     pub actor : Actor
     pub reply : NodeReply
     pub of : numbered before.actors number ≡ Some actor
     pub to : node_of actor ≡ Some node
     pub turns : TakesTurn (nodes_of before) actor outcome (nodes_of behind) (after_reply actor reply)
     pub actors : behind.actors ≡ renumbered before.actors number (after_reply actor reply)
-    pub order : behind.order ≡ before.order ++ record { actor = number; outcome = outcome } ∷ []
+    pub order : behind.order ≡ with_step before.order number outcome
     pub falls : steps_left behind.actors < steps_left before.actors
 
   -- every node but the one of this number is as it was, and so is what the world only keeps
-  pub record OthersStay (before behind : Running D L) (node : ℕ) : Type 0 where
+  pub record OthersStay (before behind : WorldView D L) (node : ℕ) : Type 0 where
     pub meta : (node ≡ 0 → ⊥) → behind.meta ≡ before.meta
     pub stores : (server : ℕ) → (server ≡ node → ⊥) → numbered behind.stores server ≡ numbered before.stores server
     pub script : behind.script ≡ before.script
@@ -91,25 +80,15 @@ module _ {D L : Type 0} where
 
   -- an actor took its step, which came out so, and nothing else changed but that actor and the node that its request went to.
   -- Devices go on, and a step that failed is one at a server whose device failed
-  pub record Steps (before : Running D L) (number : ℕ) (outcome : Outcome) (behind : Running D L) : Type 0 where
+  pub record Steps (before : WorldView D L) (number : ℕ) (outcome : Outcome) (behind : WorldView D L) : Type 0 where
     pub node : ℕ
     pub moves : ActorMoves before number outcome node behind
     pub others : OthersStay before behind node
     pub goes_on : AllZip GoesOn before.stores behind.stores
-    pub cause : outcome ≡ Ended.Failed → HasFailed before behind node
+    pub cause : outcome ≡ Ended.Failed → HasFailed before.stores behind.stores node
 
 -- ---- its end
 
--- the reply lines of actors, by number and command
-abbrev pub lines_of_actors : List Actor → List ReplyLine
-lines_of_actors actors = flat_map lines_of_actor actors
-
--- these devices are those of chunk servers, which tell what the servers' did, and behind them these others
-pub record AreHome {D : Type 0} (told : D → Option Held) (faults : D → ℕ) (stores : List Stored) (others devices : List D) : Type 0 where
-  pub told_are : map told (take (length stores) devices) ≡ map (λ (stored : Stored). stored.told) stores
-  pub faults_are : map faults (take (length stores) devices) ≡ map (λ (stored : Stored). stored.faults) stores
-  pub others_are : drop (length stores) devices ≡ others
-
 -- these devices are those of a world, each in its place; those above the script's servers are as they came
-abbrev pub AreDevicesOf : {D L : Type 0} → (D → Option Held) → (D → ℕ) → Running D L → List D → Type 0
+abbrev pub AreDevicesOf : {D L : Type 0} → (D → Option Held) → (D → ℕ) → WorldView D L → List D → Type 0
 AreDevicesOf told faults world devices = AreHome told faults world.stores world.spare devices

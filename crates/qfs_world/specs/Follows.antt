@@ -15,7 +15,7 @@ use Rattle.qfs_model_world.specs.Fits.{fits}
 use Rattle.qfs_model_world.specs.Headline.{failed_at}
 use Rattle.qfs_model_world.specs.World.{numbered, after}
 use Rattle.qfs_store.specs.Stored.{Stored, StandsOn}
-use Rattle.qfs_world.specs.Running.{Running, AllTell}
+use Rattle.qfs_world.specs.View.{WorldView, AllTell}
 
 -- a store stands for a server under a layout of this stripe, and its device handed out as many bytes as the server; a count
 -- of 64 bits stays at its last value
@@ -58,6 +58,6 @@ pub record Follows (script : Script) (counts : List ℕ) (order : List Step) (me
   pub fits : IsTrue (fits script order)
 
 -- as far as the devices tell what they hold, a world at work is the world after its own order of its script
-abbrev pub IsAfter : {D L : Type 0} → Running D L → Type 0
+abbrev pub IsAfter : {D L : Type 0} → WorldView D L → Type 0
 IsAfter world =
     AllTell world.stores → Follows world.script world.counts world.order world.meta world.stores world.actors

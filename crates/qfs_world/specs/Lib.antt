@@ -1,5 +1,4 @@
 pub mod AtWork
 pub mod Calls
 pub mod Follows
-pub mod Running
-pub mod Turns
+pub mod View

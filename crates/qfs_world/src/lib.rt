@@ -2,12 +2,8 @@
 //! actors, one step after another on one thread.
 #![tactic(auto)]
 
-mod node;
 mod parts;
-mod start;
-mod turns;
 mod world;
 
-pub use node::{NodeState, turn_on};
 pub use parts::{Parts, PartsError, WorldLoadError};
 pub use world::World;

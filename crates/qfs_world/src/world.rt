@@ -1,21 +1,18 @@
 //! The world at work.
-ghost use Rattle.std.specs.Prelude.{◌≡◌, ◌+◌, ◌≤◌, ◌<◌, ◌++◌, ◌∷◌, [], length, map, take, All, IfOk, IfErr, OnErr, false, vec_len, vec_capacity};
-ghost use Rattle.qfs_machine.specs.Asking.{IsOut};
+ghost use Rattle.std.specs.Prelude.{◌≡◌, ◌≤◌, ◌<◌, length, map, take, All, IfOk, IfErr, OnErr, false};
 ghost use Rattle.std.specs.Option.{option_and_then};
-ghost use Rattle.qfs_base.specs.Rules.{rules_of};
+ghost use Rattle.qfs_machine.specs.Asking.{IsOut};
 ghost use Rattle.qfs_model_actor.specs.Actor.{has_finished, node_of};
 ghost use Rattle.qfs_model_world.specs.World.{numbered};
-ghost use Rattle.qfs_world.specs.AtWork.{TakesTurn, meta_of, place_in, sizes_of, starts_from};
-ghost use Rattle.qfs_world.specs.Calls.{IsNew, Starts, HasTurn, Steps, AreDevicesOf, lines_of_actors};
+ghost use Rattle.qfs_nodes.specs.Actors.{lines_of_actors};
+ghost use Rattle.qfs_nodes.specs.Nodes.{IsNew};
+ghost use Rattle.qfs_nodes.specs.Scripts.{IsRunnable};
+ghost use Rattle.qfs_world.specs.AtWork.{TakesTurn, place_in};
+ghost use Rattle.qfs_world.specs.Calls.{AreDevicesOf, HasTurn, Starts, Steps};
 ghost use Rattle.qfs_world.specs.Follows.{IsAfter};
-ghost use Rattle.qfs_world.specs.Running.{IsRunnable, commands_by_actor, turn_of};
-ghost use Rattle.qfs_model_meta.specs.Step.{opening};
-ghost use Rattle.qfs_world.specs.declared.node.NodeState.TheVariants as Node;
+ghost use Rattle.qfs_world.specs.View.{turn_of, with_step};
 
-use crate::node::{NodeState, turn_on};
-use crate::parts::{Parts, PartsError, WorldLoadError, all_replies, hand_back};
-use crate::start::{first_actors, first_node, phase_sizes, take_devices};
-use crate::turns::current_turn;
+use crate::parts::{Parts, PartsError, WorldLoadError};
 use qfs_actor::Actor;
 use qfs_base::history::{Outcome, Step};
 use qfs_base::listing::Listing;
@@ -25,14 +22,14 @@ use qfs_base::order::Order;
 use qfs_base::script::Script;
 use qfs_device::{ChunkDevice, LogDisk, MetaDisks};
 use qfs_machine::Ghost;
+use qfs_nodes::{NodeState, Prepared, current_turn, prepare, take_apart, take_devices, turn_on};
 use std::alloc::{AllocError, Global};
 use std::marker::Model;
 use std::snapshot::Snapshot;
 
 /// The metaserver, the chunk servers and the actors of a script, and the order of the steps that
 /// they took. As far as the devices tell what they hold, it is always the world of the
-/// definitions after that order.
-#[derive(Drop)]
+/// definitions after that order. It is taken apart at its end, and never dropped.
 pub struct World<D: ChunkDevice, L: LogDisk> {
     alloc: Global,
     script: Snapshot<Script>,
@@ -51,16 +48,21 @@ pub struct World<D: ChunkDevice, L: LogDisk> {
 }
 
 impl<D: ChunkDevice, L: LogDisk> Model for World<D, L> {
-    ghost use Rattle.std.specs.Prelude.{◌+◌, ◌≤◌, length, vec_capacity};
-    ghost use Rattle.qfs_world.specs.Running.{Running};
+    ghost use Rattle.qfs_world.specs.View.{WorldView, view_of};
 
-    ghost Value = { Running D L };
+    ghost Value = { WorldView D L };
 
-    ghost use Rattle.qfs_world.specs.AtWork.{IsAtWork, image_of, stores_of, actors_of};
+    ghost view = { λ it.
+      view_of it.script.value it.counts.value it.nodes.items it.actors.items it.order it.spare.items
+      it.disks };
 
-    ghost view = { λ it. record { script = it.script.value; counts = it.counts.value; meta = image_of it.nodes.items; stores = stores_of it.nodes.items; actors = actors_of it.actors.items; order = it.order; spare = it.spare.items; disks = it.disks } };
+    ghost use Rattle.std.specs.Prelude.{vec_capacity};
+    ghost use Rattle.qfs_world.specs.AtWork.{HasRoom, IsAtWork};
 
-    ghost invariant = { λ it. IsAtWork it.script.value it.counts.value it.nodes.items it.actors.items it.phases.items it.order × (length (stores_of it.nodes.items) + length it.spare.items ≤ vec_capacity it.spare) };
+    ghost invariant = { λ it.
+      IsAtWork it.script.value it.counts.value it.nodes.items it.actors.items it.phases.items
+      it.order
+      × HasRoom it.nodes.items it.spare.items (vec_capacity it.spare) };
 }
 
 impl<D: ChunkDevice, L: LogDisk> World<D, L> {
@@ -156,29 +158,32 @@ impl<D: ChunkDevice, L: LogDisk> World<D, L> {
 
     /// Takes the world apart. An Err says that memory is wanting, and hands devices and disks back.
     pub fn into_parts(self) -> Result<Parts<D, L>, PartsError<D, L>>
-        ensures devices { IfOk result (λ parts. AreDevicesOf D.told D.faults self parts.devices.items) }
+        ensures devices { IfOk result (λ parts.
+            AreDevicesOf D.told D.faults self parts.devices.items) }
         ensures disks { IfOk result (λ parts. parts.disks ≡ self.disks) }
         ensures image { IfOk result (λ parts. parts.image ≡ self.meta) }
         ensures order { IfOk result (λ parts. parts.order ≡ self.order) }
         ensures replies { IfOk result (λ parts. parts.replies ≡ lines_of_actors self.actors) }
-        ensures err_devices { IfErr result (λ error. AreDevicesOf D.told D.faults self error.devices.items) }
+        ensures err_devices { IfErr result (λ error.
+            AreDevicesOf D.told D.faults self error.devices.items) }
         ensures err_disks { IfErr result (λ error. error.disks ≡ self.disks) }
         ensures after { IsAfter self }
     {
         let World {
             alloc,
+            script: _script,
+            counts: _counts,
             nodes,
             actors,
+            phases: _phases,
             order,
             spare,
             disks,
-            ..
         } = self;
         let mut devices = spare;
-        let image = hand_back(nodes, &mut devices);
-        match all_replies(alloc, actors) {
+        match take_apart(alloc, nodes, actors, &mut devices) {
             Err(_) => Err(PartsError { devices, disks }),
-            Ok(replies) => Ok(Parts {
+            Ok((image, replies)) => Ok(Parts {
                 devices,
                 disks,
                 image,
@@ -196,34 +201,6 @@ fn counts_at_start<D: ChunkDevice>(devices: &Vec<D>, script: &Script) -> Ghost<L
     Ghost::of(devices, script)
 }
 
-/// The nodes and actors of a world at its start, but for the chunk servers.
-#[derive(Drop)]
-struct Prepared<D: ChunkDevice> {
-    nodes: Vec<NodeState<D>>,
-    actors: Vec<Actor>,
-    phases: Vec<usize>,
-}
-
-/// Takes all memory that a world takes at its start.
-fn prepare<D: ChunkDevice>(alloc: Global, script: &Script) -> Result<Prepared<D>, AllocError>
-    requires { IsRunnable script.now }
-    ensures nodes { IfOk result (λ it. it.nodes.items
-        ≡ Node.Meta (meta_of script.now (opening script.now.servers)) ∷ []) }
-    ensures room { IfOk result (λ it. vec_len it.nodes + script.now.servers ≤ vec_capacity it.nodes) }
-    ensures actors { IfOk result (λ it. it.actors.items
-        ≡ starts_from (rules_of script.now) 1 (commands_by_actor script.now)) }
-    ensures phases { IfOk result (λ it. it.phases.items ≡ sizes_of script.now.phases) }
-{
-    let nodes = first_node(alloc, script)?;
-    let actors = first_actors(alloc, script)?;
-    let phases = phase_sizes(alloc, script)?;
-    Ok(Prepared {
-        nodes,
-        actors,
-        phases,
-    })
-}
-
 /// One step of an actor that hasn't finished, with its entry in the order. On want of memory all is
 /// as it was, but for the memory that the actor took.
 fn step_on<D: ChunkDevice>(
@@ -234,8 +211,10 @@ fn step_on<D: ChunkDevice>(
     requires some { 0 < length nodes.old }
     requires resting { IsOut actor.old.readiness → ⊥ }
     requires unfinished { has_finished actor.old.actor ≡ false }
-    ensures turn { IfOk result (λ outcome. TakesTurn nodes.old actor.old.actor outcome nodes.new actor.new.actor) }
-    ensures order { IfOk result (λ outcome. order.new ≡ order.old ++ record { actor = actor.old.actor.number; outcome = outcome } ∷ []) }
+    ensures turn { IfOk result (λ outcome.
+        TakesTurn nodes.old actor.old.actor outcome nodes.new actor.new.actor) }
+    ensures order { IfOk result (λ outcome.
+        order.new ≡ with_step order.old actor.old.actor.number outcome) }
     ensures err_nodes { OnErr result (nodes.new ≡ nodes.old) }
     ensures err_actor { OnErr result (actor.new.actor ≡ actor.old.actor) }
     ensures err_order { OnErr result (order.new ≡ order.old) }

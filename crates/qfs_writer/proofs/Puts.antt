@@ -21,11 +21,11 @@ use Rattle.qfs_writer.specs.declared.stage.Put.{Put}
 use Rattle.qfs_writer.specs.declared.stage.PutSlot.{PutSlot}
 use Rattle.qfs_writer.specs.declared.stage.Stage.TheVariants as At
 use Rattle.qfs_writer.specs.Moves.{behind_grant, behind_store, on_grant}
-use Rattle.qfs_writer.specs.Rest.{fresh_slot, bytes_put, rest_at, rest_of_grant, behind, grant_of}
+use Rattle.qfs_writer.specs.Rest.{fresh_slot, bytes_put, rest_of_put, rest_of_grant, rest_behind, grant_of}
 
 pub put_blocks_from-more : (put : Put) (file index : ℕ) → index < blocks_of put.layout.s put.layout.r (length (bytes_put put))
-    → rest_at put (At.Granting (fresh_slot file index 0)) ≡ put_blocks_from put.layout (bytes_put put) file index
-unfolding rest_at rest_of_grant behind put_slots_from put_blocks_from store_slots store_blocks for_each
+    → rest_of_put put (At.Granting (fresh_slot file index 0)) ≡ put_blocks_from put.layout (bytes_put put) file index
+unfolding rest_of_put rest_of_grant rest_behind put_slots_from put_blocks_from store_slots store_blocks for_each
 put_blocks_from-more put file index more =
     let some : blocks_of put.layout.s put.layout.r (length (bytes_put put)) - index
     ≡ suc (blocks_of put.layout.s put.layout.r (length (bytes_put put)) - (index + 1)) = omega arith in
@@ -40,15 +40,15 @@ put_blocks_from-end put file index end =
 
 -- a put behind a slot that isn't the last one of its block
 pub behind-more : (put : Put) (at : PutSlot) → at.slot < 8
-    → rest_at put (At.Granting (fresh_slot at.file at.index (at.slot + 1))) ≡ behind put at
-unfolding rest_at rest_of_grant behind put_slots_from store_slots for_each
+    → rest_of_put put (At.Granting (fresh_slot at.file at.index (at.slot + 1))) ≡ rest_behind put at
+unfolding rest_of_put rest_of_grant rest_behind put_slots_from store_slots for_each
 behind-more put at more =
     let some : 9 - (at.slot + 1) ≡ suc (9 - (at.slot + 1 + 1)) = omega arith in
     rw some refl
 
 pub behind-end : (put : Put) (at : PutSlot) → 8 ≤ at.slot
-    → put_blocks_from put.layout (bytes_put put) at.file (at.index + 1) ≡ behind put at
-unfolding behind put_slots_from store_slots for_each
+    → put_blocks_from put.layout (bytes_put put) at.file (at.index + 1) ≡ rest_behind put at
+unfolding rest_behind put_slots_from store_slots for_each
 behind-end put at end =
     let none : 9 - (at.slot + 1) ≡ 0 = omega arith in
     rw none refl
@@ -61,16 +61,16 @@ rest_of_grant-asks put at zero again = refl
 rest_of_grant-asks put at (suc grants) again = refl
 
 pub grant-asks : (put : Put) (at : PutSlot)
-    → request_in (rest_at put (At.Granting at)) ≡ Some (To.Meta (Ask.Grant at.file at.index at.slot at.again))
-unfolding rest_at ask_grant ask ask_or request_in
+    → request_in (rest_of_put put (At.Granting at)) ≡ Some (To.Meta (Ask.Grant at.file at.index at.slot at.again))
+unfolding rest_of_put ask_grant ask ask_or request_in
 grant-asks put at = rw (rest_of_grant-asks put at at.grants at.again) refl
 
 pub store-asks : (put : Put) (at : PutSlot) (copy : Copy)
-    → request_in (rest_at put (At.Storing at copy))
+    → request_in (rest_of_put put (At.Storing at copy))
     ≡ Some (To.Chunk copy.server
     (Serve.Put (key_of (record { file = at.file; index = at.index }) at.slot copy.version) copy.life
     (slot_of put.layout (bytes_put put) at.index at.slot)))
-unfolding rest_at store ask_server request_in grant_of
+unfolding rest_of_put store ask_server request_in grant_of
 store-asks put at copy = refl
 
 -- the copy of a grant
@@ -78,7 +78,7 @@ abbrev copy_of : Granted → Copy
 copy_of g = record { server = g.server; life = g.life; version = g.version }
 
 behind_grant-more : (put : Put) (at : PutSlot) (g : Granted) (grants : ℕ) → 0 < grants
-    → store put.layout (bytes_put put) at.file at.index at.slot (behind put at) (rest_of_grant put at (grants - 1) true) (grant_of at (copy_of g))
+    → store put.layout (bytes_put put) at.file at.index at.slot (rest_behind put at) (rest_of_grant put at (grants - 1) true) (grant_of at (copy_of g))
     ≡ behind_grant put at grants g
 unfolding behind_grant store grant_of
 behind_grant-more put at g zero none = absurd (omega arith)
@@ -86,8 +86,8 @@ behind_grant-more put at g (suc grants) some = let one : suc grants - 1 ≡ gran
 
 -- a grant of what was asked for is used
 pub on_grant-used : (put : Put) (at : PutSlot) (g : Granted) → 0 < at.grants → is_grant_of at.index at.slot g ≡ true
-    → rest_at put (At.Storing (record at { grants = at.grants - 1 }) (copy_of g)) ≡ on_grant put at (Said.Granted g)
-unfolding rest_at rest_of_grant on_grant chosen with_grant_of if_meant behind grant_of
+    → rest_of_put put (At.Storing (record at { grants = at.grants - 1 }) (copy_of g)) ≡ on_grant put at (Said.Granted g)
+unfolding rest_of_put rest_of_grant on_grant chosen with_grant_of if_meant rest_behind grant_of
 on_grant-used put at g some meant = rw meant (behind_grant-more put at g at.grants some)
 
 -- and no other, nor one grant too many

@@ -1,3 +1,3 @@
 pub mod Rest
 pub mod Moves
-pub mod Standing
+pub mod WriterState

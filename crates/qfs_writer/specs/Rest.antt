@@ -11,7 +11,7 @@ use Rattle.qfs_model_actor.specs.Ask.{ask}
 use Rattle.qfs_model_actor.specs.Hold.{nothing, unclosed, end_with}
 use Rattle.qfs_model_actor.specs.Put.{MOST_GRANTS, aborted, store, store_slot, put_slots_from, close_file, put_work}
 use Rattle.qfs_model_actor.specs.Work.{Report, Work, ends}
-use Rattle.qfs_machine.specs.Endings.{report_of as common_report}
+use Rattle.qfs_machine.specs.Endings.{report_of_ending}
 use Rattle.qfs_writer.specs.declared.stage.PutEnding.{PutEnding}
 use Rattle.qfs_writer.specs.declared.stage.PutEnding.TheVariants as With
 use Rattle.qfs_writer.specs.declared.stage.Put.{Put}
@@ -24,11 +24,11 @@ unfoldable pub bytes_put : Put → List ℕ
 bytes_put put = bytes_of put.recipe
 
 -- the report of a put that ends so
-unfoldable pub report_of : PutEnding → Report
-report_of (With.Stored place len) = Report.Stored place len
-report_of (With.NoServer place index slot) = Report.PutNoServer place index slot
-report_of (With.Refused place refusal) = Report.Refused place refusal
-report_of (With.Common ending) = common_report ending
+unfoldable pub report_of_put : PutEnding → Report
+report_of_put (With.Stored place len) = Report.Stored place len
+report_of_put (With.NoServer place index slot) = Report.PutNoServer place index slot
+report_of_put (With.Refused place refusal) = Report.Refused place refusal
+report_of_put (With.Common ending) = report_of_ending ending
 
 -- a slot that has had no server yet
 abbrev pub fresh_slot : ℕ → ℕ → ℕ → PutSlot
@@ -50,25 +50,26 @@ grant_of at copy =
     }
 
 -- what is left of a put behind a slot
-unfoldable pub behind : Put → PutSlot → Work
-behind put at = put_slots_from put.layout (bytes_put put) at.file at.index (at.slot + 1)
+unfoldable pub rest_behind : Put → PutSlot → Work
+rest_behind put at = put_slots_from put.layout (bytes_put put) at.file at.index (at.slot + 1)
 
--- what is left of a put that asks for a server, `again` or for the first time, and may take so many grants
+-- what is left of a put that asks for a server, `again` or for the first time, and may take so many
+-- grants
 unfoldable pub rest_of_grant : Put → PutSlot → ℕ → Bool → Work
 rest_of_grant put at grants again =
-    store_slot grants again put.layout (bytes_put put) at.file at.index at.slot (behind put at)
+    store_slot grants again put.layout (bytes_put put) at.file at.index at.slot (rest_behind put at)
 
 -- what is left of a put
-unfoldable pub rest_at : Put → Stage → Work
-rest_at put At.Creating = put_work put.layout put.number put.path (bytes_put put)
-rest_at put (At.Granting at) = rest_of_grant put at at.grants at.again
-rest_at put (At.Storing at copy) =
-    store put.layout (bytes_put put) at.file at.index at.slot (behind put at) (rest_of_grant put at at.grants true)
-    (grant_of at copy)
-rest_at put (At.Closing file) = close_file (length (bytes_put put)) file
-rest_at put (At.Aborting file index slot) = ask nothing (Ask.Abort file) (aborted index slot)
-rest_at put (At.GivingUp file ending) = end_with (unclosed file) (common_report ending)
-rest_at put (At.Ended ending) = ends (report_of ending)
+unfoldable pub rest_of_put : Put → Stage → Work
+rest_of_put put At.Creating = put_work put.layout put.number put.path (bytes_put put)
+rest_of_put put (At.Granting at) = rest_of_grant put at at.grants at.again
+rest_of_put put (At.Storing at copy) =
+    store put.layout (bytes_put put) at.file at.index at.slot (rest_behind put at)
+    (rest_of_grant put at at.grants true) (grant_of at copy)
+rest_of_put put (At.Closing file) = close_file (length (bytes_put put)) file
+rest_of_put put (At.Aborting file index slot) = ask nothing (Ask.Abort file) (aborted index slot)
+rest_of_put put (At.GivingUp file ending) = end_with (unclosed file) (report_of_ending ending)
+rest_of_put put (At.Ended ending) = ends (report_of_put ending)
 
 -- the slot is one of a block of the file
 pub record IsPutSlot (put : Put) (at : PutSlot) : Type 0 where
@@ -76,7 +77,7 @@ pub record IsPutSlot (put : Put) (at : PutSlot) : Type 0 where
   pub slot : at.slot < SLOTS
 
 -- what holds at each stage
-abbrev pub IsAt : Put → Stage → Type 0
-IsAt put (At.Granting at) = IsPutSlot put at
-IsAt put (At.Storing at copy) = IsPutSlot put at
-IsAt put stage = ⊤
+abbrev pub IsPutStage : Put → Stage → Type 0
+IsPutStage put (At.Granting at) = IsPutSlot put at
+IsPutStage put (At.Storing at copy) = IsPutSlot put at
+IsPutStage put stage = ⊤

@@ -1,6 +1,7 @@
 //! The chunks of a file: what a put stores in each slot of each block.
 
-ghost use Rattle.std.specs.Prelude.{◌≡◌, ℕ, ◌+◌, ◌-◌, ◌*◌, ◌^◌, ◌<◌, ◌≤◌, length, slice_index, EachIndex, IfOk};
+ghost use Rattle.std.specs.Prelude.{◌≡◌, ℕ, ◌+◌, ◌-◌, ◌*◌, ◌^◌, ◌<◌, ◌≤◌, length};
+ghost use Rattle.std.specs.Prelude.{slice_index, EachIndex, IfOk};
 ghost use Rattle.qfs_base.specs.Layout.{blocks_of};
 ghost use Rattle.qfs_base.specs.Recipe.{bytes_of};
 ghost use Rattle.qfs_base.specs.Sizes.{SLOTS, MOST_CHUNK_BYTES};
@@ -17,9 +18,9 @@ use qfs_recipe::RecipeCalls;
 use qfs_stripe::{Layout, LayoutCalls};
 use std::alloc::{AllocError, Global};
 
-/// The bytes of slot `slot` of block `index` of a file with these bytes, at most 67,108,864 of them:
-/// a data slot holds one stripe of each row, with zeros past the file's end, and a parity slot
-/// completes the code words.
+/// The bytes of slot `slot` of block `index` of a file with these bytes, at most 67,108,864 of
+/// them: a data slot holds one stripe of each row, with zeros past the file's end, and a parity
+/// slot completes the code words.
 pub fn chunk_of(
     alloc: Global,
     layout: &Layout,
@@ -70,8 +71,8 @@ fn fill_data(layout: &Layout, recipe: &Recipe, index: u32, slot: Slot, rows: u32
 }
 
 /// Fills `out` with the bytes that complete the code words of the first `rows` rows of block
-/// `index`, in the parity slot of this number, 0 to 2. `six` is room for the stripes of a row, which
-/// stand one after another in the file.
+/// `index`, in the parity slot of this number, 0 to 2. `six` is room for the stripes of a row,
+/// which stand one after another in the file.
 fn fill_parity(
     layout: &Layout,
     recipe: &Recipe,

@@ -1,11 +1,11 @@
 //! What a put asks at each stage.
-#![tactic(auto, unfolding(crate::specs::Rest::rest_at, qfs_model_actor::specs::Work::request_in, qfs_model_actor::specs::Hold::end_with, qfs_model_actor::specs::Hold::give_back, qfs_model_actor::specs::Hold::ask_or, qfs_model_actor::specs::Ask::ask, qfs_model_actor::specs::Ask::ask_server, qfs_model_actor::specs::Put::close_file, qfs_model_actor::specs::Put::put_work))]
+#![tactic(auto, unfolding(crate::specs::Rest::rest_of_put, qfs_model_actor::specs::Work::request_in, qfs_model_actor::specs::Hold::end_with, qfs_model_actor::specs::Hold::give_back, qfs_model_actor::specs::Hold::ask_or, qfs_model_actor::specs::Ask::ask, qfs_model_actor::specs::Ask::ask_server, qfs_model_actor::specs::Put::close_file, qfs_model_actor::specs::Put::put_work))]
 
-ghost use Rattle.std.specs.Prelude.{◌≡◌, IfOk, IfSome, Some, option_map};
+ghost use Rattle.std.specs.Prelude.{◌≡◌, IfOk, IfSome};
 ghost use Rattle.qfs_machine.specs.Askable.{IsAskable};
-ghost use Rattle.qfs_model_actor.specs.Work.{node_of_request, request_in};
+ghost use Rattle.qfs_machine.specs.Asking.{Asks, AsksNext, node_asked};
 ghost use Rattle.qfs_writer.specs.declared.stage.Put.{Put};
-ghost use Rattle.qfs_writer.specs.Rest.{rest_at, IsAt, IsPutSlot};
+ghost use Rattle.qfs_writer.specs.Rest.{rest_of_put, IsPutStage, IsPutSlot};
 
 use crate::chunk::chunk_of;
 use crate::stage::{Put, PutSlot, Stage};
@@ -24,8 +24,7 @@ fn copy_path(path: &Path) -> Result<Path, AllocError>
 
 /// The request that makes the file.
 fn create_request(put: &Put) -> Result<NodeRequest, AllocError>
-    ensures request { IfOk result (λ request.
-        request_in (rest_at put.now Stage.Creating) ≡ Some request) }
+    ensures request { IfOk result (Asks (rest_of_put put.now Stage.Creating)) }
     ensures askable { IfOk result IsAskable }
 {
     let path = copy_path(&put.path)?;
@@ -38,7 +37,7 @@ fn create_request(put: &Put) -> Result<NodeRequest, AllocError>
 
 /// The request for a server for a slot.
 fn grant_request(at: PutSlot) -> NodeRequest
-    ensures request { (put : Put) → request_in (rest_at put (Stage.Granting at)) ≡ Some result }
+    ensures request { (put : Put) → Asks (rest_of_put put (Stage.Granting at)) result }
     ensures askable { IsAskable result }
 {
     NodeRequest::Meta(MetaRequest::Grant {
@@ -57,8 +56,7 @@ fn store_request(
     copy: Copy,
 ) -> Result<NodeRequest, AllocError>
     requires { IsPutSlot put.now at }
-    ensures request { IfOk result (λ request.
-        request_in (rest_at put.now (Stage.Storing at copy)) ≡ Some request) }
+    ensures request { IfOk result (Asks (rest_of_put put.now (Stage.Storing at copy))) }
     ensures askable { IfOk result IsAskable }
 {
     let bytes = chunk_of(alloc, &put.layout, &put.recipe, at.index, at.slot)?;
@@ -77,8 +75,8 @@ fn store_request(
 
 /// The next request of a put, or None where it has ended.
 pub fn request_at(alloc: Global, put: &Put, stage: Stage) -> Result<Option<NodeRequest>, AllocError>
-    requires { IsAt put.now stage }
-    ensures request { IfOk result (λ request. request_in (rest_at put.now stage) ≡ request) }
+    requires { IsPutStage put.now stage }
+    ensures request { IfOk result (AsksNext (rest_of_put put.now stage)) }
     ensures askable { IfOk result (λ request. IfSome request IsAskable) }
 {
     let request = match stage {
@@ -95,7 +93,7 @@ pub fn request_at(alloc: Global, put: &Put, stage: Stage) -> Result<Option<NodeR
 
 /// The node that a put's next request goes to, or None where it has ended.
 pub fn node_of(stage: Stage) -> Option<NodeId>
-    ensures { (put : Put) → result ≡ option_map node_of_request (request_in (rest_at put stage)) }
+    ensures { (put : Put) → result ≡ node_asked (rest_of_put put stage) }
 {
     match stage {
         Stage::Storing(_, copy) => Some(copy.server),

@@ -4,7 +4,7 @@ ghost use Rattle.std.specs.Prelude.{◌≡◌, ◌≤◌, length};
 ghost use Rattle.qfs_base.specs.Layout.{blocks_of};
 ghost use Rattle.qfs_base.specs.Sizes.{MOST_FILE_BYTES};
 ghost use Rattle.qfs_model_actor.specs.Shown.{kept_report};
-ghost use Rattle.qfs_writer.specs.Rest.{bytes_put, report_of};
+ghost use Rattle.qfs_writer.specs.Rest.{bytes_put, report_of_put};
 
 use qfs_base::chunk::Copy;
 use qfs_base::command::{Excerpt, Reply};
@@ -81,9 +81,9 @@ pub enum PutEnding {
 
 impl PutEnding {
     /// The reply of a put that ends so, as it is kept. Takes no memory.
-    #[tactic(auto, unfolding(crate::specs::Rest::report_of, qfs_model_actor::specs::Shown::shown_reply))]
+    #[tactic(auto, unfolding(crate::specs::Rest::report_of_put, qfs_model_actor::specs::Shown::shown_reply))]
     pub fn into_reply(self) -> Reply<Excerpt>
-        ensures { result ≡ kept_report (report_of self) }
+        ensures { result ≡ kept_report (report_of_put self) }
     {
         match self {
             PutEnding::Stored { place, len } => Reply::Stored { place, len },

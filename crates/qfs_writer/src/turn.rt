@@ -1,16 +1,18 @@
 //! How a put goes on when a node has answered.
-#![tactic(auto, unfolding(crate::specs::Rest::rest_at, crate::specs::Rest::report_of, qfs_machine::specs::Endings::ended, qfs_machine::specs::Endings::report_of, crate::specs::Moves::on_answer_at, crate::specs::Moves::on_grant, crate::specs::Moves::on_store, crate::specs::Moves::behind_store, crate::specs::Moves::hold_at, qfs_model_actor::specs::Put::closed, qfs_model_actor::specs::Put::aborted, qfs_model_actor::specs::Put::chosen, qfs_model_actor::specs::Put::created, qfs_model_actor::specs::Tree::refused, qfs_model_actor::specs::Ask::on_served, qfs_model_actor::specs::Ask::after_store, qfs_model_actor::specs::Hold::on_answer, qfs_model_actor::specs::Hold::was_given_back, qfs_model_actor::specs::Hold::end_with, qfs_model_actor::specs::Hold::give_back, qfs_model_actor::specs::Grants::is_grant_of))]
+#![tactic(auto, unfolding(crate::specs::Rest::rest_of_put, crate::specs::Rest::report_of_put, qfs_machine::specs::Endings::ended_by, qfs_machine::specs::Endings::report_of_ending, crate::specs::Moves::on_answer_at, crate::specs::Moves::on_grant, crate::specs::Moves::on_store, crate::specs::Moves::behind_store, crate::specs::Moves::hold_at, qfs_model_actor::specs::Put::closed, qfs_model_actor::specs::Put::aborted, qfs_model_actor::specs::Put::chosen, qfs_model_actor::specs::Put::created, qfs_model_actor::specs::Tree::refused, qfs_model_actor::specs::Ask::on_served, qfs_model_actor::specs::Ask::after_store, qfs_model_actor::specs::Hold::on_answer, qfs_model_actor::specs::Hold::was_given_back, qfs_model_actor::specs::Hold::end_with, qfs_model_actor::specs::Hold::give_back, qfs_model_actor::specs::Grants::is_grant_of))]
 
 ghost use Rattle.std.specs.Prelude.{◌≡◌, ◌+◌, length, true, false};
 ghost use Rattle.qfs_base.specs.declared.chunk.Copy.{Copy};
 ghost use Rattle.qfs_model_actor.specs.Grants.{is_grant_of};
 ghost use Rattle.qfs_model_actor.specs.Hold.{end_with, on_answer, was_given_back};
-ghost use Rattle.qfs_model_actor.specs.Put.{aborted, closed, created, put_blocks_from};
+ghost use Rattle.qfs_model_actor.specs.Put.{aborted, closed, put_blocks_from};
 ghost use Rattle.qfs_model_actor.specs.Tree.{refused};
-ghost use Rattle.qfs_model_actor.specs.Work.{ends, goes_on};
-ghost use Rattle.qfs_machine.specs.Endings.{ended, report_of as common_report};
-ghost use Rattle.qfs_writer.specs.Moves.{behind_store, hold_at, on_answer_at, on_grant, on_store, AsksMeta};
-ghost use Rattle.qfs_writer.specs.Rest.{bytes_put, behind, fresh_slot, rest_at, IsAt, IsPutSlot};
+ghost use Rattle.qfs_model_actor.specs.Work.{ends};
+ghost use Rattle.qfs_machine.specs.Endings.{ended_by, report_of_ending};
+ghost use Rattle.qfs_writer.specs.Moves.{after_create, behind_store, hold_at, on_answer_at};
+ghost use Rattle.qfs_writer.specs.Moves.{on_grant, on_store, rest_after, AsksMeta};
+ghost use Rattle.qfs_writer.specs.Rest.{bytes_put, fresh_slot, rest_behind, rest_of_put};
+ghost use Rattle.qfs_writer.specs.Rest.{IsPutSlot, IsPutStage};
 
 use crate::stage::{Put, PutEnding, PutSlot, Stage};
 use qfs_base::chunk::Copy;
@@ -47,9 +49,9 @@ fn at_slot(file: FileId, index: u32, slot: Slot) -> Stage
 
 /// The stage of a put whose file is there.
 fn begun(put: &Put, file: FileId) -> Stage
-    ensures rest { rest_at put.now result
+    ensures rest { rest_of_put put.now result
         ≡ put_blocks_from put.now.layout (bytes_put put.now) file 0 }
-    ensures at { IsAt put.now result }
+    ensures at { IsPutStage put.now result }
 {
     if put.blocks() == 0 {
         Stage::Closing(file)
@@ -62,8 +64,8 @@ fn begun(put: &Put, file: FileId) -> Stage
 /// one of the next block, or at the end of the file.
 fn behind(put: &Put, at: PutSlot) -> Stage
     requires { IsPutSlot put.now at }
-    ensures rest { rest_at put.now result ≡ behind put.now at }
-    ensures at { IsAt put.now result }
+    ensures rest { rest_of_put put.now result ≡ rest_behind put.now at }
+    ensures at { IsPutStage put.now result }
 {
     if at.slot < LAST_SLOT {
         return at_slot(at.file, at.index, at.slot + 1);
@@ -79,8 +81,8 @@ fn behind(put: &Put, at: PutSlot) -> Stage
 /// The stage of a put that wants something else than this answer to its first request: it ends at
 /// a refusal of the tree.
 fn refused(put: &Put, answer: &MetaReply) -> Stage
-    ensures rest { rest_at put.now result ≡ refused answer.now }
-    ensures at { IsAt put.now result }
+    ensures rest { rest_of_put put.now result ≡ refused answer.now }
+    ensures at { IsPutStage put.now result }
 {
     match answer {
         MetaReply::Refused { refusal, place } => Stage::Ended(PutEnding::Refused {
@@ -93,8 +95,8 @@ fn refused(put: &Put, answer: &MetaReply) -> Stage
 
 /// The stage of a put at the answer to its first request.
 fn created(put: &Put, answer: &MetaReply) -> Stage
-    ensures rest { rest_at put.now result ≡ created put.now.layout (bytes_put put.now) answer.now }
-    ensures at { IsAt put.now result }
+    ensures rest { rest_of_put put.now result ≡ after_create put.now answer.now }
+    ensures at { IsPutStage put.now result }
 {
     match answer {
         MetaReply::Created { file, .. } => begun(put, *file),
@@ -112,8 +114,8 @@ fn is_grant_of(at: PutSlot, grant: &Granted) -> bool
 /// The stage of a put at a grant.
 fn use_grant(put: &Put, at: PutSlot, grant: &Granted) -> Stage
     requires { IsPutSlot put.now at }
-    ensures rest { rest_at put.now result ≡ on_grant put.now at (MetaReply.Granted grant.now) }
-    ensures at { IsAt put.now result }
+    ensures rest { rest_of_put put.now result ≡ on_grant put.now at (MetaReply.Granted grant.now) }
+    ensures at { IsPutStage put.now result }
 {
     if at.grants == 0 || !is_grant_of(at, grant) {
         return ended(Ending::Unnamed);
@@ -136,8 +138,8 @@ fn use_grant(put: &Put, at: PutSlot, grant: &Granted) -> Stage
 /// The stage of a put at the answer to its request for a server.
 fn granted(put: &Put, at: PutSlot, answer: &MetaReply) -> Stage
     requires { IsPutSlot put.now at }
-    ensures rest { rest_at put.now result ≡ on_grant put.now at answer.now }
-    ensures at { IsAt put.now result }
+    ensures rest { rest_of_put put.now result ≡ on_grant put.now at answer.now }
+    ensures at { IsPutStage put.now result }
 {
     match answer {
         MetaReply::Granted(grant) => use_grant(put, at, grant),
@@ -163,8 +165,8 @@ fn grant_again(at: PutSlot) -> Stage
 /// command.
 fn stored(put: &Put, at: PutSlot, answer: &ChunkAnswer) -> Stage
     requires { IsPutSlot put.now at }
-    ensures rest { rest_at put.now result ≡ behind_store put.now at answer.now }
-    ensures at { IsAt put.now result }
+    ensures rest { rest_of_put put.now result ≡ behind_store put.now at answer.now }
+    ensures at { IsPutStage put.now result }
 {
     match answer {
         ChunkAnswer::Stored => behind(put, at),
@@ -176,8 +178,8 @@ fn stored(put: &Put, at: PutSlot, answer: &ChunkAnswer) -> Stage
 /// The stage of a put at a server's answer to a slot that is stored there.
 fn on_chunk(put: &Put, at: PutSlot, answer: &ChunkAnswer) -> Stage
     requires { IsPutSlot put.now at }
-    ensures rest { rest_at put.now result ≡ on_store put.now at answer.now }
-    ensures at { IsAt put.now result }
+    ensures rest { rest_of_put put.now result ≡ on_store put.now at answer.now }
+    ensures at { IsPutStage put.now result }
 {
     match Ending::of_chunk(answer) {
         Some(ending) => Stage::GivingUp(at.file, ending),
@@ -187,7 +189,7 @@ fn on_chunk(put: &Put, at: PutSlot, answer: &ChunkAnswer) -> Stage
 
 /// The ending of a put at the answer to its request to close the file.
 fn closed(put: &Put, answer: &MetaReply) -> PutEnding
-    ensures { rest_at put.now (Stage.Ended result)
+    ensures { rest_of_put put.now (Stage.Ended result)
         ≡ closed (length (bytes_put put.now)) answer.now }
 {
     match answer {
@@ -202,7 +204,7 @@ fn closed(put: &Put, answer: &MetaReply) -> PutEnding
 /// The ending of a put that found no server for a slot, at the answer to its request to give the
 /// file up.
 fn aborted(put: &Put, index: u32, slot: Slot, answer: &MetaReply) -> PutEnding
-    ensures { rest_at put.now (Stage.Ended result) ≡ aborted index slot answer.now }
+    ensures { rest_of_put put.now (Stage.Ended result) ≡ aborted index slot answer.now }
 {
     match answer {
         MetaReply::Done { place } => PutEnding::NoServer {
@@ -216,8 +218,8 @@ fn aborted(put: &Put, index: u32, slot: Slot, answer: &MetaReply) -> PutEnding
 
 /// The ending of a put that gave its file up, to end so.
 fn given_up(put: &Put, ending: Ending, answer: &MetaReply) -> Ending
-    ensures { rest_at put.now (Stage.Ended (PutEnding.Common result))
-        ≡ was_given_back (ends (common_report ending)) answer.now }
+    ensures { rest_of_put put.now (Stage.Ended (PutEnding.Common result))
+        ≡ was_given_back (ends (report_of_ending ending)) answer.now }
 {
     match answer {
         MetaReply::Done { .. } => ending,
@@ -228,8 +230,8 @@ fn given_up(put: &Put, ending: Ending, answer: &MetaReply) -> Ending
 /// The stage of a put that gives up what it holds and ends so: its file, if this very request
 /// wasn't to make it or to give it up.
 fn give_up(put: &Put, stage: Stage, ending: Ending) -> Stage
-    ensures rest { rest_at put.now result ≡ end_with (hold_at stage) (common_report ending) }
-    ensures at { IsAt put.now result }
+    ensures rest { rest_of_put put.now result ≡ end_with (hold_at stage) (report_of_ending ending) }
+    ensures at { IsPutStage put.now result }
 {
     match stage {
         Stage::Granting(at) => Stage::GivingUp(at.file, ending),
@@ -240,8 +242,8 @@ fn give_up(put: &Put, stage: Stage, ending: Ending) -> Stage
 
 /// The stage of a put that an answer of the metaserver ends. A dropped actor holds nothing.
 fn end(put: &Put, stage: Stage, ending: Ending) -> Stage
-    ensures rest { rest_at put.now result ≡ ended (end_with (hold_at stage)) ending }
-    ensures at { IsAt put.now result }
+    ensures rest { rest_of_put put.now result ≡ ended_by (end_with (hold_at stage)) ending }
+    ensures at { IsPutStage put.now result }
 {
     match ending {
         Ending::Dropped { .. } | Ending::Unnamed => ended(ending),
@@ -251,9 +253,9 @@ fn end(put: &Put, stage: Stage, ending: Ending) -> Stage
 
 /// The stage of a put at an answer of the metaserver that doesn't end every command.
 fn answered(put: &Put, stage: Stage, answer: &MetaReply) -> Stage
-    requires { IsAt put.now stage }
-    ensures rest { rest_at put.now result ≡ on_answer_at put.now stage answer.now }
-    ensures at { IsAt put.now result }
+    requires { IsPutStage put.now stage }
+    ensures rest { rest_of_put put.now result ≡ on_answer_at put.now stage answer.now }
+    ensures at { IsPutStage put.now result }
 {
     match stage {
         Stage::Creating => created(put, answer),
@@ -267,10 +269,10 @@ fn answered(put: &Put, stage: Stage, answer: &MetaReply) -> Stage
 
 /// The stage of a put at an answer of the metaserver.
 fn on_meta(put: &Put, stage: Stage, answer: &MetaReply) -> Stage
-    requires { IsAt put.now stage }
-    ensures rest { rest_at put.now result
+    requires { IsPutStage put.now stage }
+    ensures rest { rest_of_put put.now result
         ≡ on_answer (end_with (hold_at stage)) (on_answer_at put.now stage) answer.now }
-    ensures at { IsAt put.now result }
+    ensures at { IsPutStage put.now result }
 {
     match Ending::of_meta(answer) {
         Some(ending) => end(put, stage, ending),
@@ -280,10 +282,10 @@ fn on_meta(put: &Put, stage: Stage, answer: &MetaReply) -> Stage
 
 /// The stage of a put that asked the metaserver, at a node's reply.
 fn after_question(put: &Put, stage: Stage, reply: &NodeReply) -> Stage
-    requires at { IsAt put.now stage }
+    requires at { IsPutStage put.now stage }
     requires asks { AsksMeta stage }
-    ensures rest { rest_at put.now result ≡ goes_on (rest_at put.now stage) reply.now }
-    ensures at { IsAt put.now result }
+    ensures rest { rest_of_put put.now result ≡ rest_after put.now stage reply.now }
+    ensures at { IsPutStage put.now result }
 {
     match reply {
         NodeReply::Meta(answer) => on_meta(put, stage, answer),
@@ -295,8 +297,8 @@ fn after_question(put: &Put, stage: Stage, reply: &NodeReply) -> Stage
 fn after_store(put: &Put, at: PutSlot, reply: &NodeReply) -> Stage
     requires { IsPutSlot put.now at }
     ensures rest { (copy : Copy) →
-        rest_at put.now result ≡ goes_on (rest_at put.now (Stage.Storing at copy)) reply.now }
-    ensures at { IsAt put.now result }
+        rest_of_put put.now result ≡ rest_after put.now (Stage.Storing at copy) reply.now }
+    ensures at { IsPutStage put.now result }
 {
     match reply {
         NodeReply::Chunk(reply) => on_chunk(put, at, &reply.answer),
@@ -306,9 +308,9 @@ fn after_store(put: &Put, at: PutSlot, reply: &NodeReply) -> Stage
 
 /// The stage of a put after a node's reply to its request. One that has ended stays so.
 pub fn stage_after(put: &Put, stage: Stage, reply: &NodeReply) -> Stage
-    requires { IsAt put.now stage }
-    ensures rest { rest_at put.now result ≡ goes_on (rest_at put.now stage) reply.now }
-    ensures at { IsAt put.now result }
+    requires { IsPutStage put.now stage }
+    ensures rest { rest_of_put put.now result ≡ rest_after put.now stage reply.now }
+    ensures at { IsPutStage put.now result }
 {
     match stage {
         Stage::Storing(at, _) => after_store(put, at, reply),

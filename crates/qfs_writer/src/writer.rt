@@ -5,8 +5,8 @@ ghost use Rattle.qfs_base.specs.Recipe.{bytes_of};
 ghost use Rattle.qfs_machine.specs.declared.machine.Readiness.{Readiness};
 ghost use Rattle.qfs_model_actor.specs.Put.{put_work};
 ghost use Rattle.qfs_model_actor.specs.Work.{ends, request_in};
-ghost use Rattle.qfs_writer.specs.Rest.{report_of};
-ghost use Rattle.qfs_writer.specs.Standing.{rest_of};
+ghost use Rattle.qfs_writer.specs.Rest.{report_of_put};
+ghost use Rattle.qfs_writer.specs.WriterState.{rest_of_writer};
 
 use crate::request::{node_of, request_at};
 use crate::stage::{Put, PutEnding, Stage};
@@ -35,26 +35,26 @@ pub struct Writer {
 }
 
 impl Model for Writer {
-    ghost use Rattle.qfs_writer.specs.Standing.{Standing};
+    ghost use Rattle.qfs_writer.specs.WriterState.{WriterState};
 
-    ghost Value = { Standing };
+    ghost Value = { WriterState };
 
-    ghost use Rattle.qfs_machine.specs.Asking.{IsPending};
-    ghost use Rattle.qfs_writer.specs.Rest.{rest_at, IsAt};
+    ghost use Rattle.qfs_machine.specs.Asking.{IsPrepared};
+    ghost use Rattle.qfs_writer.specs.Rest.{rest_of_put, IsPutStage};
 
     ghost view = { λ it.
         record { put = it.put; stage = it.stage; readiness = it.pending.readiness } };
 
     ghost invariant = { λ it.
-        IsAt it.put it.stage
-        × IsPending (rest_at it.put it.stage) it.pending.readiness it.pending.request };
+        IsPutStage it.put it.stage
+        × IsPrepared (rest_of_put it.put it.stage) it.pending.readiness it.pending.request };
 }
 
 impl Writer {
     /// The put of a recipe's bytes as a new file at this path, which is the actor's command of this
     /// number, from 1. Takes no memory.
     pub fn new(alloc: Global, layout: Layout, number: u16, path: Path, recipe: Recipe) -> Writer
-        ensures rest { rest_of result ≡ put_work layout number path (bytes_of recipe) }
+        ensures rest { rest_of_writer result ≡ put_work layout number path (bytes_of recipe) }
         ensures unready { result.readiness ≡ Readiness.Unready }
     {
         let put = Put {
@@ -73,8 +73,8 @@ impl Writer {
 
     /// How the put has ended.
     fn ending(&self) -> PutEnding
-        requires { request_in (rest_of self.now) ≡ None }
-        ensures { rest_of self.now ≡ ends (report_of result) }
+        requires { request_in (rest_of_writer self.now) ≡ None }
+        ensures { rest_of_writer self.now ≡ ends (report_of_put result) }
     {
         match self.stage {
             Stage::Ended(ending) => ending,
@@ -84,7 +84,7 @@ impl Writer {
 }
 
 impl Machine for Writer {
-    ghost rest = { rest_of };
+    ghost rest = { rest_of_writer };
 
     ghost readiness = { λ it. it.readiness };
 

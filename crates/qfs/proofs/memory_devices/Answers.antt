@@ -1,6 +1,6 @@
 -- One new device more.
 use Rattle.std.proofs.lemmas.List.Elements.{All-push}
-use Rattle.qfs_world.specs.Calls.{IsNew}
+use Rattle.qfs_nodes.specs.Nodes.{IsNew}
 use Rattle.qfs.proofs.Devices.{told_by, is_new}
 use Rattle.qfs.proofs.memory_devices.Goals as goal
 

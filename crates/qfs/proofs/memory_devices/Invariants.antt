@@ -1,6 +1,6 @@
 -- The devices so far are new.
 use Rattle.std.specs.Prelude.{All}
-use Rattle.qfs_world.specs.Calls.{IsNew}
+use Rattle.qfs_nodes.specs.Nodes.{IsNew}
 use Rattle.qfs.proofs.Devices.{told_by}
 use Rattle.qfs.proofs.memory_devices.Given as goal
 

@@ -46,3 +46,12 @@ returns-clause-ends g c =
     (outside_of g.S.Source.left g.S.Source.faults g.K.Sink.written g.K.Sink.faults c.args.script.now c.args.out.now c.args.devices.now.items)
     (outside_of g.S.Source.left g.S.Source.faults g.K.Sink.written g.K.Sink.faults c.read_script.new.source c.args.out.now c.run.new.devices.items)
     c.in-Ok.script c.in-Ok.ensures.ok is.first_path.most (search rules) c.run.ensures.places c.in-Err-run.status c.in-Err-run.ensures.err
+
+pub returns-in-Ok-write_all-clause-kept : goal.returns-in-Ok-write_all-clause-kept
+returns-in-Ok-write_all-clause-kept g c = c.run.ensures.places.remain
+
+pub returns-in-Ok-run-clause-kept : goal.returns-in-Ok-run-clause-kept
+returns-in-Ok-run-clause-kept g c = c.run.ensures.places.remain
+
+pub returns-clause-kept : goal.returns-clause-kept
+returns-clause-kept g c = c.run.ensures.places.remain

@@ -3,7 +3,7 @@ use Rattle.std.proofs.Common.{◌≡◌}
 use Rattle.qfs_driver.specs.Draws.{generator_behind}
 use Rattle.qfs_driver.specs.Playing.{Continues, IsDrawnSo}
 use Rattle.qfs_model_world.specs.Drawn.{generator_of}
-use Rattle.qfs_world.specs.Running.{steps_left}
+use Rattle.qfs_world.specs.View.{steps_left}
 use Rattle.qfs_driver.proofs.play.play.Given as goal
 
 abbrev pub invariant-loop-turns : goal.invariant-loop-turns

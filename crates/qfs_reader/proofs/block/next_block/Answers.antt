@@ -4,12 +4,12 @@ use Rattle.qfs_base.specs.declared.layout.Window.{Window}
 use Rattle.qfs_model_actor.specs.Get.{listed_in}
 use Rattle.qfs_model_actor.specs.Read.{are_too_few, sources_of}
 use Rattle.qfs_stripe.specs.Touched.{first_touched, AreInOrder}
-use Rattle.qfs_reader.specs.Rest.{rest_at, rest_of_windows, report_of}
-use Rattle.qfs_reader.proofs.Blocks.{no_blocks, block-begins, block-stops, begins_behind}
+use Rattle.qfs_reader.specs.Rest.{rest_of_get, rest_of_windows, report_of_get}
+use Rattle.qfs_reader.proofs.Blocks.{no_blocks, block-begins, block-stops, begins_behind, from_first_row}
 use Rattle.qfs_reader.proofs.block.next_block.Goals as goal
 
 pub returns-then-block-blocks-clause-rest : goal.returns-then-block-blocks-clause-rest
-unfolding rest_at report_of
+unfolding rest_of_get report_of_get
 returns-then-block-blocks-clause-rest c =
     let get = c.args.get.now in
     let past : blocks_of get.layout.s get.layout.r c.args.attempt.to ≤ c.args.block = omega (arith, c.if-block-blocks.true, c.blocks_touched-blocks.ensures.past) in
@@ -27,16 +27,18 @@ pub windows_in-windows-requires : goal.windows_in-windows-requires
 windows_in-windows-requires c =
     c.blocks_touched-blocks.ensures.touched c.requires.range.some c.args.block (omega (arith, c.blocks_touched-blocks.ensures.first, c.requires.first)) c.if-block-blocks.false
 
-pub begin_window-requires-clause-block : goal.begin_window-requires-clause-block
-begin_window-requires-clause-block c =
-    c.blocks_touched-blocks.ensures.touched c.requires.range.some c.args.block (omega (arith, c.blocks_touched-blocks.ensures.first, c.requires.first)) c.if-block-blocks.false
-
-pub begin_window-requires-clause-got : goal.begin_window-requires-clause-got
-begin_window-requires-clause-got c =
+pub begin_window-requires-clause-window : goal.begin_window-requires-clause-window
+begin_window-requires-clause-window c =
     let layout = c.args.get.now.layout in
-    let order : AreInOrder c.args.block (first_touched layout.s layout.r c.args.attempt.from c.args.block) layout.r (c.in-Some.window ∷ c.next.new.self) =
-    subst (AreInOrder c.args.block (first_touched layout.s layout.r c.args.attempt.from c.args.block) layout.r) c.in-Some.ensures.steps c.windows_in-windows.ensures.order in
-    begins_behind layout c.args.block c.args.attempt.from c.args.attempt.got c.in-Some.window order.0.index c.requires.got
+    let start = first_touched layout.s layout.r c.args.attempt.from c.args.block in
+    let order : AreInOrder c.args.block start layout.r (c.in-Some.window ∷ c.next.new.self) =
+    subst (AreInOrder c.args.block start layout.r) c.in-Some.ensures.steps c.windows_in-windows.ensures.order in
+    record {
+      range = c.requires.range;
+      block = c.blocks_touched-blocks.ensures.touched c.requires.range.some c.args.block (omega (arith, c.blocks_touched-blocks.ensures.first, c.requires.first)) c.if-block-blocks.false;
+      order = from_first_row c.args.block start layout.r c.in-Some.window c.next.new.self order;
+      got = begins_behind layout c.args.block c.args.attempt.from c.args.attempt.got c.in-Some.window order.0.index c.requires.got;
+    }
 
 pub returns-clause-rest : goal.returns-clause-rest
 returns-clause-rest c =

@@ -23,20 +23,19 @@ add_window-requires-clause-fits c = rw c.stripe.ensures.value c.window_offset-st
 pub add_window-requires-clause-got : goal.add_window-requires-clause-got
 add_window-requires-clause-got c = rw c.window_offset-start.ensures.value c.requires.window.got
 
-pub begin_window-requires-clause-order : goal.begin_window-requires-clause-order
-begin_window-requires-clause-order c =
+pub begin_window-requires-clause-window : goal.begin_window-requires-clause-window
+begin_window-requires-clause-window c =
     let layout = c.args.get.now.layout in let position = c.args.position in let w = position.window in
+    let window = c.requires.window in
     let order : AreInOrder position.block (w.first_row + w.rows) layout.r (c.in-Some.window ∷ c.next.new.self) =
-    subst (AreInOrder position.block (w.first_row + w.rows) layout.r) c.in-Some.ensures.steps c.requires.window.order.1 in
-    from_first_row position.block (w.first_row + w.rows) layout.r c.in-Some.window c.next.new.self order
-
-pub begin_window-requires-clause-got : goal.begin_window-requires-clause-got
-begin_window-requires-clause-got c =
-    let layout = c.args.get.now.layout in let position = c.args.position in let w = position.window in
-    let order : AreInOrder position.block (w.first_row + w.rows) layout.r (c.in-Some.window ∷ c.next.new.self) =
-    subst (AreInOrder position.block (w.first_row + w.rows) layout.r) c.in-Some.ensures.steps c.requires.window.order.1 in
+    subst (AreInOrder position.block (w.first_row + w.rows) layout.r) c.in-Some.ensures.steps window.order.1 in
     let bound = rw (c.window_offset-start.ensures.value, c.stripe.ensures.value) at c.add_window.ensures.bound in
-    before_next layout position.block c.args.attempt.from (length c.add_window.new.got) w c.in-Some.window c.requires.window.order.0.index order.0 bound
+    record {
+      range = window.range;
+      block = window.block;
+      order = from_first_row position.block (w.first_row + w.rows) layout.r c.in-Some.window c.next.new.self order;
+      got = before_next layout position.block c.args.attempt.from (length c.add_window.new.got) w c.in-Some.window window.order.0.index order.0 bound;
+    }
 
 pub overflow_add-block : goal.overflow_add-block
 overflow_add-block c =

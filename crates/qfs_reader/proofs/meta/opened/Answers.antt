@@ -12,9 +12,6 @@ returns-in-Some-clause-rest c =
     ended-rest get _ _ c.ended.ensures
     ∙ sym (on_answer-nothing (was_opened get.layout (again get c.args.more) get.range) c.args.answer c.in-Some.ending (sym c.of_meta.ensures ∙ c.in-Some.is))
 
-pub returns-in-Some-clause-at : goal.returns-in-Some-clause-at
-returns-in-Some-clause-at c = ended-at c.args.get.now _ _ c.ended.ensures
-
 pub returns-in-None-clause-rest : goal.returns-in-None-clause-rest
 returns-in-None-clause-rest c =
     let get = c.args.get.now in

@@ -1,10 +1,10 @@
 use Rattle.std.proofs.Common.{◌≡◌, ◌∙◌, arith, min, ◌+◌}
-use Rattle.qfs_reader.specs.Rest.{again, rest_at, report_of}
+use Rattle.qfs_reader.specs.Rest.{again, rest_of_get, report_of_get}
 use Rattle.qfs_reader.proofs.Answered.{range-empty, range-some}
 use Rattle.qfs_reader.proofs.meta.read.Goals as goal
 
 pub returns-then-from-to-clause-rest : goal.returns-then-from-to-clause-rest
-unfolding rest_at report_of
+unfolding rest_of_get report_of_get
 returns-then-from-to-clause-rest c =
     let get = c.args.get.now in
     let to : c.min-to.result ≡ min (get.range.from + get.range.count) c.args.opened.len = omega (arith, c.min-to.ensures, c.saturating_add.ensures, c.requires) in

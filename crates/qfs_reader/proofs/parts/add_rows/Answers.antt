@@ -4,7 +4,8 @@ use Rattle.qfs_reader.proofs.Rowwise.{rows-step, no-rows}
 use Rattle.qfs_reader.proofs.parts.add_rows.Goals as goal
 
 pub loop-row-init : goal.loop-row-init
-loop-row-init c = record { got = no-rows c.args.from c.args.to c.args.start c.args.stripe c.args.got.now _; bound = omega (arith, c.requires.got) }
+loop-row-init c =
+    record { got = no-rows c.args.from c.args.to c.args.start c.args.stripe (c.args.rows * c.args.stripe) c.args.nine.now c.args.got.now; bound = omega (arith, c.requires.got) }
 
 pub loop-row-preserved : goal.loop-row-preserved
 loop-row-preserved c =

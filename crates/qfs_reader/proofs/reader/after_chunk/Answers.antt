@@ -1,16 +1,16 @@
 use Rattle.std.proofs.Common.{◌∙◌, refl}
 use Rattle.qfs_model_actor.specs.Work.{goes_on}
-use Rattle.qfs_reader.specs.Rest.{rest_at}
+use Rattle.qfs_reader.specs.Rest.{rest_of_get}
 use Rattle.qfs_reader.proofs.Answered.{unnamed-rest, ended-at}
 use Rattle.qfs_reader.proofs.Asked.{other-chunk}
 use Rattle.qfs_reader.proofs.reader.after_chunk.Goals as goal
 
 pub returns-in-Reading-clause-rest : goal.returns-in-Reading-clause-rest
-unfolding rest_at
+unfolding rest_of_get
 returns-in-Reading-clause-rest c = rw c.in-Reading.is c.fetched.ensures.rest
 
 pub returns-in-Ended-clause-rest : goal.returns-in-Ended-clause-rest
-unfolding rest_at goes_on
+unfolding rest_of_get goes_on
 returns-in-Ended-clause-rest c = rw c.in-Ended.is refl
 
 pub returns-clause-rest : goal.returns-clause-rest

@@ -5,42 +5,28 @@ use Rattle.qfs_reader.proofs.Blocks.{rows_end}
 use Rattle.qfs_reader.proofs.window.window_offset.Goals as goal
 
 -- all that is added up stays in its range
-inside : (start first rows whole : ℕ) → start < MOST_FILE_BYTES → first + rows ≤ whole → whole ≤ 402653184 → start + first + rows < 2 ^ 32
-inside start first rows whole starts ends most = omega (arith, starts, ends, most)
+window_fits : (s r start first rows : ℕ) → start < MOST_FILE_BYTES → first + rows ≤ r → block_bytes s r ≤ 402653184
+    → start + first * row_bytes s + rows * row_bytes s < 2 ^ 32
+window_fits s r start first rows starts ends most = let end = rows_end s r first rows ends in omega (arith, starts, end, most)
 
-without_rows : (start first rows : ℕ) → start + first + rows < 2 ^ 32 → start + first < 2 ^ 32
-without_rows start first rows fits = omega (arith, fits)
-
-without_start : (start first : ℕ) → start + first < 2 ^ 32 → first < 2 ^ 32
-without_start start first fits = omega (arith, fits)
-
-starts_below : (start : ℕ) → start < MOST_FILE_BYTES → start < 2 ^ 32
-starts_below start starts = omega (arith, starts)
-
-fits_all : (c : goal.After-row_bytes)
-    → c.args.window.now.index * block_bytes c.args.layout.now.s c.args.layout.now.r + c.args.window.now.first_row * row_bytes c.args.layout.now.s + c.args.window.now.rows * row_bytes c.args.layout.now.s < 2 ^ 32
-fits_all c =
-    let layout = c.args.layout.now in let w = c.args.window.now in
-    let large : block_bytes layout.s layout.r ≤ 402653184 = rw (← c.block_bytes.ensures.value) c.block_bytes.ensures.largest in
-    inside (w.index * block_bytes layout.s layout.r) (w.first_row * row_bytes layout.s) (w.rows * row_bytes layout.s) (block_bytes layout.s layout.r) c.requires.start
-    (rows_end layout.s layout.r w.first_row w.rows c.requires.within) large
+fits : (c : goal.After-row_bytes)
+    → c.args.window.now.index * c.block_bytes.result + c.args.window.now.first_row * c.row_bytes.result + c.args.window.now.rows * row_bytes c.args.layout.now.s < 2 ^ 32
+fits c =
+    let w = c.args.window.now in
+    let most = rw c.block_bytes.ensures.value at c.block_bytes.ensures.largest in
+    rw (c.block_bytes.ensures.value, c.row_bytes.ensures.value)
+    (window_fits c.args.layout.now.s c.args.layout.now.r _ w.first_row w.rows c.requires.start c.requires.within most)
 
 pub overflow_mul-result : goal.overflow_mul-result
 overflow_mul-result c =
-    let fits : c.args.window.now.index * c.block_bytes.result < 2 ^ 32 = rw c.block_bytes.ensures.value (starts_below _ c.requires.start) in
-    omega (arith, fits)
+    let starts : c.args.window.now.index * c.block_bytes.result < MOST_FILE_BYTES = rw c.block_bytes.ensures.value c.requires.start in
+    omega (arith, starts)
 
 pub overflow_mul-result-2 : goal.overflow_mul-result-2
-overflow_mul-result-2 c =
-    let fits : c.args.window.now.first_row * c.row_bytes.result < 2 ^ 32 =
-    rw c.row_bytes.ensures.value (without_start _ _ (without_rows _ _ _ (fits_all c))) in
-    omega (arith, fits)
+overflow_mul-result-2 c = let fits = fits c in omega (arith, fits)
 
 pub overflow_add-result : goal.overflow_add-result
-overflow_add-result c =
-    let fits : c.args.window.now.index * c.block_bytes.result + c.args.window.now.first_row * c.row_bytes.result < 2 ^ 32 =
-    rw (c.block_bytes.ensures.value, c.row_bytes.ensures.value) (without_rows _ _ _ (fits_all c)) in
-    omega (arith, fits)
+overflow_add-result c = let fits = fits c in omega (arith, fits)
 
 pub returns-clause-fits : goal.returns-clause-fits
-returns-clause-fits c = rw (c.block_bytes.ensures.value, c.row_bytes.ensures.value) (fits_all c)
+returns-clause-fits c = fits c

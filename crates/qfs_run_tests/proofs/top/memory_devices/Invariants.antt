@@ -1,7 +1,7 @@
 -- The devices so far are new.
 use Rattle.std.specs.Prelude.{All, Some}
 use Rattle.qfs_device.specs.declared.memory_device.MapDevice.{MapDevice}
-use Rattle.qfs_world.specs.Calls.{IsNew}
+use Rattle.qfs_nodes.specs.Nodes.{IsNew}
 use Rattle.qfs_run_tests.proofs.top.memory_devices.Given as goal
 
 -- a device in memory that tells that it is new

@@ -1,5 +1,5 @@
 use Rattle.std.proofs.Common.{◌+◌, ◌∙◌, arith}
-use Rattle.qfs_writer.specs.Rest.{rest_at}
+use Rattle.qfs_writer.specs.Rest.{rest_of_put}
 use Rattle.qfs_writer.proofs.Puts.{put_blocks_from-more, put_blocks_from-end, behind-more, behind-end}
 use Rattle.qfs_writer.proofs.turn.behind.Goals as goal
 
@@ -14,7 +14,7 @@ returns-then-at-blocks-clause-rest c =
     ∙ behind-end c.args.put.now c.args.at (omega arith))
 
 pub returns-else-at-blocks-clause-rest : goal.returns-else-at-blocks-clause-rest
-unfolding rest_at
+unfolding rest_of_put
 returns-else-at-blocks-clause-rest c =
     put_blocks_from-end c.args.put.now c.args.at.file (c.args.at.index + 1) (omega arith)
     ∙ behind-end c.args.put.now c.args.at (omega arith)

@@ -1,13 +1,13 @@
 use Rattle.std.proofs.Common.{◌<◌, ◌≡◌, false, true, arith}
 use Rattle.qfs_model_actor.specs.Grants.{is_grant_of}
-use Rattle.qfs_machine.specs.Endings.{report_of as common_report}
-use Rattle.qfs_writer.specs.Rest.{rest_at, report_of}
+use Rattle.qfs_machine.specs.Endings.{report_of_ending}
+use Rattle.qfs_writer.specs.Rest.{rest_of_put, report_of_put}
 use Rattle.qfs_writer.proofs.Puts.{on_grant-used, on_grant-other, on_grant-none}
 use Rattle.qfs_writer.proofs.turn.use_grant.Goals as goal
 use Rattle.qfs_writer.proofs.turn.use_grant.Goals.{then-at-eq0-via-then-at-eq0, then-at-eq0-via-else-at-eq0+then-not-is_grant_of}
 
 pub returns-then-at-eq0-clause-rest : goal.returns-then-at-eq0-clause-rest
-unfolding rest_at report_of common_report
+unfolding rest_of_put report_of_put report_of_ending
 returns-then-at-eq0-clause-rest c =
     rw c.ended.ensures
     (elim c.then-at-eq0.branch [

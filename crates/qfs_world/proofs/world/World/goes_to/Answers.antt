@@ -6,7 +6,7 @@ use Rattle.qfs_actor.specs.Standing.{Standing}
 use Rattle.qfs_model_actor.specs.Actor.{node_of}
 use Rattle.qfs_model_world.specs.World.{numbered}
 use Rattle.qfs_world.proofs.Step.{AtTurn, turn-place}
-use Rattle.qfs_world.specs.AtWork.{actors_of}
+use Rattle.qfs_nodes.specs.Actors.{actors_of}
 use Rattle.qfs_world.proofs.world.World.goes_to.Goals as goal
 
 goes : (actors : List Standing) (number : ℕ) (it : Standing) → AtTurn actors number (number - 1) it

@@ -2,12 +2,12 @@
 use Rattle.std.proofs.Common.{◌≡◌, ◌++◌, length, refl, ◌∙◌, ap, arith, length-drop}
 use Rattle.std.specs.Prelude.{drop, map}
 use Rattle.qfs_base.specs.Rules.{rules_of}
-use Rattle.qfs_world.specs.AtWork.{actors_of}
-use Rattle.qfs_world.specs.Running.{commands_by_actor}
-use Rattle.qfs_world.specs.declared.node.NodeState.TheVariants as Node
+use Rattle.qfs_nodes.specs.Actors.{actors_of}
+use Rattle.qfs_nodes.specs.Scripts.{commands_by_actor}
+use Rattle.qfs_nodes.specs.declared.node.NodeState.TheVariants as Node
 use Rattle.qfs_world.proofs.Begin.{first_meta, first_stores, begins, image-is, stores-are, stores-many}
-use Rattle.qfs_world.proofs.Nodes.{nodes_with}
-use Rattle.qfs_world.proofs.Starts.{starts-actors}
+use Rattle.qfs_nodes.specs.Nodes.{nodes_with}
+use Rattle.qfs_nodes.proofs.Starts.{starts-actors}
 use Rattle.qfs_world.proofs.world.World.new.Goals as goal
 
 pub invariant_of-result : goal.invariant_of-result

@@ -1,10 +1,7 @@
 -- A step of the actor whose turn it is.
-use Rattle.std.proofs.Common.{◌≡◌, ◌-◌, ◌++◌, length, take, drop, sym, ◌∙◌, ap, subst, arith}
-use Rattle.std.proofs.lemmas.Option.{slice_get_within, get_or_from_slice_get}
-use Rattle.qfs_actor.specs.Standing.{Standing}
-use Rattle.qfs_machine.specs.Asking.{IsOut}
-use Rattle.qfs_model_actor.specs.Actor.{has_finished}
-use Rattle.qfs_world.proofs.Step.{AtTurn, turn-place, slice-back, stores-long, works, tells, stays-same}
+use Rattle.std.proofs.Common.{◌≡◌, ◌-◌, ◌++◌, length, take, drop, arith}
+use Rattle.std.proofs.lemmas.Option.{slice_get_within}
+use Rattle.qfs_world.proofs.Step.{turn-place, turn-at, slice-back, length-with, works, tells, stays-same}
 use Rattle.qfs_world.proofs.world.World.step.Goals as goal
 
 pub overflow_sub-actor : goal.overflow_sub-actor
@@ -22,28 +19,18 @@ index_mut-requires g c =
 pub step_on-requires-clause-resting : goal.step_on-requires-clause-resting
 step_on-requires-clause-resting g c κs within =
     let turn = rw (← c.self.view_is) at c.requires.turn in
-    let at = turn-place _ _ _ _ _ _ c.self.invariant.0 c.args.actor turn in
-    let is : at.0 ≡ c.index_mut.result.now =
-    sym (c.index_mut.ensures.value ∙ get_or_from_slice_get c.self.inside.actors.items (c.args.actor - 1) at.0 c.index_mut.result.now at.1.there) in
-    subst (λ (s : Standing). IsOut s.readiness → ⊥) is at.1.rests
+    (turn-at _ _ _ _ _ _ c.self.invariant.0 c.args.actor turn c.index_mut.result.now c.index_mut.ensures.value).rests
 
 pub step_on-requires-clause-unfinished : goal.step_on-requires-clause-unfinished
 step_on-requires-clause-unfinished g c κs within =
     let turn = rw (← c.self.view_is) at c.requires.turn in
-    let at = turn-place _ _ _ _ _ _ c.self.invariant.0 c.args.actor turn in
-    let is : at.0 ≡ c.index_mut.result.now =
-    sym (c.index_mut.ensures.value ∙ get_or_from_slice_get c.self.inside.actors.items (c.args.actor - 1) at.0 c.index_mut.result.now at.1.there) in
-    ap (λ (s : Standing). has_finished s.actor) (sym is) ∙ at.1.unfinished
+    (turn-at _ _ _ _ _ _ c.self.invariant.0 c.args.actor turn c.index_mut.result.now c.index_mut.ensures.value).unfinished
 
 pub invariant_of-self : goal.invariant_of-self
 invariant_of-self g c =
     let inside = c.self.inside in
     let turn = rw (← c.self.view_is) at c.requires.turn in
-    let found = turn-place _ _ _ _ _ _ c.self.invariant.0 c.args.actor turn in
-    let is : found.0 ≡ c.index_mut.result.now =
-    sym (c.index_mut.ensures.value ∙ get_or_from_slice_get inside.actors.items (c.args.actor - 1) found.0 c.index_mut.result.now found.1.there) in
-    let at : AtTurn inside.actors.items c.args.actor (c.args.actor - 1) c.index_mut.result.now =
-    subst (AtTurn inside.actors.items c.args.actor (c.args.actor - 1)) is found.1 in
+    let at = turn-at _ _ _ _ _ _ c.self.invariant.0 c.args.actor turn c.index_mut.result.now c.index_mut.ensures.value in
     let long = rw c.deref_mut.ensures.value at c.step_on.auto.nodes in
     let back : take inside.nodes.len (c.step_on.new.nodes ++ drop (length c.step_on.new.nodes) inside.nodes.items) ≡ c.step_on.new.nodes =
     slice-back inside.nodes.len inside.nodes.items c.step_on.new.nodes inside.nodes.ok.0 long in
@@ -53,20 +40,14 @@ invariant_of-self g c =
     c.step_on.new.nodes c.step_on.new.order c.step_on.result
     (rw c.deref_mut.ensures.value at c.step_on.ensures.turn) c.step_on.ensures.order
     (rw c.deref_mut.ensures.value at c.step_on.ensures.err_nodes) c.step_on.ensures.err_actor c.step_on.ensures.err_order in
-    let many =
-    stores-long inside.script.value inside.counts.value inside.nodes.items c.step_on.new.nodes inside.actors.items _ inside.phases.items inside.order
-    c.step_on.new.order c.self.invariant.0 on long in
-    rw back (on, omega (arith, many, c.self.invariant.1))
+    rw back
+    (on, omega (arith, length-with _ _ _ c.self.invariant.0.nodes_are, length-with _ _ _ on.nodes_are, long, c.self.invariant.1))
 
 pub returns-clause-ok : goal.returns-clause-ok
 returns-clause-ok g c =
     let inside = c.self.inside in
     let turn = rw (← c.self.view_is) at c.requires.turn in
-    let found = turn-place _ _ _ _ _ _ c.self.invariant.0 c.args.actor turn in
-    let is : found.0 ≡ c.index_mut.result.now =
-    sym (c.index_mut.ensures.value ∙ get_or_from_slice_get inside.actors.items (c.args.actor - 1) found.0 c.index_mut.result.now found.1.there) in
-    let at : AtTurn inside.actors.items c.args.actor (c.args.actor - 1) c.index_mut.result.now =
-    subst (AtTurn inside.actors.items c.args.actor (c.args.actor - 1)) is found.1 in
+    let at = turn-at _ _ _ _ _ _ c.self.invariant.0 c.args.actor turn c.index_mut.result.now c.index_mut.ensures.value in
     let long = rw c.deref_mut.ensures.value at c.step_on.auto.nodes in
     let back : take inside.nodes.len (c.step_on.new.nodes ++ drop (length c.step_on.new.nodes) inside.nodes.items) ≡ c.step_on.new.nodes =
     slice-back inside.nodes.len inside.nodes.items c.step_on.new.nodes inside.nodes.ok.0 long in
@@ -81,11 +62,7 @@ pub returns-clause-err : goal.returns-clause-err
 returns-clause-err g c =
     let inside = c.self.inside in
     let turn = rw (← c.self.view_is) at c.requires.turn in
-    let found = turn-place _ _ _ _ _ _ c.self.invariant.0 c.args.actor turn in
-    let is : found.0 ≡ c.index_mut.result.now =
-    sym (c.index_mut.ensures.value ∙ get_or_from_slice_get inside.actors.items (c.args.actor - 1) found.0 c.index_mut.result.now found.1.there) in
-    let at : AtTurn inside.actors.items c.args.actor (c.args.actor - 1) c.index_mut.result.now =
-    subst (AtTurn inside.actors.items c.args.actor (c.args.actor - 1)) is found.1 in
+    let at = turn-at _ _ _ _ _ _ c.self.invariant.0 c.args.actor turn c.index_mut.result.now c.index_mut.ensures.value in
     let long = rw c.deref_mut.ensures.value at c.step_on.auto.nodes in
     let back : take inside.nodes.len (c.step_on.new.nodes ++ drop (length c.step_on.new.nodes) inside.nodes.items) ≡ c.step_on.new.nodes =
     slice-back inside.nodes.len inside.nodes.items c.step_on.new.nodes inside.nodes.ok.0 long in

@@ -3,8 +3,8 @@ use Rattle.std.proofs.Common.{◌≡◌, ℕ, List, sym, ◌∙◌, ap, ap₂, s
 use Rattle.std.specs.Prelude.{map, IfOk}
 use Rattle.qfs_actor.specs.Standing.{Standing}
 use Rattle.qfs_model_world.specs.Fits.{unfinished, first_filled}
-use Rattle.qfs_world.specs.AtWork.{actors_of, by_sizes}
-use Rattle.qfs_world.specs.Running.{turn_of}
+use Rattle.qfs_nodes.specs.Actors.{actors_of, by_sizes}
+use Rattle.qfs_world.specs.View.{turn_of}
 use Rattle.qfs_world.proofs.TurnLists.{turn-by_sizes}
 use Rattle.qfs_world.proofs.world.World.turn.Goals as goal
 

@@ -1,0 +1,4 @@
+pub mod Actors
+pub mod Nodes
+pub mod Scripts
+pub mod Turns

@@ -1,8 +1,0 @@
--- The list has the replies of the actors so far.
-use Rattle.std.proofs.Common.{◌≡◌}
-use Rattle.qfs_world.specs.AtWork.{actors_of}
-use Rattle.qfs_world.specs.Calls.{lines_of_actors}
-use Rattle.qfs_world.proofs.parts.all_replies.Given as goal
-
-abbrev pub invariant-loop-actor : goal.invariant-loop-actor
-invariant-loop-actor l = l.replies ≡ lines_of_actors (actors_of l.yielded)

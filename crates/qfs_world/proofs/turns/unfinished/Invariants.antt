@@ -1,8 +1,0 @@
--- The list has the unfinished actors so far.
-use Rattle.std.proofs.Common.{◌≡◌, take}
-use Rattle.qfs_model_world.specs.Fits.{unfinished}
-use Rattle.qfs_world.specs.AtWork.{actors_of}
-use Rattle.qfs_world.proofs.turns.unfinished.Given as goal
-
-abbrev pub invariant-loop-actor : goal.invariant-loop-actor
-invariant-loop-actor l = l.turn ≡ unfinished (actors_of (take l.actor-index l.actors))
