@@ -6,7 +6,7 @@ use Rattle.qfs_model_disks.specs.LogRecord.{log_body}
 use Rattle.qfs_model_disks.specs.Spelled as Model
 use Rattle.qfs_model_meta.specs.Step.{Logged}
 use Rattle.qfs_record.specs.Part.{Part}
-use Rattle.qfs_log.specs.Found.{Content, Found, nothing, loaded, found_in}
+use Rattle.qfs_log.specs.Found.{Content, nothing, loaded, found_in}
 
 -- the bytes spell the value, and none is left over
 abbrev pub IsText : {A : Type 0} → Part A → List ℕ → A → Type 0
