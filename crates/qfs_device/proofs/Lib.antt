@@ -1,5 +1,2 @@
-pub mod Images
-pub mod PastLaws
-pub mod Pushed
 pub mod Sizes
 pub mod Streams

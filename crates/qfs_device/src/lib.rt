@@ -3,10 +3,7 @@
 //! clauses what it holds, if it tells that at all, and counts its faults.
 #![tactic(auto)]
 
-mod call_list;
 mod chunk_device;
-mod disk_call;
-mod durable;
 mod errors;
 mod faults;
 mod gate;
@@ -14,15 +11,11 @@ mod log_disk;
 mod memory_device;
 mod memory_disk;
 mod memory_stream;
-mod moments;
 mod standard;
 mod stream;
 mod whole;
 
-pub use call_list::CallList;
 pub use chunk_device::{ChunkDevice, KeySize, KeySizes};
-pub use disk_call::DiskCall;
-pub use durable::{cut_durably, write_durably};
 pub use errors::{DeviceError, Failed};
 pub use faults::{FailList, Faults, NeverFails};
 pub use gate::{Gate, NoGate};
@@ -30,7 +23,6 @@ pub use log_disk::{LogDisk, MetaDisks};
 pub use memory_device::{MapDevice, MemoryDevice, SureDevice};
 pub use memory_disk::{BytesDisk, MemoryDisk, SureDisk};
 pub use memory_stream::{BytesSource, MemorySink, MemorySource, RoomSink, SureSink, SureSource};
-pub use moments::Moments;
 pub use standard::{StdSink, StdSource};
 pub use stream::{Sink, Source};
 pub use whole::{read_all, write_all};

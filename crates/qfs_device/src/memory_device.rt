@@ -72,7 +72,7 @@ fn bytes_under<'a>(chunks: &'a KeyMap<ChunkKey, Listing<u8>>, key: &ChunkKey) ->
 }
 
 // Fills `out` from the bytes at `from`.
-pub fn copy_part(bytes: &[u8], from: usize, out: &mut [u8])
+fn copy_part(bytes: &[u8], from: usize, out: &mut [u8])
     requires { from + length out.old ≤ length bytes.now }
     ensures { out.new ≡ take (length out.old) (drop from bytes.now) }
 {

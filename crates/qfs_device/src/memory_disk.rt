@@ -1,119 +1,56 @@
-//! Log disks that keep their bytes in memory. They tell their contents and their crash images.
-ghost use Rattle.std.specs.Prelude.{◌≡◌, ℕ, ◌+◌, ◌≤◌, [], List, true, IsTrue, length, take, drop};
-ghost use Rattle.std.proofs.Common.{refl};
-ghost use Rattle.qfs_device.specs.Moments.{now, beginning, IsImage, LeftSince, reads, counts, only};
+//! Log disks that keep their bytes in memory.
+ghost use Rattle.std.specs.Prelude.{◌≡◌, vec_len};
 
-use crate::call_list::CallList;
-use crate::errors::DeviceError;
 use crate::faults::{FailList, Faults, NeverFails};
 use crate::log_disk::LogDisk;
-use crate::memory_device::copy_part;
-use crate::moments::Moments;
 use std::alloc::Global;
 
-/// A log disk in memory. A call that fails changes nothing but the count of faults.
+/// A log disk in memory.
 #[derive(Drop)]
-pub struct BytesDisk<F, M> {
-    kept: M,
-    handed_out: u64,
+pub struct BytesDisk<F> {
+    bytes: Vec<u8>,
     faults: F,
 }
 
-/// A log disk in memory whose calls fail by a list. It keeps its writes, cuts and syncs.
-pub type MemoryDisk = BytesDisk<FailList, CallList>;
+/// A log disk in memory whose calls fail by a list.
+pub type MemoryDisk = BytesDisk<FailList>;
 
 /// A log disk in memory that never fails.
-pub type SureDisk = BytesDisk<NeverFails, CallList>;
+pub type SureDisk = BytesDisk<NeverFails>;
 
-impl BytesDisk<FailList, CallList> {
+impl BytesDisk<FailList> {
     /// An empty disk. `fails` are the numbers of the calls that fail, rising, counted from 1
     /// over all calls but `size`. It takes no memory.
-    pub fn new(alloc: Global, fails: Vec<u64>) -> BytesDisk<FailList, CallList>
-        ensures length { ⟦<BytesDisk<FailList, CallList> as LogDisk>⟧.length_of result ≡ 0 }
-        ensures faults { ⟦<BytesDisk<FailList, CallList> as LogDisk>⟧.faults result ≡ 0 }
+    pub fn new(alloc: Global, fails: Vec<u64>) -> BytesDisk<FailList>
+        ensures length { ⟦<BytesDisk<FailList> as LogDisk>⟧.length_of result ≡ 0 }
+        ensures faults { ⟦<BytesDisk<FailList> as LogDisk>⟧.faults result ≡ 0 }
     {
         BytesDisk {
-            kept: CallList::new(alloc),
-            handed_out: 0,
+            bytes: Vec::new(alloc),
             faults: FailList::new(fails),
         }
     }
 }
 
-impl BytesDisk<NeverFails, CallList> {
+impl BytesDisk<NeverFails> {
     /// An empty disk. It takes no memory.
-    pub fn new(alloc: Global) -> BytesDisk<NeverFails, CallList>
-        ensures length { ⟦<BytesDisk<NeverFails, CallList> as LogDisk>⟧.length_of result ≡ 0 }
-        ensures faults { ⟦<BytesDisk<NeverFails, CallList> as LogDisk>⟧.faults result ≡ 0 }
+    pub fn new(alloc: Global) -> BytesDisk<NeverFails>
+        ensures length { ⟦<BytesDisk<NeverFails> as LogDisk>⟧.length_of result ≡ 0 }
+        ensures faults { ⟦<BytesDisk<NeverFails> as LogDisk>⟧.faults result ≡ 0 }
     {
         BytesDisk {
-            kept: CallList::new(alloc),
-            handed_out: 0,
+            bytes: Vec::new(alloc),
             faults: NeverFails,
         }
     }
 }
 
-impl<F: Faults, M: Moments> LogDisk for BytesDisk<F, M> {
-    ghost length_of = { λ disk. length (now (M.past disk.kept)).bytes };
+impl<F: Faults> LogDisk for BytesDisk<F> {
+    ghost length_of = { λ disk. vec_len disk.bytes };
 
     ghost faults = { λ disk. F.count disk.faults };
 
-    ghost tells = { λ disk. true };
-
-    ghost content = { λ disk. (now (M.past disk.kept)).bytes };
-
-    ghost handed_out = { λ disk. disk.handed_out };
-
-    ghost clock = { λ disk. length (M.past disk.kept).later };
-
-    ghost leaves = { λ disk c. IsImage (now (M.past disk.kept)) c };
-
-    ghost left_since = { λ disk t c. LeftSince (M.past disk.kept) t c };
-
-    ghost told_length = { λ disk told. refl };
-
-    ghost reads_an_image = { λ disk told. reads (now (M.past disk.kept)) };
-
-    ghost counts_now = { λ disk t c told le is. counts (M.past disk.kept) t c le is };
-
-    ghost only_now = { λ disk c told left. only (M.past disk.kept) c left };
-
     fn size(&self) -> u64 {
-        self.kept.bytes().len() as u64
-    }
-
-    fn read(&mut self, at: u64, out: &mut [u8]) -> Result<(), DeviceError> {
-        if self.faults.next_fails() {
-            return Err(DeviceError::Failed);
-        }
-        copy_part(self.kept.bytes(), at as usize, out);
-        self.handed_out = self.handed_out.saturating_add(out.len() as u64);
-        Ok(())
-    }
-
-    fn write_at(&mut self, at: u64, bytes: &[u8]) -> Result<(), DeviceError> {
-        if self.faults.next_fails() {
-            let _size = self.size();
-            return Err(DeviceError::Failed);
-        }
-        self.kept.write(at, bytes)?;
-        Ok(())
-    }
-
-    fn cut(&mut self, len: u64) -> Result<(), DeviceError> {
-        if self.faults.next_fails() {
-            return Err(DeviceError::Failed);
-        }
-        self.kept.cut(len)?;
-        Ok(())
-    }
-
-    fn sync(&mut self) -> Result<(), DeviceError> {
-        if self.faults.next_fails() {
-            return Err(DeviceError::Failed);
-        }
-        self.kept.sync()?;
-        Ok(())
+        self.bytes.len() as u64
     }
 }

@@ -3,7 +3,7 @@ use Rattle.std.proofs.Common.{◌≡◌, ◌≢◌, inl, inr, ℕ, ◌+◌, ◌<
 use Rattle.std.specs.Prelude.{Result, Ok, Err, OnOk, OnErr}
 use Rattle.qfs_device.specs.declared.errors.DeviceError.{DeviceError}
 use Rattle.std.proofs.lemmas.List.{append-nil, take_all, drop_all, take_more}
-use Rattle.qfs_device.specs.Disk.{Torn, CutShort, Only, written}
+use Rattle.qfs_disk.specs.Disk.{Torn, CutShort, Only, written}
 use Rattle.qfs_log.specs.Gates.{Guarded, Staged, equals, GateIs, GateWas, AtRest, Opened}
 use Rattle.qfs_log.proofs.Parts.{take_same, get_behind, take_front, drop_behind, split_at, front_fits, drop_torn, equals_itself}
 

@@ -1,6 +1,6 @@
 -- How a log stands after a load, over disks on which nothing is pending.
 use Rattle.std.proofs.Common.{◌≡◌, ◌∙◌, refl, sym, ap, subst, arith, ℕ, ◌+◌, Bool, true, false, List, [], ◌∷◌, ◌++◌, length, drop, length-append, None}
-use Rattle.qfs_device.specs.Disk.{Only}
+use Rattle.qfs_disk.specs.Disk.{Only}
 use Rattle.qfs_log.specs.Gates.{Guarded}
 use Rattle.qfs_log.specs.Found.{Content, loaded, front_text, is_checkpoint, epoch_of, found_on, loses}
 use Rattle.qfs_log.specs.Log.{Current, Other}

@@ -3,7 +3,7 @@ use Rattle.std.proofs.Common.{◌≡◌, true≢false, false, ◌&&◌, ◌==◌
 use Rattle.std.proofs.lemmas.List.{take_at, drop_at, drop_more, get_or-drop, drop_all, length-take}
 use Rattle.std.proofs.lemmas.Bool.Decides.{nat_tests}
 use Rattle.std.proofs.lemmas.Bool.{eqb-true, cases_lt}
-use Rattle.qfs_device.specs.Disk.{Torn}
+use Rattle.qfs_disk.specs.Disk.{Torn}
 use Rattle.qfs_log.specs.Gates.{equals}
 
 -- fronts that agree at each place

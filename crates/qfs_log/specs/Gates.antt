@@ -1,6 +1,6 @@
 -- A gate and what stands behind it, on one disk. The front is what stands before the gate.
 use Rattle.std.specs.Prelude.{◌≡◌, ◌≢◌, ◌<◌, ◌⊎◌, ℕ, ◌+◌, ◌==◌, ◌&&◌, List, [], ◌∷◌, ◌++◌, length, take, drop, get_or, Bool, true, false, IsTrue}
-use Rattle.qfs_device.specs.Disk.{Only}
+use Rattle.qfs_disk.specs.Disk.{Only}
 
 -- an image with this front and a closed gate behind it, and then anything
 pub record Guarded (front image : List ℕ) : Type 0 where

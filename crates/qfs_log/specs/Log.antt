@@ -4,7 +4,7 @@ use Rattle.qfs_device.specs.declared.errors.DeviceError.{DeviceError}
 use Rattle.qfs_device.specs.declared.errors.DeviceError.TheVariants.{Failed, NoMemory}
 use Rattle.qfs_device.specs.Fault.{RoseOnce}
 use Rattle.std.specs.declared.alloc.Global.{Global}
-use Rattle.qfs_device.specs.Disk.{Only}
+use Rattle.qfs_disk.specs.Disk.{Only}
 use Rattle.qfs_log.specs.Gates.{equals, GateWas, HasGate, AtRest}
 use Rattle.qfs_log.specs.Found.{Content, with_body, new_content, Found, nothing, loaded, FitsRecord, FitsImage, FitsLog, record_text, checkpoint_text, front_text, loses}
 use Rattle.qfs_log.specs.declared.log.Log.{Log}

@@ -1,12 +1,13 @@
 //! A gate on a disk. Behind a closed gate nothing counts; it is opened by a write of
 //! its own once what stands behind it is durable.
 ghost use Rattle.std.specs.Prelude.{◌≡◌, ◌≢◌, ◌+◌, ◌≤◌, ◌<◌, ◌^◌, ◌⊎◌, ℕ, Bool, List, [], ◌∷◌, ◌++◌, true, false, IsTrue, length, max, OnOk, OnErr};
-ghost use Rattle.qfs_device.specs.Disk.{Torn, Same, Only, written};
+ghost use Rattle.qfs_disk.specs.Disk.{Torn, Same, Only, written};
 ghost use Rattle.qfs_device.specs.Fault.{Counts};
-ghost use Rattle.qfs_device.specs.Moves.{Moves};
+ghost use Rattle.qfs_disk.specs.Moves.{Moves};
 ghost use Rattle.qfs_log.specs.Gates.{Guarded, Staged, equals, GateWas, HasGate, AtRest, Opened};
 
-use qfs_device::{DeviceError, LogDisk, cut_durably, write_durably};
+use qfs_device::DeviceError;
+use qfs_disk::{LogDisk, cut_durably, write_durably};
 
 pub const OPEN: u8 = 1;
 

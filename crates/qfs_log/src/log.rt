@@ -1,13 +1,14 @@
 //! The log. It goes on behind the newest checkpoint; the other disk takes the next one.
 ghost use Rattle.std.specs.Prelude.{◌≡◌, ◌⊎◌, ◌<◌, ◌^◌, ◌+◌, ℕ, Bool, true, false, List, [], ◌++◌, ◌∷◌, Option, None, Some, OnOk, OnErr, IfOk, IfSome, IsTrue, length, not};
 ghost use Rattle.qfs_device.specs.Fault.{Counts};
-ghost use Rattle.qfs_device.specs.Moves.{Moves};
+ghost use Rattle.qfs_disk.specs.Moves.{Moves};
 ghost use Rattle.qfs_log.specs.Gates.{GateWas, Opened};
 ghost use Rattle.qfs_log.specs.Found.{Content, Found, with_body, found_by, found_in, loaded, FitsRecord, FitsImage, record_text, checkpoint_text, new_content, front_text};
 ghost use Rattle.qfs_log.specs.Log.{Placed, Stands, CurrentWas, OtherWas, MayBe, tail_test, other_test, left_of, right_of, CountsBoth, Empty, MayBeEmpty, empty_test};
 
 use crate::gate::{clear_gate, close_gate, write_behind_gate};
-use qfs_device::{DeviceError, LogDisk};
+use qfs_device::DeviceError;
+use qfs_disk::LogDisk;
 use std::alloc::{AllocError, Global};
 use std::mem;
 

@@ -189,23 +189,13 @@ fn put_fields(mark: [u8; 4], head: Head, out: &mut Vec<u8>) -> Result<(), AllocE
     put_u32(head.len, out)
 }
 
-/// Puts a file's number and the index of a block at the end of `out`. On want of memory only a front
-/// of them stands there.
-pub fn put_block(id: BlockId, out: &mut Vec<u8>) -> Result<(), AllocError>
-    ensures ok { OnOk result (out.new.items ≡ out.old.items ++ block.text id) }
-    ensures err { OnErr result ((front : List ℕ) × (out.new.items ≡ out.old.items ++ front)) }
-{
-    put_u32(id.file, out)?;
-    put_u32(id.index, out)
-}
-
-/// Puts a chunk's key at the end of `out`: file, index, slot and version. On want of memory only a
-/// front of it stands there.
-pub fn put_key(key: ChunkKey, out: &mut Vec<u8>) -> Result<(), AllocError>
+/// Puts a chunk's key at the end of `out`: file, index, slot and version.
+fn put_key(key: ChunkKey, out: &mut Vec<u8>) -> Result<(), AllocError>
     ensures ok { OnOk result (out.new.items ≡ out.old.items ++ chunk_key.text key) }
     ensures err { OnErr result ((front : List ℕ) × (out.new.items ≡ out.old.items ++ front)) }
 {
-    put_block(key.block, out)?;
+    put_u32(key.block.file, out)?;
+    put_u32(key.block.index, out)?;
     put_u8(key.slot, out)?;
     put_u32(key.version, out)
 }

@@ -8,5 +8,4 @@ mod reading;
 mod writing;
 
 pub use chunk::{ChunkRead, chunk_records_are_apart, read_chunk, write_chunk};
-pub use head::{Head, is_second, put_block, put_key, read_head};
-pub use writing::{put_counted_u32, put_u8, put_u16, put_u32, put_u64};
+pub use head::{Head, is_second, read_head};

@@ -1,7 +1,7 @@
 -- Answers to the goals of `clear_gate` of qfs_log.
 use Rattle.std.proofs.Common.{◌≡◌, take, ◌∙◌, ◌+◌, sym, subst}
-use Rattle.qfs_device.specs.Disk.{CutShort}
-use Rattle.qfs_device.specs.Steps.{joined}
+use Rattle.qfs_disk.specs.Disk.{CutShort}
+use Rattle.qfs_disk.specs.Steps.{joined}
 use Rattle.qfs_log.specs.Gates.{Guarded, GateIs, GateWas}
 use Rattle.qfs_log.proofs.Gates.{cut_at_rest, cut_guarded, was_guarded}
 use Rattle.qfs_log.proofs.Results.{on_ok2}

@@ -1,7 +1,7 @@
 -- Answers to the goals of `close_gate` of qfs_log.
 use Rattle.std.proofs.Common.{inr, ◌∙◌, sym, subst, true≢false}
-use Rattle.qfs_device.specs.Disk.{Torn}
-use Rattle.qfs_device.specs.Steps.{becomes}
+use Rattle.qfs_disk.specs.Disk.{Torn}
+use Rattle.qfs_disk.specs.Steps.{becomes}
 use Rattle.qfs_log.specs.Gates.{GateIs, GateWas}
 use Rattle.qfs_log.proofs.Gates.{gate_closed, staged_on}
 use Rattle.qfs_log.proofs.Results.{on_ok, on_err}

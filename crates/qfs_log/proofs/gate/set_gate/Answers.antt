@@ -1,7 +1,7 @@
 -- Answers to the goals of `set_gate` of qfs_log.
 use Rattle.std.proofs.Common.{◌∙◌}
-use Rattle.qfs_device.specs.Disk.{Torn}
-use Rattle.qfs_device.specs.Steps.{torn_itself, synced}
+use Rattle.qfs_disk.specs.Disk.{Torn}
+use Rattle.qfs_disk.specs.Steps.{torn_itself, synced}
 use Rattle.qfs_log.proofs.gate.set_gate.Goals as goal
 
 pub returns-in_err-sync-clause-crash : goal.returns-in_err-sync-clause-crash

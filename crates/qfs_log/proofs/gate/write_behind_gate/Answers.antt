@@ -1,7 +1,7 @@
 -- Answers to the goals of `write_behind_gate` of qfs_log.
 use Rattle.std.proofs.Common.{◌⊎◌, inl, inr, ◌∙◌, ◌+◌, sym, subst, List, ℕ, length}
-use Rattle.qfs_device.specs.Disk.{Torn}
-use Rattle.qfs_device.specs.Steps.{becomes, joined}
+use Rattle.qfs_disk.specs.Disk.{Torn}
+use Rattle.qfs_disk.specs.Steps.{becomes, joined}
 use Rattle.qfs_log.specs.Gates.{Guarded, Staged, GateIs, equals}
 use Rattle.qfs_log.proofs.Gates.{rest_images, behind_guarded, tail_staged, tail_guarded, staged_on, gate_failed, gate_opened}
 use Rattle.qfs_log.proofs.Results.{on_ok2, on_err, any_err}

@@ -1,6 +1,6 @@
 -- Answers to the goals of `append` of qfs_log.
 use Rattle.std.proofs.Common.{◌≡◌, ◌⊎◌, inl, inr, ◌∙◌, sym, subst, ap, ℕ, List, Some, None, false, rules, cond, refl}
-use Rattle.qfs_device.specs.Steps.{joined}
+use Rattle.qfs_disk.specs.Steps.{joined}
 use Rattle.qfs_log.specs.Gates.{GateWas}
 use Rattle.qfs_log.specs.Found.{with_body, front_text, found_by, loaded, FitsRecord}
 use Rattle.qfs_log.specs.Log.{Stands, CurrentWas, MayBe, tail_test}

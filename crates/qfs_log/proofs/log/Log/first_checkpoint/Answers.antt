@@ -1,6 +1,6 @@
 -- Answers to the goals of `first_checkpoint` of qfs_log.
 use Rattle.std.proofs.Common.{◌≡◌, ◌⊎◌, inl, inr, ◌∙◌, refl, subst, ℕ, List, [], ◌∷◌, ◌++◌, length, Some, false, rules, arith}
-use Rattle.qfs_device.specs.Steps.{joined}
+use Rattle.qfs_disk.specs.Steps.{joined}
 use Rattle.qfs_log.specs.Gates.{GateWas, HasGate, Guarded, Staged, equals}
 use Rattle.qfs_log.specs.Found.{checkpoint_text}
 use Rattle.qfs_log.specs.Log.{empty_test}

@@ -1,6 +1,6 @@
 -- Answers to the goals of `write_other` of qfs_log.
 use Rattle.std.proofs.Common.{◌⊎◌, inl, inr, ◌∙◌, refl, subst, ℕ, List, [], Some, false, true≢false}
-use Rattle.qfs_device.specs.Steps.{becomes, joined}
+use Rattle.qfs_disk.specs.Steps.{becomes, joined}
 use Rattle.qfs_log.specs.Gates.{GateWas, Guarded, Staged, equals, HasGate}
 use Rattle.qfs_log.specs.Log.{OtherWas, other_test}
 use Rattle.qfs_log.proofs.Results.{on_ok, on_err, any_err}
