@@ -44,3 +44,12 @@ pub record AtRest (leaves : List ℕ → Type 0) (content front : List ℕ) : Ty
 pub record Opened (leaves : List ℕ → Type 0) (content front tail : List ℕ) : Type 0 where
   pub ends : content ≡ front ++ 1 ∷ tail
   pub durable : Only content leaves
+
+-- what holds wherever a disk that tells has this gate, behind a front of this length
+abbrev pub WhereGate : Bool → (List ℕ → Type 0) → Bool → ℕ → (List ℕ → (List ℕ → Bool) → Type 0) → Type 0
+WhereGate tells leaves settled gate Holds =
+    (front : List ℕ) (test : List ℕ → Bool) → length front ≡ gate → IsTrue tells → HasGate leaves settled front test → Holds front test
+
+-- and wherever it ends with a closed gate at rest
+abbrev pub WhereRest : Bool → (List ℕ → Type 0) → List ℕ → ℕ → (List ℕ → Type 0) → Type 0
+WhereRest tells leaves content gate Holds = (front : List ℕ) → length front ≡ gate → IsTrue tells → AtRest leaves content front → Holds front

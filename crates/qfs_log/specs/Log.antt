@@ -6,7 +6,7 @@ use Rattle.qfs_device.specs.Fault.{RoseOnce}
 use Rattle.std.specs.declared.alloc.Global.{Global}
 use Rattle.qfs_disk.specs.Disk.{Only}
 use Rattle.qfs_log.specs.Gates.{equals, GateWas, HasGate, AtRest}
-use Rattle.qfs_log.specs.Found.{Content, with_body, new_content, Found, nothing, loaded, FitsRecord, FitsImage, FitsLog, record_text, checkpoint_text, front_text, loses}
+use Rattle.qfs_log.specs.Found.{Content, with_body, new_content, Found, nothing, loaded, FitsRecord, FitsImage, FitsLog, found_in, record_text, checkpoint_text, front_text, loses}
 use Rattle.qfs_log.specs.declared.log.Log.{Log}
 
 abbrev pub Bytes : Type 0
@@ -36,6 +36,10 @@ pub record Other (leaves : List ℕ → Type 0) (right : Bool) (epoch : ℕ) (se
   pub due : close_due ≡ false → rival ≡ None
   pub image : IfSome rival FitsImage
   pub room : IfSome rival (λ _. epoch + 1 < 2 ^ 64)
+
+-- a greater epoch is left; the last value of 64 bits stays
+abbrev pub HasRoom : ℕ → Type 0
+HasRoom epoch = epoch + 1 < 2 ^ 64
 
 module _ {D : Type 0} where
   -- where the log's places lie, on each disk
@@ -108,3 +112,19 @@ pub record Empty {D : Type 0} (tells : D → Bool) (leaves : D → List ℕ → 
   pub images : HasGate (leaves log.current) log.settled [] (empty_test rival)
   pub other : Only [] (leaves log.other)
   pub image : IfSome rival FitsImage
+
+-- ---- clauses
+
+module _ {D : Type 0} where
+  -- what holds wherever a log stands so
+  abbrev pub WhereStands : (D → Bool) → (D → List ℕ → Type 0) → (D → List ℕ) → Log D → (Content → Option (List ℕ) → Type 0) → Type 0
+  WhereStands tells leaves bytes log Holds = (content : Content) (rival : Option (List ℕ)) → Stands tells leaves bytes log content rival → Holds content rival
+
+  -- and wherever no checkpoint was made yet
+  abbrev pub WhereEmpty : (D → Bool) → (D → List ℕ → Type 0) → Log D → (Option (List ℕ) → Type 0) → Type 0
+  WhereEmpty tells leaves log Holds = (rival : Option (List ℕ)) → Empty tells leaves log rival → Holds rival
+
+  -- what is found after a crash at any moments on the way from a log to another; those of the two disks may differ
+  abbrev pub AtAnyMoment : (D → ℕ) → (D → ℕ → List ℕ → Type 0) → Log D → Log D → (Found → Type 0) → Type 0
+  AtAnyMoment clock left_since old new Finds =
+      (l r : List ℕ) → left_since (left_of new) (clock (left_of old)) l → left_since (right_of new) (clock (right_of old)) r → Finds (found_in l r)

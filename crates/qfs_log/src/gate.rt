@@ -4,7 +4,7 @@ ghost use Rattle.std.specs.Prelude.{◌≡◌, ◌≢◌, ◌+◌, ◌≤◌, �
 ghost use Rattle.qfs_disk.specs.Disk.{Torn, Same, Only, written};
 ghost use Rattle.qfs_device.specs.Fault.{Counts};
 ghost use Rattle.qfs_disk.specs.Moves.{Moves};
-ghost use Rattle.qfs_log.specs.Gates.{Guarded, Staged, equals, GateWas, HasGate, AtRest, Opened};
+ghost use Rattle.qfs_log.specs.Gates.{WhereGate, WhereRest, Guarded, Staged, equals, GateWas, HasGate, AtRest, Opened};
 
 use qfs_device::DeviceError;
 use qfs_disk::{LogDisk, cut_durably, write_durably};
@@ -25,11 +25,16 @@ pub fn set_gate<L: LogDisk>(
     ensures tells { L.tells disk.new ≡ L.tells disk.old }
     ensures size { OnOk result (L.length_of disk.new ≡ max (L.length_of disk.old) (gate + 1)) }
     ensures longer { L.length_of disk.old ≤ L.length_of disk.new }
-    ensures content { OnOk result (IsTrue (L.tells disk.old) → L.content disk.new ≡ written gate (byte ∷ []) (L.content disk.old)) }
-    ensures durable { OnOk result (IsTrue (L.tells disk.old) → Only (L.content disk.new) (L.leaves disk.new)) }
+    ensures content { OnOk result (IsTrue (L.tells disk.old)
+        → L.content disk.new ≡ written gate (byte ∷ []) (L.content disk.old)) }
+    ensures durable { OnOk result (IsTrue (L.tells disk.old)
+        → Only (L.content disk.new) (L.leaves disk.new)) }
     ensures settled { OnOk result (byte ≢ 1 → settled.new ≡ true) }
-    ensures untouched { OnErr result (settled.new ≡ true → (settled.old ≡ true) × (IsTrue (L.tells disk.old) → Moves L.clock L.leaves L.left_since Same disk.old disk.new)) }
-    ensures crash { IsTrue (L.tells disk.old) → Moves L.clock L.leaves L.left_since (Torn gate 1) disk.old disk.new }
+    ensures untouched { OnErr result (settled.new ≡ true → (settled.old ≡ true)
+        × (IsTrue (L.tells disk.old)
+        → Moves L.clock L.leaves L.left_since Same disk.old disk.new)) }
+    ensures crash { IsTrue (L.tells disk.old)
+        → Moves L.clock L.leaves L.left_since (Torn gate 1) disk.old disk.new }
     ensures counts { Counts (L.faults disk.old) (L.faults disk.new) result }
 {
     match disk.write_at(gate, &[byte]) {
@@ -59,9 +64,11 @@ pub fn close_gate<L: LogDisk>(
     ensures longer { L.length_of disk.old ≤ L.length_of disk.new }
     ensures settled { OnOk result (settled.new ≡ true) }
     ensures stays { settled.old ≡ true → settled.new ≡ true }
-    ensures gate { (front : List ℕ) (test : List ℕ → Bool) → length front ≡ gate → IsTrue (L.tells disk.old) → HasGate (L.leaves disk.old) settled.old front test → HasGate (L.leaves disk.new) settled.new front test }
-    ensures crash { (front : List ℕ) (test : List ℕ → Bool) → length front ≡ gate → IsTrue (L.tells disk.old) → HasGate (L.leaves disk.old) settled.old front test
-        → Moves L.clock L.leaves L.left_since (λ _ c. GateWas settled.old front test c) disk.old disk.new }
+    ensures gate { WhereGate (L.tells disk.old) (L.leaves disk.old) settled.old gate
+        (λ front test. HasGate (L.leaves disk.new) settled.new front test) }
+    ensures crash { WhereGate (L.tells disk.old) (L.leaves disk.old) settled.old gate
+        (λ front test. Moves L.clock L.leaves L.left_since
+        (λ _ c. GateWas settled.old front test c) disk.old disk.new) }
     ensures counts { Counts (L.faults disk.old) (L.faults disk.new) result }
 {
     if *settled {
@@ -86,10 +93,13 @@ pub fn clear_gate<L: LogDisk>(
     ensures there { settled.new ≡ true → gate < L.length_of disk.new }
     ensures settled { OnOk result (settled.new ≡ true) }
     ensures stays { settled.old ≡ true → settled.new ≡ true }
-    ensures rest { OnOk result ((front : List ℕ) (test : List ℕ → Bool) → length front ≡ gate → IsTrue (L.tells disk.old) → HasGate (L.leaves disk.old) settled.old front test → AtRest (L.leaves disk.new) (L.content disk.new) front) }
-    ensures gate { (front : List ℕ) (test : List ℕ → Bool) → length front ≡ gate → IsTrue (L.tells disk.old) → HasGate (L.leaves disk.old) settled.old front test → HasGate (L.leaves disk.new) settled.new front test }
-    ensures crash { (front : List ℕ) (test : List ℕ → Bool) → length front ≡ gate → IsTrue (L.tells disk.old) → HasGate (L.leaves disk.old) settled.old front test
-        → Moves L.clock L.leaves L.left_since (λ _ c. GateWas settled.old front test c) disk.old disk.new }
+    ensures rest { OnOk result (WhereGate (L.tells disk.old) (L.leaves disk.old) settled.old gate
+        (λ front test. AtRest (L.leaves disk.new) (L.content disk.new) front)) }
+    ensures gate { WhereGate (L.tells disk.old) (L.leaves disk.old) settled.old gate
+        (λ front test. HasGate (L.leaves disk.new) settled.new front test) }
+    ensures crash { WhereGate (L.tells disk.old) (L.leaves disk.old) settled.old gate
+        (λ front test. Moves L.clock L.leaves L.left_since
+        (λ _ c. GateWas settled.old front test c) disk.old disk.new) }
     ensures counts { Counts (L.faults disk.old) (L.faults disk.new) result }
 {
     close_gate(disk, gate, settled)?;
@@ -108,13 +118,19 @@ pub fn write_behind_gate<L: LogDisk>(
     requires fits { gate + 1 < 2 ^ 64 }
     requires settled { settled.old ≡ true }
     ensures tells { L.tells disk.new ≡ L.tells disk.old }
-    ensures size { OnOk result (L.length_of disk.new ≡ max (L.length_of disk.old) (gate + 1 + length tail.now)) }
+    ensures size { OnOk result (
+        L.length_of disk.new ≡ max (L.length_of disk.old) (gate + 1 + length tail.now)) }
     ensures fits { OnOk result (L.length_of disk.new < 2 ^ 64) }
     ensures there { gate < L.length_of disk.new }
-    ensures open { OnOk result ((front : List ℕ) → length front ≡ gate → IsTrue (L.tells disk.old) → AtRest (L.leaves disk.old) (L.content disk.old) front → Opened (L.leaves disk.new) (L.content disk.new) front tail.now) }
-    ensures gate { OnErr result ((front : List ℕ) → length front ≡ gate → IsTrue (L.tells disk.old) → AtRest (L.leaves disk.old) (L.content disk.old) front → HasGate (L.leaves disk.new) settled.new front (equals tail.now)) }
-    ensures crash { (front : List ℕ) → length front ≡ gate → IsTrue (L.tells disk.old) → AtRest (L.leaves disk.old) (L.content disk.old) front
-        → Moves L.clock L.leaves L.left_since (λ _ c. Guarded front c ⊎ Staged front (equals tail.now) c) disk.old disk.new }
+    ensures open { OnOk result (WhereRest (L.tells disk.old) (L.leaves disk.old)
+        (L.content disk.old) gate
+        (λ front. Opened (L.leaves disk.new) (L.content disk.new) front tail.now)) }
+    ensures gate { OnErr result (WhereRest (L.tells disk.old) (L.leaves disk.old)
+        (L.content disk.old) gate
+        (λ front. HasGate (L.leaves disk.new) settled.new front (equals tail.now))) }
+    ensures crash { WhereRest (L.tells disk.old) (L.leaves disk.old) (L.content disk.old) gate
+        (λ front. Moves L.clock L.leaves L.left_since (λ _ c. Guarded front c
+        ⊎ Staged front (equals tail.now) c) disk.old disk.new) }
     ensures counts { Counts (L.faults disk.old) (L.faults disk.new) result }
 {
     write_durably(disk, gate + 1, tail)?;

@@ -1,4 +1,4 @@
--- Answers to the goals of `clear_gate` of qfs_log.
+-- A closed gate stays closed while what stands behind it is cut.
 use Rattle.std.proofs.Common.{◌≡◌, take, ◌∙◌, ◌+◌, sym, subst}
 use Rattle.qfs_disk.specs.Disk.{CutShort}
 use Rattle.qfs_disk.specs.Steps.{joined}

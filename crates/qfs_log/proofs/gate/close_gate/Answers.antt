@@ -1,4 +1,4 @@
--- Answers to the goals of `close_gate` of qfs_log.
+-- A gate that is written closed is closed, or what stands behind it still passes its test.
 use Rattle.std.proofs.Common.{inr, ◌∙◌, sym, subst, true≢false}
 use Rattle.qfs_disk.specs.Disk.{Torn}
 use Rattle.qfs_disk.specs.Steps.{becomes}

@@ -1,4 +1,4 @@
--- Answers to the goals of `set_gate` of qfs_log.
+-- A write and its sync are one step.
 use Rattle.std.proofs.Common.{◌∙◌}
 use Rattle.qfs_disk.specs.Disk.{Torn}
 use Rattle.qfs_disk.specs.Steps.{torn_itself, synced}

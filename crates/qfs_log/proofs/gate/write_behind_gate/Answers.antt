@@ -1,4 +1,4 @@
--- Answers to the goals of `write_behind_gate` of qfs_log.
+-- What is written behind a closed gate counts once the gate is open.
 use Rattle.std.proofs.Common.{◌⊎◌, inl, inr, ◌∙◌, ◌+◌, sym, subst, List, ℕ, length}
 use Rattle.qfs_disk.specs.Disk.{Torn}
 use Rattle.qfs_disk.specs.Steps.{becomes, joined}

@@ -1,4 +1,4 @@
--- Answers to the goals of `append` of qfs_log.
+-- The disks one after the other, and their images in pairs.
 use Rattle.std.proofs.Common.{◌≡◌, ◌⊎◌, inl, inr, ◌∙◌, sym, subst, ap, ℕ, List, Some, None, false, rules, cond, refl}
 use Rattle.qfs_disk.specs.Steps.{joined}
 use Rattle.qfs_log.specs.Gates.{GateWas}

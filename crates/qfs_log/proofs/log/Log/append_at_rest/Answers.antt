@@ -1,4 +1,4 @@
--- Answers to the goals of `append_at_rest` of qfs_log.
+-- A record behind a log at rest.
 use Rattle.std.proofs.Common.{◌∙◌, refl}
 use Rattle.qfs_log.specs.Found.{front_text}
 use Rattle.qfs_log.proofs.Logs.{next_current}

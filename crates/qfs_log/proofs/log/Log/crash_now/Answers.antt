@@ -1,4 +1,4 @@
--- Answers to the goals of `crash_now` of qfs_log.
+-- A pair of images of now is one that a log that stands may leave.
 use Rattle.qfs_log.specs.Log.{MayBe}
 use Rattle.qfs_log.proofs.Logs.{current_now, other_now, pair_before, now_by_sides}
 use Rattle.qfs_log.proofs.log.Log.crash_now.Goals as goal

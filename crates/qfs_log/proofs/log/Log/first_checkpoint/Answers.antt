@@ -1,4 +1,4 @@
--- Answers to the goals of `first_checkpoint` of qfs_log.
+-- Nothing, or the checkpoint.
 use Rattle.std.proofs.Common.{◌≡◌, ◌⊎◌, inl, inr, ◌∙◌, refl, subst, ℕ, List, [], ◌∷◌, ◌++◌, length, Some, false, rules, arith}
 use Rattle.qfs_disk.specs.Steps.{joined}
 use Rattle.qfs_log.specs.Gates.{GateWas, HasGate, Guarded, Staged, equals}

@@ -1,4 +1,4 @@
--- Answers to the goals of `repair` of qfs_log.
+-- The tail goes, and what stands before it stays.
 use Rattle.std.proofs.Common.{◌∙◌, sym, subst, None, true≢false}
 use Rattle.qfs_log.specs.Gates.{GateIs}
 use Rattle.qfs_log.specs.Found.{front_text}

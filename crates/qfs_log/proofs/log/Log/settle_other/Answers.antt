@@ -1,4 +1,4 @@
--- Answers to the goals of `settle_other` of qfs_log.
+-- The other disk's gate is closed, and the rival with it.
 use Rattle.std.proofs.Common.{[], ◌∙◌, refl, sym, subst, None}
 use Rattle.qfs_log.specs.Gates.{GateIs}
 use Rattle.qfs_log.specs.Log.{other_test}
