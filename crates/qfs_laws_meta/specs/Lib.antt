@@ -25,3 +25,4 @@ pub mod RequestsAnswer
 pub mod GrantsAnswer
 pub mod StepsAnswer
 pub mod FileRequests
+pub mod DroppedActors
