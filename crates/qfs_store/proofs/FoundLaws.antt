@@ -21,7 +21,7 @@ use Rattle.qfs_model_store.specs.Stands.{IsRecordOf, HoldsUnder, StandsFor}
 use Rattle.qfs_record.specs.Part.{AreBytes}
 use Rattle.qfs_record.specs.ChunkRecord.{chunk_record}
 use Rattle.qfs_store.specs.Known.{Sizes, size_of, sizes_in}
-use Rattle.qfs_store.specs.Serves.{has_strays}
+use Rattle.qfs_store.specs.Serves.{has_leftovers}
 use Rattle.qfs_store.specs.Start.{front_bytes, copy_under, AreFronts, copies_in, fronts}
 use Rattle.qfs_store.specs.declared.copies.CopySize.{CopySize}
 use Rattle.qfs_store.proofs.EntryLaws.{behind_none, same_entries}
@@ -230,7 +230,7 @@ reads_down server down = ap (λ (b : Bool). cond b 0 (sum_by copy_head server.co
 -- what is read of a device of a stopped server
 pub record ReadsAs (held : Held) (server : Server) : Type 0 where
   pub least : start_reads server ≤ fronts held.contents
-  pub exact : has_strays held server ≡ false → start_reads server ≡ fronts held.contents
+  pub exact : has_leftovers held server ≡ false → start_reads server ≡ fronts held.contents
 
 pub reads_as : (stripe : ℕ) (held : Held) (server : Server) → StandsFor stripe held server → server.up ≡ false → IsStrictlySortedBy key_cmp (keys_of held.contents)
     → AreFronts held.contents → copies_in stripe held.contents ≡ sizes_in server.copies → ReadsAs held server

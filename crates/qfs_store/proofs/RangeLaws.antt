@@ -52,7 +52,7 @@ pub range_lies : (key : ChunkKey) (life from : ℕ) (room : List ℕ) (before : 
 range_lies key life from room before size due sound there held told_is =
     let passed = fetch_passed before.known due.now key life from room due.none in
     let reached : reaches (from + length room) (Some size) ≡ true = ap (reaches (from + length room)) (sym there) ∙ passed.1 in
-    elim (sound.grounded held told_is) [
+    elim (sound.consistent held told_is) [
       | inl stood ↦
           copy_part_of before.stripe held key size from (length room) (value_at key_cmp stood.0.copies key) (stood.1.stands.keys key)
           (sym (size_at stood.0.copies key) ∙ ap (λ (sizes : Sizes). value_at key_cmp sizes key) (sym stood.1.copies) ∙ there) reached
