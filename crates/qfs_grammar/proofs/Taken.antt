@@ -86,7 +86,7 @@ taken_phase so words none phases is few same =
 pub taken_actor : (so : SoFar) (words : Words) (word : List ℕ) (n : ℕ) (phases : List (List (List Command))) → one_word words ≡ Ok word
     → Ok n ≡ number_in (so.actors + 1) (so.actors + 1) word → so.actors < MOST_ACTORS → phases ≡ with_actor so.script.phases
     → take_actor so words
-        ≡ Ok (record so { place = Behind.Actor; script = record so.script { phases = phases }; actors = so.actors + 1; commands = 0 })
+    ≡ Ok (record so { place = Behind.Actor; script = record so.script { phases = phases }; actors = so.actors + 1; commands = 0 })
 unfolding take_actor with_next_actor
 taken_actor so words word n phases one is few same =
     let last = λ (v : ℕ). if_kept (nat_lt so.actors MOST_ACTORS) Cause.Limit (with_next_actor so) in
@@ -107,24 +107,24 @@ pub taken_command : (so : SoFar) (word : CommandWord) (words : Words) (command :
     → command_of so.script.servers word words ≡ Ok command → len ≡ put_len command
     → Some counts ≡ counted so.script.layout (counts_of so) len → phases ≡ with_command command so.script.phases
     → take_command so word words
-        ≡ Ok (record so {
-            place = Behind.Actor;
-            script = record so.script { phases = phases };
-            commands = counts.commands;
-            blocks = counts.blocks;
-            chunk_bytes = counts.chunk_bytes;
-        })
+    ≡ Ok (record so {
+      place = Behind.Actor;
+      script = record so.script { phases = phases };
+      commands = counts.commands;
+      blocks = counts.blocks;
+      chunk_bytes = counts.chunk_bytes;
+    })
 unfolding take_command with_next_command keeps_limits
 taken_command so word words command len counts phases is long some same =
     let found : Some counts ≡ counted so.script.layout (counts_of so) (put_len command) = some ∙ ap (counted so.script.layout (counts_of so)) long in
     let now = with_put so.script.layout (counts_of so) (put_len command) in
     let are = counts_are (keeps so.script.layout now (put_len command)) now counts found in
     let whole = λ (p : List (List (List Command))) (c : Counts). record so {
-        place = Behind.Actor;
-        script = record so.script { phases = p };
-        commands = c.commands;
-        blocks = c.blocks;
-        chunk_bytes = c.chunk_bytes;
+      place = Behind.Actor;
+      script = record so.script { phases = p };
+      commands = c.commands;
+      blocks = c.blocks;
+      chunk_bytes = c.chunk_bytes;
     } in
     step (command_of so.script.servers word words) command
     (λ c. if_kept (keeps_limits (with_next_command so c) c) Cause.Limit (with_next_command so c)) is
@@ -136,7 +136,7 @@ taken_command so word words command len counts phases is long some same =
 
 ordered_at : (so : SoFar) (read : Said (List StepRun)) (steps : List Step) → (read >>= (λ runs. Ok (steps_of_runs runs))) ≡ Ok steps
     → (read >>= (λ runs. Ok (with_head so Behind.Order (record so.script { order = Some (steps_of_runs runs) }))))
-        ≡ Ok (with_head so Behind.Order (record so.script { order = Some steps }))
+    ≡ Ok (with_head so Behind.Order (record so.script { order = Some steps }))
 ordered_at so (Ok runs) steps is =
     let same : steps_of_runs runs ≡ steps = cc is in
     ap (λ (order : List Step). Ok (with_head so Behind.Order (record so.script { order = Some order }))) same

@@ -107,7 +107,11 @@ fn whole_script(replays: bool, so_far: SoFar) -> Result<Script, ScriptCause>
 
 /// Reads the lines of a script.
 #[tactic(auto, unfolding(qfs_model_grammar::specs::ReadScript::script_of_lines))]
-fn script_of_lines(alloc: Global, replays: bool, lines: &mut Lines<'_>) -> Result<Script, ScriptError>
+fn script_of_lines(
+    alloc: Global,
+    replays: bool,
+    lines: &mut Lines<'_>,
+) -> Result<Script, ScriptError>
     ensures ok { IfOk result (λ script. script_of_lines replays lines.old ≡ Ok script) }
     ensures bad { IfErr result (TellsBadLine (script_of_lines replays lines.old)) }
 {

@@ -47,12 +47,12 @@ impl Model for SoFar {
     ghost Value = { SoFar };
 
     ghost view = { λ it. record {
-        place = place_meant it.place;
-        script = it.script;
-        actors = it.actors;
-        commands = it.counts.commands;
-        blocks = it.counts.blocks;
-        chunk_bytes = it.counts.chunk_bytes;
+      place = place_meant it.place;
+      script = it.script;
+      actors = it.actors;
+      commands = it.counts.commands;
+      blocks = it.counts.blocks;
+      chunk_bytes = it.counts.chunk_bytes;
     } };
 
     ghost invariant = { λ it. (it.actors ≤ 64) × AreKept it.counts };

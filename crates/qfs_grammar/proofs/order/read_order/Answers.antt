@@ -10,7 +10,7 @@ loop-word-preserved c =
     c.loop-word.invariant
     ∙ ap (λ (words : List (List ℕ)). after c.loop-word.order (read_each run_in words)) c.in-Some.ensures
     ∙ one_more _ _ _ _ (sym c.in-Ok.ensures.value)
-    ∙ ap (λ (done : List Step). after done (read_each run_in c.next_word.new.self)) (sym c.in_ok-push_run.ensures.ok)
+    ∙ ap (λ (done : List Step). after done (read_each run_in c.next_word.new.self)) (sym c.in_ok-push_run-in-Ok.ensures.ok)
 
 pub returns-in-Err : goal.returns-in-Err
 returns-in-Err c =

@@ -9,4 +9,4 @@ pub returns : goal.returns
 unfolding with_head place_meant
 returns c =
     ap (λ (so : SoFar). take_command so (command_meant c.args.word) c.args.words.now) (sym c.self.view_is)
-    ∙ taken_command _ _ _ _ _ _ _ c.in_ok-command.ensures c.put_len.ensures.value c.in-Some.ensures.value c.in_ok-push_command.ensures
+    ∙ taken_command _ _ _ _ _ _ _ c.in_ok-command.ensures c.put_len-len.ensures.value c.in-Some.ensures.value c.in_ok-push_command.ensures
