@@ -1,0 +1,3 @@
+pub mod Images
+pub mod PastLaws
+pub mod Pushed

@@ -1,0 +1,10 @@
+pub mod Parts
+pub mod Gates
+pub mod Results
+pub mod Found
+pub mod Pairs
+pub mod Logs
+pub mod Read
+pub mod Opening
+pub mod Load
+pub mod Spells

@@ -1,0 +1,4 @@
+pub mod Gates
+pub mod Found
+pub mod Log
+pub mod Spells
