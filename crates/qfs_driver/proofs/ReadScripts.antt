@@ -4,7 +4,7 @@ use Rattle.std.specs.Prelude.{flat_map, All, ◌^◌}
 use Rattle.qfs_base.specs.Table.{Each}
 use Rattle.qfs_base.specs.declared.command.Command.{Command}
 use Rattle.qfs_base.specs.declared.script.Script.{Script}
-use Rattle.qfs_model_script.proofs.SmallPuts.{each_then}
+use Rattle.qfs_base.specs.EachLaws.{each_weaker}
 use Rattle.qfs_script.proofs.ScriptSaid.{IsFew, IsPlain, few_enough, read_script_says}
 use Rattle.qfs_script.specs.Script.{read_lines}
 use Rattle.std.proofs.lemmas.List.Elements.{All-nil, All-cons}
@@ -37,7 +37,7 @@ read_script_is_first lines script is =
         most = said.head_is.most;
         alone = refl;
         few = few_enough (length said.commands) said.are.room;
-        each = each_then IsFew IsFirst (λ command few. few_first command few.plain) said.commands said.are.each;
+        each = each_weaker IsFew IsFirst (λ command few. few_first command few.plain) said.commands said.are.each;
       };
       plain = refl;
     })

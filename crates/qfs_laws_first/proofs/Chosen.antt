@@ -11,6 +11,7 @@ use Rattle.std.proofs.lemmas.Bool.Decides.{nat_tests}
 use Rattle.std.specs.BTreeSet.{insert_key}
 use Rattle.std.specs.declared.cmp.Ordering.TheVariants.{Less, Equal, Greater}
 use Rattle.std.specs.Ordering.{nat_cmp, match_ordering}
+use Rattle.qfs_base.specs.EachLaws.{each_filter}
 use Rattle.qfs_base.specs.NumberSet.{has, with_member}
 use Rattle.qfs_base.specs.Table.{Each}
 use Rattle.qfs_base.specs.declared.chunk.Copy.{Copy}
@@ -76,14 +77,6 @@ enumerated from (load ∷ loads) =
     let rest : Each (IsNumbered (from + 1) (from + length (load ∷ loads))) (enumerate_from (from + 1) loads) =
     subst (λ to. Each (IsNumbered (from + 1) to) (enumerate_from (from + 1) loads)) to (enumerated (from + 1) loads) in
     ((omega arith, omega arith), each_weaker _ _ _ (numbers-wider from (from + length (load ∷ loads))) rest)
-
-each_filter-one : {X : Type 0} (P : X → Type 0) (test : X → Bool) (x : X) (xs : List X) (b : Bool) → test x ≡ b → P x → Each P (filter test xs) → Each P (filter test (x ∷ xs))
-each_filter-one P test x xs true is here rest = rw is (here, rest)
-each_filter-one P test x xs false is here rest = rw is rest
-
-pub each_filter : {X : Type 0} (P : X → Type 0) (test : X → Bool) (xs : List X) → Each P xs → Each P (filter test xs)
-each_filter P test [] each = tt
-each_filter P test (x ∷ xs) each = each_filter-one P test x xs (test x) refl each.0 (each_filter P test xs each.1)
 
 lighter-one : (P : Numbered → Type 0) (best next : Numbered) → P best → P next → P (lighter best next)
 unfolding lighter

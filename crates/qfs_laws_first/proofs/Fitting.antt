@@ -3,6 +3,7 @@ use Rattle.std.proofs.Common.{◌≡◌, ℕ, ◌==◌, Bool, true, false, cond,
 use Rattle.std.proofs.lemmas.Bool.Decides.{nat_tests}
 use Rattle.std.specs.Prelude.{IsTrue}
 use Rattle.std.specs.List.{list_all, list_any}
+use Rattle.std.proofs.lemmas.Bool.{and_parts}
 use Rattle.qfs_base.specs.declared.command.Command.{Command}
 use Rattle.qfs_base.specs.declared.history.Outcome.{Outcome}
 use Rattle.qfs_base.specs.declared.history.Outcome.TheVariants as Ended
@@ -18,7 +19,6 @@ use Rattle.qfs_model_world.proofs.OneActor.{done_step, turn-one}
 use Rattle.qfs_laws_first.specs.FirstPath.{IsFirstPath, AllDone}
 use Rattle.qfs_laws_first.proofs.Laws.{next, run-none}
 use Rattle.qfs_laws_first.proofs.Runs.{Run}
-use Rattle.qfs_laws_first.proofs.Tests.{and-both}
 
 done-outcome : (outcome : Outcome) → same_outcome outcome Ended.Done ≡ true → outcome ≡ Ended.Done
 unfolding same_outcome
@@ -36,7 +36,7 @@ module _ (script : Script) (commands : List Command) (first_path : IsFirstPath s
   unfolding may_come
   step-is steps w step r may done =
       let turns = turn-one script w commands r.actor first_path.alone r.alone in
-      let any : list_any (λ n. n == step.actor) (turn script w) ≡ true = (and-both _ _ may).0 in
+      let any : list_any (λ n. n == step.actor) (turn script w) ≡ true = (and_parts _ _ may).0 in
       let actor : r.actor.number ≡ step.actor = turn-of r.actor.number step.actor (has_finished r.actor) (ap (list_any (λ n. n == step.actor)) (sym turns) ∙ any) in
       let one : step.actor ≡ 1 = sym actor ∙ r.number in
       λ i. record { actor = one i; outcome = done i }
@@ -45,8 +45,8 @@ module _ (script : Script) (commands : List Command) (first_path : IsFirstPath s
   unfolding fits_from is_done
   done-from [] steps w r fit done = tt
   done-from (step ∷ order) steps w r fit done =
-      let parts = and-both _ _ fit in
-      let parts_done = and-both _ _ done in
+      let parts = and_parts _ _ fit in
+      let parts_done = and_parts _ _ done in
       let is : step ≡ done_step = step-is steps w step r parts.0 (done-outcome step.outcome parts_done.0) in
       let rest : fits_from script (move w done_step) order ≡ true = ap (λ step. fits_from script (move w step) order) (sym is) ∙ parts.1 in (
         is,

@@ -3,6 +3,7 @@ use Rattle.std.proofs.Common.{◌≡◌, ℕ, ◌+◌, ◌*◌, ◌<◌, ◌≤�
 use Rattle.std.proofs.lemmas.Bool.{cases_lt}
 use Rattle.std.proofs.lemmas.List.{append-nil}
 use Rattle.std.specs.Prelude.{slice_get}
+use Rattle.qfs_base.specs.EachLaws.{each_append}
 use Rattle.qfs_base.specs.FileReplies.{reply_at}
 use Rattle.qfs_base.specs.NameTree.{PathNames, look_refusal}
 use Rattle.qfs_base.specs.Rules.{tries_of, rules_of}
@@ -54,7 +55,6 @@ use Rattle.qfs_laws_first.proofs.Reports.{HasPlace, borne-more, place-more, open
 use Rattle.qfs_laws_first.proofs.Runs.{CanFetch, Fetching, Run, Next, goes-on-with, goes-on-to, ends-with, told-then, refused-so}
 use Rattle.qfs_laws_first.proofs.Servers.{IsUp, fetch-hands}
 use Rattle.qfs_laws_first.proofs.States.{first_key, first_copy, IsFile, Between}
-use Rattle.qfs_laws_first.proofs.Tables.{each_append}
 use Rattle.qfs_laws_first.proofs.Trees.{ClosedAt, closed-at}
 use Rattle.qfs_laws_first.proofs.Works.{anew, at_fetch, get-asks, get-refused, get-goes_on, ListsSlots, source-at, fetch-asks, fetch-goes_on, release-asks, release-done, release-gone}
 

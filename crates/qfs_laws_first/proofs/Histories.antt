@@ -1,11 +1,13 @@
 -- A file history with one entry more: it stays legal, and what is said of its places stays so.
-use Rattle.std.proofs.Common.{◌≡◌, ℕ, zero, suc, ◌+◌, ◌≤◌, ◌==◌, true, false, ◌&&◌, List, [], ◌∷◌, ◌++◌, length, map, Option, Some, None, refl, sym, ap, subst, ◌∙◌, arith}
+use Rattle.std.proofs.Common.{◌≡◌, ℕ, ◌+◌, ◌≤◌, ◌==◌, true, false, ◌&&◌, List, [], ◌∷◌, ◌++◌, length, map, Option, Some, None, refl, sym, ap, subst, ◌∙◌, arith}
 use Rattle.std.proofs.lemmas.Bool.Decides.{nat_tests}
 use Rattle.std.proofs.lemmas.List.{append-nil, take-append-le}
 use Rattle.std.proofs.lemmas.List.Elements.{filter_map-append}
 use Rattle.std.proofs.lemmas.List.Sums.{fold-append}
-use Rattle.std.specs.Prelude.{IsTrue, fold, slice_get, is_none}
+use Rattle.std.specs.Prelude.{IsTrue, fold, is_none}
 use Rattle.std.specs.List.{list_any, IsDistinct, AllByRecursion}
+use Rattle.std.proofs.lemmas.Bool.{eq-eqb}
+use Rattle.qfs_base.specs.EachLaws.{each_append}
 use Rattle.qfs_base.specs.FileReplies.{file_reply, reply_at}
 use Rattle.qfs_base.specs.Files.{Puts, FileEntry, entry_path, FollowFrom, files_after, files_of, may_follow, creates, created_count, closing_command, closing_commands, same_pair, is_unclosed_entry, files_standing}
 use Rattle.qfs_base.specs.NameTree.{PathNames, added, add_refusal}
@@ -19,8 +21,7 @@ use Rattle.qfs_model_meta.specs.TreeRows.{standing, file_row, add_row, close_fil
 use Rattle.qfs_model_world.specs.FileHistory.{path_if, created_in, created_path, IsOwnPut, IsHistoryOf}
 use Rattle.qfs_model_world.specs.Puts.{put_path, puts_of}
 use Rattle.qfs_model_meta.specs.Sound.{content_of, file_entry}
-use Rattle.qfs_laws_first.proofs.Tables.{each_append}
-use Rattle.qfs_laws_first.proofs.Tests.{same-number, and-false}
+use Rattle.qfs_laws_first.proofs.Tests.{and-false}
 use Rattle.qfs_laws_first.proofs.Trees.{kinds, standing-files, map-added, map-closed, MayClose}
 
 -- ---- one entry more
@@ -66,15 +67,6 @@ first_of-last answer (z ∷ zs) x y none last = one (answer z) refl (first_of-la
     one (Some other) is rest = let some : Some other ≡ None = rw is at none in absurd (cc)
 
 -- ---- what a reply with a place says
-
-pub slice_get-more : {X : Type 0} (xs ys : List X) (k : ℕ) (x : X) → slice_get xs k ≡ Some x → slice_get (xs ++ ys) k ≡ Some x
-slice_get-more [] ys k x found = absurd (cc)
-slice_get-more (z ∷ zs) ys zero x found = found
-slice_get-more (z ∷ zs) ys (suc k) x found = slice_get-more zs ys k x found
-
-pub slice_get-last : {X : Type 0} (xs : List X) (x : X) → slice_get (xs ++ x ∷ []) (length xs) ≡ Some x
-slice_get-last [] x = refl
-slice_get-last (y ∷ ys) x = slice_get-last ys x
 
 -- a reply at a place of a history is its reply there when there is more
 pub reply_at-more : (puts : Puts) (history more : List Entry) (place : ℕ) (command : FileCommand) → place ≤ length history
@@ -125,7 +117,7 @@ written-created script history tree next_file commands command len path w free =
     let puts : Puts = puts_of script in
     let row : TreeRow = file_row path next_file 1 command len in
     let entry : Entry = Wrote.Created next_file path in
-    let number : (next_file == created_count history + 1) ≡ true = rw w.count (same-number (created_count history + 1)) in
+    let number : (next_file == created_count history + 1) ≡ true = rw w.count (eq-eqb (created_count history + 1) (created_count history + 1) refl) in
     let new : is_none (add_refusal (files_standing (files_of puts history)) path) ≡ true = rw (w.files, standing-files puts tree, free) refl in
     let may : IsTrue (may_follow (created_count history) (files_of puts history) entry) = rw (number, new) refl in
     record {
@@ -193,7 +185,7 @@ written-closed script history tree next_file commands file path w above may_clos
 pub created-now : (file : ℕ) (path : PathNames) (history : List Entry) → created_path file history ≡ None → created_path file (history ++ Wrote.Created file path ∷ []) ≡ Some path
 unfolding created_path created_in path_if
 created-now file path history none =
-    let own : (file == file) ≡ true = same-number file in
+    let own : (file == file) ≡ true = eq-eqb file file refl in
     first_of-last (created_in file) history (Wrote.Created file path) path none (rw own refl)
 
 -- the start

@@ -1,6 +1,6 @@
 -- The laws of the first path, from how its world stands after each step.
 use Rattle.std.proofs.Common.{◌≡◌, ℕ, zero, suc, ◌+◌, ◌<◌, ◌≤◌, true, List, [], ◌∷◌, ◌++◌, length, replicate, Option, Some, None, refl, sym, ap, subst, ◌∙◌, arith, inl, inr, append_assoc}
-use Rattle.std.proofs.lemmas.Bool.{eqb-true}
+use Rattle.std.proofs.lemmas.Bool.{eqb-true, and_parts}
 use Rattle.std.proofs.lemmas.List.{append-nil}
 use Rattle.std.proofs.lemmas.Option.{slice_get_within}
 use Rattle.std.specs.Prelude.{slice_get, fold, flat_map}
@@ -47,7 +47,6 @@ use Rattle.qfs_laws_first.proofs.Moves.{request-none}
 use Rattle.qfs_laws_first.proofs.PutRuns.{command-at, put-starts, put-stores-on, put-goes}
 use Rattle.qfs_laws_first.proofs.Reports.{IsBorneOut, IsGood, IsReadBy, opened_in, ReadsWhereOpened, numbered-more}
 use Rattle.qfs_laws_first.proofs.Rows.{each_at, each_weaker}
-use Rattle.qfs_laws_first.proofs.Tests.{and-both}
 use Rattle.qfs_laws_first.proofs.Runs.{Resting, Run, Next, no-step}
 use Rattle.qfs_laws_first.proofs.Servers.{IsUp, stored_at}
 use Rattle.qfs_laws_first.proofs.States.{Between}
@@ -241,7 +240,7 @@ reply-numbered P xs (suc k) x each found =
 
 own-step-of : (actor number : ℕ) (event : Event) → is_step_of actor number event ≡ true → (event.actor ≡ actor) × (event.command ≡ number)
 unfolding is_step_of
-own-step-of actor number event is = let parts = and-both _ _ is in (eqb-true event.actor actor parts.0, eqb-true event.command number parts.1)
+own-step-of actor number event is = let parts = and_parts _ _ is in (eqb-true event.actor actor parts.0, eqb-true event.command number parts.1)
 
 module _ (script : Script) (commands : List Command) (order : List Step) (r : Run script commands (events script order) (after script order)) where
   report-found : (number : ℕ) (report : Report) → report_of (after script order) 1 number ≡ Some report → numbered r.actor.ended number ≡ Some report

@@ -3,6 +3,8 @@ use Rattle.std.proofs.Common.{◌≡◌, ℕ, ◌+◌, ◌*◌, ◌<◌, ◌≤�
 use Rattle.std.proofs.lemmas.List.{length-append}
 use Rattle.std.specs.Prelude.{is_none}
 use Rattle.std.specs.List.{list_any}
+use Rattle.std.proofs.lemmas.Bool.{eq-eqb}
+use Rattle.qfs_base.specs.EachLaws.{each_append}
 use Rattle.qfs_base.specs.Files.{is_unclosed_content, is_unclosed_entry}
 use Rattle.qfs_base.specs.Rules.{rules_of}
 use Rattle.qfs_base.specs.Table.{Each}
@@ -37,8 +39,8 @@ use Rattle.qfs_laws_first.proofs.MetaSteps.{AreFew, step-makes}
 use Rattle.qfs_laws_first.proofs.Reading.{IsShort, blocks_of-one}
 use Rattle.qfs_laws_first.proofs.Rows.{each_weaker}
 use Rattle.qfs_laws_first.proofs.States.{first_block, first_copy, granted_once, HasCurrent, IsFile, IsRow, Between, Target, target_row, Puts}
-use Rattle.qfs_laws_first.proofs.Tables.{each_test, each_changed, each_append, each_map, each_range, find-none, slot_at-sealed, slot_at-unsealed}
-use Rattle.qfs_laws_first.proofs.Tests.{same-number, own-key}
+use Rattle.qfs_laws_first.proofs.Tables.{each_test, each_changed, each_map, each_range, find-none, slot_at-sealed, slot_at-unsealed}
+use Rattle.qfs_laws_first.proofs.Tests.{own-key}
 use Rattle.qfs_laws_first.proofs.Trees.{MayClose, kinds}
 
 -- the state once the file is closed
@@ -150,7 +152,7 @@ module _ (script : Script) (servers : List Server) (m : MetaImage) (commands : �
 
   is-unclosed : is_unclosed_entry t.file (file_entry (puts_of script) (target_row commands t)) ≡ true
   unfolding is_unclosed_entry file_entry content_of is_unclosed_content file_row
-  is-unclosed = rw (kinds t.file p.target.above).1 (same-number t.file)
+  is-unclosed = rw (kinds t.file p.target.above).1 (eq-eqb t.file t.file refl)
 
   any-unclosed : list_any (is_unclosed_entry t.file) (map (file_entry (puts_of script)) m.tree) ≡ true
   unfolding unclosed_file

@@ -2,6 +2,8 @@
 use Rattle.std.proofs.Common.{◌≡◌, ℕ, zero, suc, ◌+◌, ◌*◌, ◌<◌, ◌≤◌, nat_le, ◌&&◌, true, false, List, [], ◌∷◌, length, Some, None, refl, ap, ◌∙◌, arith}
 use Rattle.std.proofs.lemmas.Bool.Decides.{nat_tests}
 use Rattle.std.proofs.lemmas.List.{length-append}
+use Rattle.std.specs.Cmp.{Equal-is}
+use Rattle.std.proofs.lemmas.Bool.{false_from_ne_true}
 use Rattle.qfs_base.specs.NameTree.{PathNames, row_cmp, added, add_refusal}
 use Rattle.qfs_base.specs.KeyLaws.{block_cmp-Equal}
 use Rattle.qfs_base.specs.Sizes.{MOST_FILE_BYTES}
@@ -32,7 +34,7 @@ use Rattle.qfs_laws_first.proofs.MetaSteps.{refused-file, accepted-file, AreFew,
 use Rattle.qfs_laws_first.proofs.Rows.{each_weaker}
 use Rattle.qfs_laws_first.proofs.States.{first_block, IsRow, Between, Puts}
 use Rattle.qfs_laws_first.proofs.Tables.{each_placed, find-alone, is_slot-same, slot_at-none, grants-none}
-use Rattle.qfs_laws_first.proofs.Tests.{and-false, tie, fails, own-key, same-key, apart-key}
+use Rattle.qfs_laws_first.proofs.Tests.{and-false, own-key, same-key, apart-key}
 
 -- the state once the file is there
 abbrev pub created_state : MetaImage → PathNames → ℕ → ℕ → MetaImage
@@ -70,12 +72,12 @@ module _ (script : Script) (servers : List Server) (m : MetaImage) (commands : �
   -- no slot of the new file has a row
   not-slot : (slot : ℕ) (row : SlotRow) → row.block.file < m.next_file → is_slot (first_block m.next_file) slot row ≡ false
   not-slot slot row below =
-      fails _ (λ is. omega (arith, below, ap (λ (k : BlockId). k.file) (is_slot-same (first_block m.next_file) slot row is).0))
+      false_from_ne_true _ (λ is. omega (arith, below, ap (λ (k : BlockId). k.file) (is_slot-same (first_block m.next_file) slot row is).0))
 
   not-block : (row : SlotRow) → row.block.file < m.next_file → is_of_block (first_block m.next_file) row ≡ false
   unfolding is_of_block
   not-block row below =
-      fails _ (λ is. omega (arith, below, ap (λ (k : BlockId). k.file) (block_cmp-Equal (first_block m.next_file) row.block (tie _ is))))
+      false_from_ne_true _ (λ is. omega (arith, below, ap (λ (k : BlockId). k.file) (block_cmp-Equal (first_block m.next_file) row.block ((Equal-is _).0 is))))
 
   not-unclosed : (row : TreeRow) → row.file < m.next_file → (is_unclosed_of 1 row && has_file m.next_file row) ≡ false
   unfolding has_file

@@ -4,6 +4,7 @@ use Rattle.std.proofs.lemmas.Bool.{cases_lt}
 use Rattle.std.proofs.lemmas.List.{append-nil, length-append}
 use Rattle.std.specs.Prelude.{slice_get}
 use Rattle.std.specs.Option.{option_and_then, option_map}
+use Rattle.qfs_base.specs.ListLaws.{slice_get-last}
 use Rattle.qfs_base.specs.NameTree.{PathNames, add_refusal}
 use Rattle.qfs_base.specs.Rules.{rules_of}
 use Rattle.qfs_base.specs.Shape.{Shape}
@@ -44,7 +45,6 @@ use Rattle.qfs_model_world.specs.World.{World, numbered, renumbered}
 use Rattle.qfs_laws_first.specs.FirstPath.{IsFirstPath}
 use Rattle.qfs_laws_first.proofs.Chosen.{IsChosen}
 use Rattle.qfs_laws_first.proofs.Gets.{put-refused-there}
-use Rattle.qfs_laws_first.proofs.Histories.{slice_get-last}
 use Rattle.qfs_laws_first.proofs.Moves.{work_left-heard, work_left-next, meta_goes_on, meta_ends, chunk_goes_on}
 use Rattle.qfs_laws_first.proofs.PutCloses.{closed_state, close-served, put-closed}
 use Rattle.qfs_laws_first.proofs.PutCreates.{created_state, create-refused, create-made, create-few, put-created}

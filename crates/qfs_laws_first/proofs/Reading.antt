@@ -4,7 +4,7 @@ use Rattle.std.proofs.Math.Nat.{zero-mul, zero-div, sub-zero, div-eq_of_lt, mod-
 use Rattle.std.proofs.Math.Seq.{take-length}
 use Rattle.std.proofs.lemmas.Bool.Decides.{nat_tests}
 use Rattle.std.proofs.lemmas.Grind.{same_number_lists}
-use Rattle.std.proofs.lemmas.List.{append-nil}
+use Rattle.std.proofs.lemmas.List.{append-nil, map-append}
 use Rattle.std.proofs.lemmas.List.FromFn.{length-map-range_with_len, get_or-map-range_with_len, take-map-range_with_len}
 use Rattle.std.specs.Int.{div_ceil}
 use Rattle.std.specs.List.{All, flat_map, range_with_len}
@@ -170,10 +170,6 @@ pieces_to layout bytes slot = map (piece layout bytes) (range_with_len 0 slot)
 range-more : (a n : ℕ) → range_with_len a (n + 1) ≡ range_with_len a n ++ (a + n) ∷ []
 range-more a zero = let x : a + 0 ≡ a = omega arith in rw x refl
 range-more a (suc n) = let x : a + suc n ≡ a + 1 + n = omega arith in let y : suc n + 1 ≡ suc (n + 1) = omega arith in rw (y, x) (ap (λ rest. a ∷ rest) (range-more (a + 1) n))
-
-map-append : {X Y : Type 0} (f : X → Y) (xs ys : List X) → map f (xs ++ ys) ≡ map f xs ++ map f ys
-map-append f [] ys = refl
-map-append f (x ∷ xs) ys = ap (λ rest. f x ∷ rest) (map-append f xs ys)
 
 pub pieces_to-more : (layout : Shape) (bytes : List ℕ) (slot : ℕ) → pieces_to layout bytes slot ++ piece layout bytes slot ∷ [] ≡ pieces_to layout bytes (slot + 1)
 pieces_to-more layout bytes slot =

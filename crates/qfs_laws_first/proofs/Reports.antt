@@ -1,12 +1,15 @@
 -- The replies of an actor so far: what each of them says of the history, that it was placed in a step of its command, and
 -- that each file that was opened is read.
-use Rattle.std.proofs.Common.{◌≡◌, ℕ, zero, suc, ◌+◌, ◌≤◌, ◌==◌, ◌||◌, Bool, true, false, List, [], ◌∷◌, ◌++◌, length, filter, Option, Some, None, refl, sym, ap, subst, ◌∙◌, arith, add-one}
+use Rattle.std.proofs.Common.{◌≡◌, ℕ, zero, suc, ◌+◌, ◌≤◌, ◌==◌, Bool, true, List, [], ◌∷◌, ◌++◌, length, filter, Option, Some, None, refl, sym, ap, subst, ◌∙◌, arith, add-one}
 use Rattle.std.proofs.lemmas.List.{length-append}
 use Rattle.std.proofs.lemmas.List.Elements.{filter-append}
 use Rattle.std.proofs.lemmas.List.Folds.{list_any-append}
 use Rattle.std.specs.Prelude.{IsTrue, IfSome}
 use Rattle.std.specs.List.{list_any, enumerate_from}
+use Rattle.std.proofs.lemmas.Bool.{or_left, or_right, eq-eqb}
+use Rattle.qfs_base.specs.EachLaws.{each_append}
 use Rattle.qfs_base.specs.FileReplies.{reply_at}
+use Rattle.qfs_base.specs.ListLaws.{slice_get-more, slice_get-last}
 use Rattle.qfs_base.specs.Table.{Each}
 use Rattle.qfs_base.specs.declared.command.Command.TheVariants as Does
 use Rattle.qfs_base.specs.declared.command.FileCommand.{FileCommand}
@@ -26,10 +29,8 @@ use Rattle.qfs_model_world.specs.Events.{Event, event_asking, place_before, is_s
 use Rattle.qfs_model_world.specs.Puts.{command_of, puts_of}
 use Rattle.qfs_model_world.specs.World.{World, numbered}
 use Rattle.qfs_model_world.proofs.OneActor.{done_step}
-use Rattle.qfs_laws_first.proofs.Histories.{reply_at-more, slice_get-more, slice_get-last}
+use Rattle.qfs_laws_first.proofs.Histories.{reply_at-more}
 use Rattle.qfs_laws_first.proofs.Rows.{each_weaker}
-use Rattle.qfs_laws_first.proofs.Tables.{each_append}
-use Rattle.qfs_laws_first.proofs.Tests.{same-number}
 
 -- ---- replies
 
@@ -64,30 +65,23 @@ borne-more script history more number command (Says.Refused place refusal) h =
     (omega (arith, h.0, length-append history more), reply_at-more (puts_of script) history more place command h.0 ∙ h.1)
 borne-more script history more number command report h = absurd h
 
-or-left : (a b : Bool) → a ≡ true → (a || b) ≡ true
-or-left a b is = rw is refl
-
-or-right : (a b : Bool) → b ≡ true → (a || b) ≡ true
-or-right true b is = refl
-or-right false b is = is
-
 pub place-more : (steps more : List Event) (number place : ℕ) → HasPlace steps number place → HasPlace (steps ++ more) number place
 unfolding steps_of
 place-more steps more number place has =
     let at : Event → Bool = λ event. place_before event == place in
     ap (list_any at) (filter-append (is_step_of 1 number) steps more)
     ∙ list_any-append at (filter (is_step_of 1 number) steps) (filter (is_step_of 1 number) more)
-    ∙ or-left _ _ has
+    ∙ or_left _ _ has
 
 -- the last step is one of the command, and took place there
 place-last : (steps : List Event) (event : Event) (number : ℕ) → is_step_of 1 number event ≡ true → HasPlace (steps ++ event ∷ []) number (place_before event)
 unfolding steps_of
 place-last steps event number own =
     let at : Event → Bool = λ other. place_before other == place_before event in
-    let here : list_any at (filter (is_step_of 1 number) (event ∷ [])) ≡ true = rw (own, same-number (place_before event)) refl in
+    let here : list_any at (filter (is_step_of 1 number) (event ∷ [])) ≡ true = rw (own, eq-eqb (place_before event) (place_before event) refl) refl in
     ap (list_any at) (filter-append (is_step_of 1 number) steps (event ∷ []))
     ∙ list_any-append at (filter (is_step_of 1 number) steps) (filter (is_step_of 1 number) (event ∷ []))
-    ∙ or-right _ _ here
+    ∙ or_right _ _ here
 
 placed-more : (steps more : List Event) (number : ℕ) (place : Option ℕ) → IfSome place (HasPlace steps number) → IfSome place (HasPlace (steps ++ more) number)
 placed-more steps more number None h = tt
@@ -175,7 +169,7 @@ opening-here w actor request o bytes replied place other opened =
 
 own-step : (w : World) (actor : Actor) (request : NodeRequest) → is_step_of 1 (length actor.ended + 1) (event_asking w done_step actor request) ≡ true
 unfolding is_step_of event_asking
-own-step w actor request = rw (same-number 1, same-number (length actor.ended + 1)) refl
+own-step w actor request = rw (eq-eqb 1 1 refl, eq-eqb (length actor.ended + 1) (length actor.ended + 1) refl) refl
 
 place-kept : (w : World) (actor : Actor) (request : NodeRequest) → place_before (event_asking w done_step actor request) ≡ length w.meta.history
 unfolding event_asking

@@ -2,9 +2,9 @@
 use Rattle.std.proofs.Common.{◌≡◌, ℕ, ◌+◌, ◌≤◌, ◌==◌, nat_le, Bool, true, false, cond, List, [], length, take, drop, replicate, Option, Some, None, refl, sym, ap, subst, ◌∙◌, arith}
 use Rattle.std.proofs.Math.Seq.{take-length}
 use Rattle.std.proofs.lemmas.List.{length-replicate}
-use Rattle.std.proofs.lemmas.Bool.{eqb-true}
+use Rattle.std.proofs.lemmas.Bool.{eqb-true, false_from_ne_true}
 use Rattle.std.proofs.lemmas.Bool.Decides.{nat_tests}
-use Rattle.std.specs.Cmp.{tied_itself}
+use Rattle.std.specs.Cmp.{tied_itself, Equal-is}
 use Rattle.std.specs.Ordering.{is_eq}
 use Rattle.std.specs.Option.{option_and_then}
 use Rattle.qfs_base.specs.Key.{key_cmp}
@@ -19,7 +19,6 @@ use Rattle.qfs_model_server.specs.Chunk.{Chunk}
 use Rattle.qfs_model_server.specs.Server.{Server, bytes_in, has_range, unless_away, chunk_refusal, chunk_served, chunk_attempted, chunk_decided, server_step}
 use Rattle.qfs_model_world.specs.World.{numbered, renumbered}
 use Rattle.qfs_model_world.proofs.OneStep.{set-there, set-elsewhere}
-use Rattle.qfs_laws_first.proofs.Tests.{tie, fails}
 
 -- ---- servers
 
@@ -98,7 +97,7 @@ pub stored-other : (servers : List Server) (number other : ℕ) (server : Server
 stored-other servers number other server key at bytes there differ =
     stored-same servers number other server (with_copy server key bytes) at there
     (value_at-with_entry key_cmp_total server.copies key (first_chunk bytes) at
-    ∙ ap (λ b. cond b (Some (first_chunk bytes)) (value_at key_cmp server.copies at)) (fails _ (λ is. differ (key_cmp-Equal at key (tie _ is)))))
+    ∙ ap (λ b. cond b (Some (first_chunk bytes)) (value_at key_cmp server.copies at)) (false_from_ne_true _ (λ is. differ (key_cmp-Equal at key ((Equal-is _).0 is)))))
 
 -- what is stored on a server is what it has
 pub stored-here : (servers : List Server) (number : ℕ) (server : Server) (key : ChunkKey) (found : Option Chunk)

@@ -1,11 +1,12 @@
 -- What placing a row in a table, and changing rows of it, leaves of what each row holds, and of the records of slots.
-use Rattle.std.proofs.Common.{◌≡◌, ℕ, zero, suc, ◌+◌, ◌<◌, ◌≤◌, Bool, true, false, cond, List, [], ◌∷◌, ◌++◌, length, map, filter, find, Option, Some, None, unwrap_or, refl, sym, ap, ◌∙◌, arith}
-use Rattle.std.specs.Cmp.{IsTotalOrder, nat_cmp_total, on_total, then_total, ranked, tied_itself}
+use Rattle.std.proofs.Common.{◌≡◌, ℕ, zero, suc, ◌+◌, ◌<◌, ◌≤◌, Bool, true, false, cond, List, [], ◌∷◌, length, map, filter, find, Option, Some, None, unwrap_or, refl, sym, ap, ◌∙◌, arith}
+use Rattle.std.specs.Cmp.{IsTotalOrder, nat_cmp_total, on_total, then_total, ranked, tied_itself, Equal-is}
 use Rattle.std.specs.Option.{option_map}
 use Rattle.std.specs.List.{range_with_len}
 use Rattle.std.specs.Ordering.{nat_cmp, is_eq, ordering_then}
 use Rattle.std.specs.declared.cmp.Ordering.{Ordering}
 use Rattle.std.specs.declared.cmp.Ordering.TheVariants.{Less, Equal, Greater}
+use Rattle.std.proofs.lemmas.Bool.{false_from_ne_true}
 use Rattle.qfs_base.specs.KeyLaws.{block_cmp-Equal, block_cmp_total}
 use Rattle.qfs_base.specs.Table.{Each, place, place_before, change_row, change_where}
 use Rattle.qfs_base.specs.declared.chunk.BlockId.{BlockId}
@@ -13,7 +14,6 @@ use Rattle.qfs_base.specs.declared.image.Grant.{Grant}
 use Rattle.qfs_base.specs.declared.image.SlotRecord.{SlotRecord}
 use Rattle.qfs_base.specs.declared.image.SlotRow.{SlotRow}
 use Rattle.qfs_model_meta.specs.Slots.{never_granted, slot_cmp, is_slot, is_of_block, is_of_file, slot_at, granted_copy, grants_of_block, sealed_slot, change_state, with_slot, seal_file}
-use Rattle.qfs_laws_first.proofs.Tests.{tie, fails}
 
 -- ---- any table
 
@@ -51,10 +51,6 @@ pub find-none : {X : Type 0} (test : X → Bool) (xs : List X) → Each (λ x. t
 find-none test [] each = refl
 find-none test (x ∷ xs) each = rw each.0 (find-none test xs each.1)
 
-pub each_append : {X : Type 0} (P : X → Type 0) (xs ys : List X) → Each P xs → Each P ys → Each P (xs ++ ys)
-each_append P [] ys a b = b
-each_append P (x ∷ xs) ys a b = (a.0, each_append P xs ys a.1 b)
-
 pub each_map : {X Y : Type 0} (P : Y → Type 0) (f : X → Y) (xs : List X) → Each (λ x. P (f x)) xs → Each P (map f xs)
 each_map P f [] each = tt
 each_map P f (x ∷ xs) each = (each.0, each_map P f xs each.1)
@@ -89,7 +85,7 @@ then-Equal Greater b e = absurd (cc)
 pub is_slot-same : (block : BlockId) (slot : ℕ) (row : SlotRow) → is_slot block slot row ≡ true → (block ≡ row.block) × (slot ≡ row.slot)
 unfolding is_slot
 is_slot-same block slot row is =
-    let parts = then-Equal _ _ (tie _ is) in
+    let parts = then-Equal _ _ ((Equal-is _).0 is) in
     (block_cmp-Equal block row.block parts.0, ranked slot row.slot Equal (sym parts.1))
 
 pub is_slot-self : (block : BlockId) (slot : ℕ) (state : SlotRecord) → is_slot block slot (record { block = block; slot = slot; state = state }) ≡ true
@@ -100,7 +96,7 @@ is_slot-self block slot state = ap is_eq (tied_itself slot_cmp_total (record { b
 pub is_slot-other : (block other : BlockId) (slot number : ℕ) (state : SlotRecord) → (block.file ≡ other.file → slot ≡ number → ⊥)
     → is_slot other number (record { block = block; slot = slot; state = state }) ≡ false
 is_slot-other block other slot number state differ =
-    fails _ (λ is. let same = is_slot-same other number _ is in differ (ap (λ (k : BlockId). k.file) (sym same.0)) (sym same.1))
+    false_from_ne_true _ (λ is. let same = is_slot-same other number _ is in differ (ap (λ (k : BlockId). k.file) (sym same.0)) (sym same.1))
 
 abbrev record_in : Option SlotRow → SlotRecord
 record_in found = unwrap_or (option_map (λ (row : SlotRow). row.state) found) never_granted

@@ -1,6 +1,6 @@
 -- The name tree of the metaserver, and the files of the history: a tree of files that a history gives follows the same rules.
 use Rattle.std.proofs.Common.{◌≡◌, ℕ, zero, suc, ◌≤◌, ◌==◌, Bool, true, false, true≢false, cond, List, [], ◌∷◌, map, find, Option, Some, None, refl, sym, ap, subst, ◌∙◌, arith}
-use Rattle.std.proofs.lemmas.Bool.{eqb-true}
+use Rattle.std.proofs.lemmas.Bool.{eqb-true, false_from_ne_true, eq-eqb}
 use Rattle.std.specs.Option.{option_map, option_map_or, option_or}
 use Rattle.std.specs.Ordering.{nat_cmp, is_eq}
 use Rattle.std.specs.declared.cmp.Ordering.{Ordering}
@@ -16,7 +16,7 @@ use Rattle.qfs_base.specs.declared.reply.TreeRefusal.{TreeRefusal}
 use Rattle.qfs_base.specs.declared.reply.TreeRefusal.TheVariants as Not
 use Rattle.qfs_model_meta.specs.Sound.{content_of, file_entry}
 use Rattle.qfs_model_meta.specs.TreeRows.{kind_of, standing, row_path, has_file, close_row, add_row, close_file}
-use Rattle.qfs_laws_first.proofs.Tests.{same-number, fails, own-key, same-key}
+use Rattle.qfs_laws_first.proofs.Tests.{own-key, same-key}
 
 -- ---- what stands in the tree
 
@@ -75,10 +75,10 @@ module _ (file actor command : ℕ) (puts : Puts) (above : 1 ≤ file) where
       let row_is = may is in
       let same : row.file ≡ file = sym (same-key file row.file is) in
       let kind = kinds file above in
-      rw (is, row_is.0, row_is.1, row_is.2, same, kind.0, kind.1, same-number file) refl
+      rw (is, row_is.0, row_is.1, row_is.2, same, kind.0, kind.1, eq-eqb file file refl) refl
   closed-one row false is may =
       let differ : (row.file == file) ≡ false =
-      fails _ (λ same. let own : is_eq (nat_cmp file row.file) ≡ true = rw (eqb-true row.file file same) (own-key file) in true≢false (sym own ∙ is)) in
+      false_from_ne_true _ (λ same. let own : is_eq (nat_cmp file row.file) ≡ true = rw (eqb-true row.file file same) (own-key file) in true≢false (sym own ∙ is)) in
       rw (is, apart-entry file puts row (kind_of row.file row.closed) differ) refl
 
   pub map-closed : (tree : List TreeRow) → Each (MayClose file actor command) tree

@@ -1,6 +1,6 @@
 -- Each command asks a bounded number of requests.
-use Rattle.std.proofs.Common.{◌≡◌, ℕ, zero, suc, ◌+◌, ◌-◌, ◌*◌, ◌≤◌, min, Bool, true, false, ◌&&◌, List, [], ◌∷◌, ◌++◌, length, Option, Some, None, arith, refl, suc-mul, mul-le-mul_right, nat_lt, nat_le}
-use Rattle.std.proofs.lemmas.Bool.{leb-true}
+use Rattle.std.proofs.Common.{◌≡◌, ℕ, zero, suc, ◌+◌, ◌-◌, ◌*◌, ◌≤◌, min, Bool, true, false, List, [], ◌∷◌, ◌++◌, length, Option, Some, None, arith, refl, suc-mul, mul-le-mul_right, nat_lt, nat_le}
+use Rattle.std.proofs.lemmas.Bool.{leb-true, and_parts}
 use Rattle.qfs_base.specs.Shape.{Shape}
 use Rattle.qfs_base.specs.declared.chunk.Copy.{Copy}
 use Rattle.qfs_base.specs.declared.command.Command.{Command}
@@ -22,6 +22,7 @@ use Rattle.qfs_model_actor.specs.Work.{Report, Work, ends}
 use Rattle.qfs_model_actor.specs.Hold.{opened, granted}
 use Rattle.qfs_model_actor.specs.Grants.{if_meant, is_in_range, with_proper, with_source, source_of}
 use Rattle.qfs_base.specs.Layout.{blocks_of, blocks_touched, windows_touched, windows_of_rows, window_rows}
+use Rattle.qfs_base.specs.ListLaws.{div_ceil-least}
 use Rattle.qfs_model_actor.specs.Get.{reading_of, listed_in, read_blocks, read_if_any, read_range, is_whole, read_if_whole, was_opened, attempt, attempts, range_of, get_work}
 use Rattle.qfs_model_actor.specs.Repair.{after_confirm, confirm, give_up, store_granted}
 use Rattle.qfs_model_actor.specs.Recover.{reading_for, restore_chunk, recover_slot, recovered, after_recover_at, recover_work, Healing, after_heal_next, heal_on, heal_work}
@@ -33,15 +34,7 @@ use Rattle.qfs_model_actor.specs.Command.{file_work, work_of}
 use Rattle.qfs_model_actor.specs.Steps.{AsksAtMost, MOST_WINDOWS, steps_of_attempt, steps_of_get, steps_of_recovery, steps_of_move, most_file_steps, most_steps}
 use Rattle.qfs_model_actor.proofs.Steps.{more_steps, give_back-steps, was_given_back-steps, end_with-steps, ask-steps, ask-nothing-steps, ask_server-steps, ask_server-nothing-steps, after_store-steps, fetch-steps}
 use Rattle.qfs_model_actor.proofs.StepsOfPut.{refused-steps, change_work-steps, list_work-steps, if_meant-steps, with_grant_of-steps, put_work-steps}
-use Rattle.qfs_model_actor.proofs.StepsOfReads.{div_ceil-least, read_block-steps, length-windows_of_rows, length-windows_touched, length-blocks_touched}
-
-first_of_two : (a b : Bool) → a && b ≡ true → a ≡ true
-first_of_two true b h = refl
-first_of_two false b h = h
-
-second_of_two : (a b : Bool) → a && b ≡ true → b ≡ true
-second_of_two true b h = h
-second_of_two false b h = absurd (cc)
+use Rattle.qfs_model_actor.proofs.StepsOfReads.{read_block-steps, length-windows_of_rows, length-windows_touched, length-blocks_touched}
 
 -- ---- gets
 
@@ -90,7 +83,7 @@ module _ (layout : Shape) (again : Report → Work) (n : ℕ) (h : (report : Rep
   unfolding read_if_whole read_range is_whole
   read_if_whole-steps range o true e =
       let short : o.len ≤ MOST_FILE_BYTES =
-      leb-true o.len MOST_FILE_BYTES (first_of_two (nat_le o.len MOST_FILE_BYTES) _ e) in
+      leb-true o.len MOST_FILE_BYTES ((and_parts (nat_le o.len MOST_FILE_BYTES) _ e).0) in
       read_if_any-steps o range.from (min (range.from + range.count) o.len) (omega (arith, short)) _
   read_if_whole-steps range o false e = tt
 
@@ -160,7 +153,7 @@ unmeant n next g = tt
 
 rows_in_range : (g : Granted) → is_in_range g ≡ true → g.rows ≤ MOST_ROWS
 unfolding is_in_range
-rows_in_range g e = leb-true g.rows MOST_ROWS (second_of_two (nat_lt g.slot SLOTS) (nat_le g.rows MOST_ROWS) e)
+rows_in_range g e = leb-true g.rows MOST_ROWS ((and_parts (nat_lt g.slot SLOTS) (nat_le g.rows MOST_ROWS) e).1)
 
 if_in_range-steps : (n : ℕ) (next : Granted → Work) (g : Granted) → (g.rows ≤ MOST_ROWS → AsksAtMost n (next g))
     → (b : Bool) → is_in_range g ≡ b → AsksAtMost n (if_meant next g b)

@@ -1,10 +1,11 @@
 -- Gets, recoveries and moves ask a bounded number of requests.
-use Rattle.std.proofs.Common.{◌≡◌, ℕ, zero, suc, ◌+◌, ◌-◌, ◌*◌, ◌/◌, ◌<◌, ◌≤◌, min, Bool, true, false, List, [], ◌∷◌, ◌++◌, length, Option, Some, None, Ok, Err, arith, slice_get, slice_set, lt_of_mul-lt-mul_right, div-add-mod', zero-mul, mul-suc, mul_comm}
+use Rattle.std.proofs.Common.{ℕ, zero, suc, ◌+◌, ◌-◌, ◌*◌, ◌/◌, ◌≤◌, min, Bool, true, false, List, [], ◌∷◌, ◌++◌, length, Option, Some, None, Ok, Err, arith, slice_get, slice_set, div-add-mod', zero-mul, mul-suc, mul_comm}
 use Rattle.std.proofs.Math.Nat.{div-zero, mod-zero}
 use Rattle.std.specs.Int.{div_ceil}
 use Rattle.std.proofs.lemmas.Grind.{div_ceil_times}
 use Rattle.std.proofs.lemmas.List.FromFn.{length-range_with_len, length-map-range_with_len}
 use Rattle.qfs_base.specs.Layout.{row_bytes, block_bytes, blocks_of, window_rows, window_at, windows_of_rows, blocks_touched, windows_touched}
+use Rattle.qfs_base.specs.ListLaws.{div_ceil-least}
 use Rattle.qfs_base.specs.Shape.{Shape}
 use Rattle.qfs_base.specs.Sizes.{SLOTS}
 use Rattle.qfs_base.specs.declared.chunk.Copy.{Copy}
@@ -94,16 +95,6 @@ read_block-steps reading n windows nine got next t h =
     (λ causes. more_steps (reading.too_few causes) (suc n) m (omega arith) (t causes))
     (λ sources. read_windows-steps reading n next t h windows sources got)
     (sources_of nine)
-
--- a quotient rounded up is the least that is enough
-pub div_ceil-least : (a b q : ℕ) → 0 < b → a ≤ q * b → div_ceil a b ≤ q
-div_ceil-least a b q p h =
-    let d = div_ceil a b in
-    let below : d * b < suc q * b = omega (arith, (div_ceil_times a b p).1, h, suc_times q b) in
-    let less : d < suc q = lt_of_mul-lt-mul_right b below in omega (arith, less)
-  where
-    suc_times : (q b : ℕ) → suc q * b ≡ q * b + b
-    suc_times q b = grind arith
 
 -- rounded up, no quotient is more than what is divided
 pub div_ceil-le_self : (a b : ℕ) → div_ceil a b ≤ a

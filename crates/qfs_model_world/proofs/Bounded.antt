@@ -1,8 +1,9 @@
 -- The actors of a script start with a bounded number of steps.
-use Rattle.std.proofs.Common.{ℕ, zero, suc, ◌+◌, ◌<◌, ◌≤◌, ◌^◌, List, [], ◌∷◌, length, arith, All}
+use Rattle.std.proofs.Common.{ℕ, ◌+◌, ◌<◌, ◌≤◌, ◌^◌, List, [], ◌∷◌, length, arith, All}
 use Rattle.std.specs.Prelude.{flat_map}
 use Rattle.std.proofs.lemmas.List.Concat.{length-flat_map}
 use Rattle.std.proofs.lemmas.List.Sums.{count_by-le-length, sum_by-le}
+use Rattle.qfs_base.specs.EachLaws.{each_all}
 use Rattle.qfs_base.specs.Rules.{all_commands, may_take_away, tries_of, rules_of}
 use Rattle.qfs_base.specs.Shape.{IsStripe, IsRowCount}
 use Rattle.qfs_base.specs.Table.{Each}
@@ -17,12 +18,6 @@ use Rattle.qfs_model_actor.specs.Steps.{IsFileInRange, IsInRange, left}
 use Rattle.qfs_model_actor.proofs.Left.{left-starting}
 use Rattle.qfs_model_script.specs.InScript.{IsFileCommand, IsCommand, IsScript, actors_of}
 use Rattle.qfs_model_world.specs.World.{numbered_actors, start}
-
--- what holds of each holds at every place
-each_all : {X : Type 0} (P : X → Type 0) (xs : List X) → Each P xs → All P xs
-each_all P [] each k d inside = absurd (omega arith)
-each_all P (x ∷ xs) each zero d inside = each.0
-each_all P (x ∷ xs) each (suc k) d inside = each_all P xs each.1 k d (omega arith)
 
 -- a command of a script keeps to what bounds its steps
 file_in_range : (command : FileCommand) → IsFileCommand command → IsFileInRange command

@@ -1,7 +1,9 @@
 -- Where an order that a script gives can be followed, and where it can't.
 use Rattle.std.proofs.Common.{◌≡◌, ℕ, zero, suc, ◌+◌, Bool, true, false, cond, List, [], ◌∷◌, length, take, Option, Some, refl, sym, ◌∙◌, ap, subst, arith, ◌≤◌, true≢false}
-use Rattle.std.specs.Prelude.{◌&&◌, fold, is_none, unwrap_or, slice_get, IsTrue}
+use Rattle.std.specs.Prelude.{◌&&◌, fold, is_none, slice_get, IsTrue}
 use Rattle.std.specs.List.{list_all}
+use Rattle.std.proofs.lemmas.Option.{same_Some}
+use Rattle.std.proofs.lemmas.Bool.{and_from, and_parts}
 use Rattle.qfs_base.specs.declared.history.Step.{Step}
 use Rattle.qfs_base.specs.declared.script.Script.{Script}
 use Rattle.qfs_model_world.specs.Fits.{may_come, fits_from, fits, is_over, is_whole}
@@ -50,27 +52,12 @@ record IsBadFrom (script : Script) (world : World) (steps : List Step) (count : 
   done : IsTrue (list_all is_done (take count steps))
   stuck : CantGoOn script (fold move world (take count steps)) (slice_get steps count)
 
-same_place : (a b : ℕ) → Some a ≡ Some b → a ≡ b
-same_place a b is = ap (λ o. unwrap_or o 0) is
-
-both : (a b : Bool) → a ≡ true → b ≡ true → (a && b) ≡ true
-both true b _ is = is
-both false b is _ = absurd (true≢false (sym is))
-
-first_of : (a b : Bool) → (a && b) ≡ true → a ≡ true
-first_of true b _ = refl
-first_of false b is = is
-
-second_of : (a b : Bool) → (a && b) ≡ true → b ≡ true
-second_of true b is = is
-second_of false b is = absurd (true≢false (sym is))
-
 bad_at_end : (script : Script) (world : World) (index i : ℕ) (over : Bool) → is_over script world ≡ over
     → bad_end index over ≡ Some i → (count : ℕ) × (i ≡ index + count) × IsBadFrom script world [] count
 unfolding bad_end fits_from
 bad_at_end script world index i true is bad = absurd (true≢false (ap is_none bad))
 bad_at_end script world index i false is bad =
-    (0, omega (arith, same_place index i bad), record { within = omega arith; fitting = refl; done = refl; stuck = is })
+    (0, omega (arith, same_Some index i bad), record { within = omega arith; fitting = refl; done = refl; stuck = is })
 
 -- the same behind a step, where it holds of the rest
 bad_at_step : (script : Script) (step : Step) (steps : List Step) (world : World) (index i : ℕ)
@@ -81,18 +68,18 @@ bad_at_step : (script : Script) (step : Step) (steps : List Step) (world : World
     → (count : ℕ) × (i ≡ index + count) × IsBadFrom script world (step ∷ steps) count
 unfolding fits_from may_be_given
 bad_at_step script step steps world index i more false is bad =
-    (0, omega (arith, same_place index i bad), record { within = omega arith; fitting = refl; done = refl; stuck = is })
+    (0, omega (arith, same_Some index i bad), record { within = omega arith; fitting = refl; done = refl; stuck = is })
 bad_at_step script step steps world index i more true is bad =
     let rest = more bad in
     let found : IsBadFrom script (move world step) steps rest.0 = rest.2 in
-    let may : may_come script world step ≡ true = first_of (may_come script world step) (is_done step) is in
-    let done : is_done step ≡ true = second_of (may_come script world step) (is_done step) is in (
+    let may : may_come script world step ≡ true = (and_parts (may_come script world step) (is_done step) is).0 in
+    let done : is_done step ≡ true = (and_parts (may_come script world step) (is_done step) is).1 in (
       suc rest.0,
       omega (arith, rest.1),
       record {
         within = omega (arith, found.within);
-        fitting = both (may_come script world step) (fits_from script (move world step) (take rest.0 steps)) may found.fitting;
-        done = both (is_done step) (list_all is_done (take rest.0 steps)) done found.done;
+        fitting = and_from (may_come script world step) (fits_from script (move world step) (take rest.0 steps)) may found.fitting;
+        done = and_from (is_done step) (list_all is_done (take rest.0 steps)) done found.done;
         stuck = found.stuck;
       },
     )
@@ -122,13 +109,13 @@ first_behind : (script : Script) (step : Step) (steps : List Step) (world : Worl
 unfolding bad_from fits_from may_be_given
 first_behind script step steps world index count rest bad =
     let fitting : fits_from script (move world step) (take count steps) ≡ true =
-    second_of (may_come script world step) (fits_from script (move world step) (take count steps)) bad.fitting in
+    (and_parts (may_come script world step) (fits_from script (move world step) (take count steps)) bad.fitting).1 in
     let done : list_all is_done (take count steps) ≡ true =
-    second_of (is_done step) (list_all is_done (take count steps)) bad.done in
+    (and_parts (is_done step) (list_all is_done (take count steps)) bad.done).1 in
     let may : (may_come script world step && is_done step) ≡ true =
-    both (may_come script world step) (is_done step)
-    (first_of (may_come script world step) (fits_from script (move world step) (take count steps)) bad.fitting)
-    (first_of (is_done step) (list_all is_done (take count steps)) bad.done) in
+    and_from (may_come script world step) (is_done step)
+    ((and_parts (may_come script world step) (fits_from script (move world step) (take count steps)) bad.fitting).0)
+    ((and_parts (is_done step) (list_all is_done (take count steps)) bad.done).0) in
     let next : bad_from script (move world step) (index + 1) steps ≡ Some (index + 1 + count) =
     rest (record { within = omega (arith, bad.within); fitting = fitting; done = done; stuck = bad.stuck }) in
     let there : index + 1 + count ≡ index + suc count = omega arith in

@@ -10,6 +10,7 @@ use Rattle.qfs_base.specs.declared.history.Outcome.{Outcome}
 use Rattle.qfs_base.specs.declared.history.Outcome.TheVariants as Ended
 use Rattle.qfs_base.specs.declared.history.Step.{Step}
 use Rattle.qfs_base.specs.declared.order.StepRun.{StepRun}
+use Rattle.qfs_model_text.proofs.OrderText.{alike}
 use Rattle.qfs_model_text.specs.Order.{same_outcome, goes_on_run, run_word, runs_after, runs}
 
 same_as_itself : (outcome : Outcome) → same_outcome outcome outcome ≡ true
@@ -17,19 +18,6 @@ unfolding same_outcome
 same_as_itself Ended.Done = refl
 same_as_itself Ended.Failed = refl
 same_as_itself Ended.NoMemory = refl
-
--- steps that end alike
-alike : (first second : Outcome) → same_outcome first second ≡ true → first ≡ second
-unfolding same_outcome
-alike Ended.Done Ended.Done is = refl
-alike Ended.Done Ended.Failed is = absurd (cc)
-alike Ended.Done Ended.NoMemory is = absurd (cc)
-alike Ended.Failed Ended.Done is = absurd (cc)
-alike Ended.Failed Ended.Failed is = refl
-alike Ended.Failed Ended.NoMemory is = absurd (cc)
-alike Ended.NoMemory Ended.Done is = absurd (cc)
-alike Ended.NoMemory Ended.Failed is = absurd (cc)
-alike Ended.NoMemory Ended.NoMemory is = refl
 
 goes_on_same : (step : Step) (count : ℕ) → count < LONGEST_RUN → goes_on_run step count step ≡ true
 goes_on_same step count room = grind (arith, nat_tests, same_as_itself step.outcome)

@@ -34,7 +34,7 @@ other-true name word tested same = both_ways _ (not-true _ tested) ((bytes_eq-De
 other_from : (name word : List ℕ) → (name ≡ word → ⊥) → not (bytes_eq name word) ≡ true
 other_from name word other = not_from_false _ (false_from_ne_true _ (λ same. other ((bytes_eq-Decides name word).0 same)))
 
-named : (name : List ℕ) → is_name name ≡ true → IsName name
+pub named : (name : List ℕ) → is_name name ≡ true → IsName name
 named name tested =
     let first = and_parts _ _ tested in
     let second = and_parts _ _ first.0 in

@@ -2,6 +2,7 @@
 use Rattle.std.proofs.Common.{◌≡◌, ℕ, ◌+◌, ◌-◌, ◌*◌, ◌<◌, ◌≤◌, Bool, true, false, cond, List, [], ◌∷◌, refl, subst, arith, Option, Some, None, Result, Ok, Err}
 use Rattle.std.specs.Prelude.{◌&&◌, nat_le}
 use Rattle.std.proofs.lemmas.Bool.{leb-true, and_parts}
+use Rattle.std.proofs.lemmas.Option.{same_Some}
 use Rattle.hex.specs.Hex.{◌>>=◌, decode_pairs, pair_value, value_at, digit_or_error, hex_digit_value}
 use Rattle.hex.specs.declared.error.FromHexError.{FromHexError}
 use Rattle.qfs_base.specs.Table.{Each}
@@ -10,15 +11,12 @@ use Rattle.qfs_model_script.specs.InScript.{IsByte}
 ok-is : {A : Type 0} (a b : A) (read : Result A FromHexError) → read ≡ Ok a → read ≡ Ok b → a ≡ b
 ok-is a b read first second = cc
 
-some-is : {A : Type 0} (a b : A) → Some a ≡ Some b → a ≡ b
-some-is a b is = cc
-
 -- one of three answers, or none
 digit_case : (upper lower digit : Bool) (u l d v : ℕ) → (upper ≡ true → u < 16) → (lower ≡ true → l < 16) → (digit ≡ true → d < 16)
     → cond upper (Some u) (cond lower (Some l) (cond digit (Some d) None)) ≡ Some v → v < 16
-digit_case true lower digit u l d v of_u of_l of_d is = subst (λ n. n < 16) (some-is u v is) (of_u refl)
-digit_case false true digit u l d v of_u of_l of_d is = subst (λ n. n < 16) (some-is l v is) (of_l refl)
-digit_case false false true u l d v of_u of_l of_d is = subst (λ n. n < 16) (some-is d v is) (of_d refl)
+digit_case true lower digit u l d v of_u of_l of_d is = subst (λ n. n < 16) (same_Some u v is) (of_u refl)
+digit_case false true digit u l d v of_u of_l of_d is = subst (λ n. n < 16) (same_Some l v is) (of_l refl)
+digit_case false false true u l d v of_u of_l of_d is = subst (λ n. n < 16) (same_Some d v is) (of_d refl)
 digit_case false false false u l d v of_u of_l of_d is = cc
 
 within : (first last c : ℕ) → (nat_le first c && nat_le c last) ≡ true → (first ≤ c) × (c ≤ last)

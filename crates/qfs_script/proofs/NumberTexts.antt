@@ -5,16 +5,11 @@ use Rattle.std.specs.Result.{result_ok}
 use Rattle.std.specs.Option.{option_and_then}
 use Rattle.std.specs.Str.{bytes_eq}
 use Rattle.std.specs.Str.Parse.{digits_value}
-use Rattle.std.proofs.lemmas.Bool.{lt-ltb, le-ltb, ltb-true, and_parts, cond-true, cond-false, both_ways}
+use Rattle.std.proofs.lemmas.Bool.{lt-ltb, le-ltb, ltb-true, and_parts, cond-true, cond-false, both_ways, and_from}
 use Rattle.std.proofs.lemmas.Fmt.{decimal_is_IsNumeral, IsAscii-decimal}
 use Rattle.std.proofs.lemmas.Str.{IsUtf8-from_ascii}
 use Rattle.std.proofs.lemmas.Slice.Eq.{bytes_eq-Decides}
 use Rattle.qfs_script.specs.Numbers.{number_below}
-
-both : (a b : Bool) → a ≡ true → b ≡ true → (a && b) ≡ true
-both true true x y = refl
-both true false x y = y
-both false b x y = x
 
 -- a text that is a number in decimal writes that number
 pub below_some : (bound n : ℕ) (text : List ℕ) → n < bound → bound ≤ 2 ^ 64 → decimal n ≡ text → number_below bound text ≡ Some n
@@ -23,7 +18,7 @@ below_some bound n text small fits written =
     let value : digits_value 10 text ≡ n = ap (digits_value 10) (sym written) ∙ (decimal_is_IsNumeral n (omega arith)).1 in
     let less : nat_lt (digits_value 10 text) bound ≡ true = lt-ltb _ _ (omega (arith, value)) in
     let same : bytes_eq (decimal (digits_value 10 text)) text ≡ true = (bytes_eq-Decides _ _).1 (ap decimal value ∙ written) in
-    cond-true _ _ _ (both _ _ less same) ∙ ap (λ (m : ℕ). Some m) value
+    cond-true _ _ _ (and_from _ _ less same) ∙ ap (λ (m : ℕ). Some m) value
 
 none_if : (b : Bool) (n : ℕ) → (b ≡ true → ⊥) → cond b (Some n) None ≡ None
 none_if true n never = absurd (never refl)

@@ -1,24 +1,25 @@
 -- What the lines of the first forms say keeps all ranges and limits of scripts.
-use Rattle.std.proofs.Common.{◌≡◌, ◌≢◌, ℕ, zero, suc, ◌+◌, ◌*◌, ◌-◌, ◌%◌, ◌<◌, ◌≤◌, Bool, true, false, not, cond, List, [], ◌∷◌, length, get_or, refl, sym, ap, subst, arith, Option, Some, None, Result, Ok, Err, inl, inr, All}
+use Rattle.std.proofs.Common.{◌≡◌, ℕ, zero, suc, ◌+◌, ◌*◌, ◌-◌, ◌%◌, ◌<◌, ◌≤◌, Bool, true, false, cond, List, [], ◌∷◌, length, get_or, refl, sym, ap, subst, arith, Option, Some, None, Result, Ok, Err, inl, inr, All}
 use Rattle.std.specs.Prelude.{⊤, ◌&&◌, ◌==◌, nat_le, nat_lt, codes, decimal, ◌⊎◌, flat_map, min}
 use Rattle.std.specs.Int.{div_ceil}
-use Rattle.std.specs.List.{list_all, range_with_len}
+use Rattle.std.specs.List.{range_with_len}
 use Rattle.std.specs.Str.Parse.{digits_value}
 use Rattle.std.specs.Option.{option_and_then}
 use Rattle.std.specs.Result.{result_ok}
 use Rattle.std.specs.Str.{bytes_eq}
 use Rattle.std.proofs.lemmas.Bool.{leb-true, ltb-true, and_parts}
-use Rattle.std.proofs.lemmas.Bool.Decides.{nat_tests}
 use Rattle.std.proofs.lemmas.Grind.{div_ceil_times}
 use Rattle.std.proofs.Math.Nat.{mul-le-mul_left}
 use Rattle.std.proofs.lemmas.List.{append-nil}
 use Rattle.std.proofs.lemmas.List.FromFn.{length-range_with_len}
 use Rattle.std.proofs.lemmas.List.Sums.{sum_by-le}
-use Rattle.std.proofs.lemmas.Slice.Eq.{bytes_eq-Decides}
+use Rattle.std.proofs.lemmas.Option.{same_Some}
+use Rattle.qfs_base.specs.EachLaws.{each_all, each_weaker}
+use Rattle.qfs_base.specs.ListLaws.{cond_passed}
 use Rattle.hex.specs.Hex.{decode_of, decode_pairs}
 use Rattle.hex.specs.declared.error.FromHexError.{FromHexError}
 use Rattle.hex.specs.declared.error.FromHexError.TheVariants.{OddLength}
-use Rattle.qfs_base.specs.Path.{IsName, IsNameByte, IsPath, slash}
+use Rattle.qfs_base.specs.Path.{IsName, IsPath, slash}
 use Rattle.qfs_base.specs.Shape.{Shape, IsStripe, IsRowCount}
 use Rattle.qfs_base.specs.Table.{Each}
 use Rattle.qfs_base.specs.declared.command.Command.{Command}
@@ -26,10 +27,11 @@ use Rattle.qfs_base.specs.declared.command.Command.TheVariants as Does
 use Rattle.qfs_base.specs.declared.command.FileCommand.TheVariants as File
 use Rattle.qfs_base.specs.declared.recipe.Form.TheVariants as Told
 use Rattle.qfs_base.specs.declared.script.Script.{Script}
+use Rattle.qfs_script.proofs.CommandTexts.{named}
 use Rattle.qfs_model_script.specs.InScript.{IsByte, IsCommand, IsScript, len_put, lens_put, actors_of, blocks_in, chunk_bytes_of_block, chunk_bytes_in}
-use Rattle.qfs_model_script.proofs.SmallPuts.{each_all, each_then, IsSmall, lens_small, length-lens}
+use Rattle.qfs_model_script.proofs.SmallPuts.{IsSmall, lens_small, length-lens}
 use Rattle.qfs_script.proofs.HexBytes.{pairs_said}
-use Rattle.qfs_script.specs.Commands.{is_name_byte, is_name, one_name_path, few_bytes, hex_bytes, put_of, get_of, put_words, get_words, command_words, command_form}
+use Rattle.qfs_script.specs.Commands.{is_name, one_name_path, few_bytes, hex_bytes, put_of, get_of, put_words, get_words, command_words, command_form}
 use Rattle.qfs_script.specs.Head.{fixed_form, is_shape, shape_of, shape_in, layout_words, layout_form, enough_servers, servers_words, servers_form}
 use Rattle.qfs_script.specs.Lines.{words_of}
 use Rattle.qfs_script.specs.Numbers.{number_below}
@@ -55,16 +57,8 @@ found : {A B : Type 0} (first : Option A) (next : A → Option B) (value : B) �
 found (Some given) next value is = record { given = given; first_is = refl; next_is = is }
 found None next value is = cc
 
-some-is : {A : Type 0} {a b : A} → Some a ≡ Some b → a ≡ b
-some-is is = cc
-
 ok-is : {A : Type 0} (a b : A) (read : Result A ℕ) → read ≡ Ok a → read ≡ Ok b → a ≡ b
 ok-is a b read first second = cc
-
--- the test holds behind an answer that is there
-allowed : {A : Type 0} (test : Bool) (answer : Option A) (value : A) → cond test answer None ≡ Some value → (test ≡ true) × (answer ≡ Some value)
-allowed true answer value is = (refl, is)
-allowed false answer value is = cc
 
 -- a value that is there where the test holds
 record Tested {A : Type 0} (test : Bool) (given : A) (value : A) : Type 0 where
@@ -152,39 +146,10 @@ layout_said (word ∷ s ∷ r ∷ more ∷ words) layout is = cc
 
 -- ---- names and bytes
 
-not-both : (test : Bool) → test ≡ true → not test ≡ true → ⊥
-not-both true holds is = cc
-not-both false holds is = cc
-
-equal : (a b : ℕ) → a ≡ b → (a == b) ≡ true
-equal a b same = grind (arith, nat_tests)
-
 decoded : (read : Result (List ℕ) FromHexError) (bytes : List ℕ) → ((bs : List ℕ) → read ≡ Ok bs → Each IsByte bs)
     → result_ok read ≡ Some bytes → Each IsByte bytes
-decoded (Ok bs) bytes of_read is = subst (Each IsByte) (some-is is) (of_read bs refl)
+decoded (Ok bs) bytes of_read is = subst (Each IsByte) (same_Some _ _ is) (of_read bs refl)
 decoded (Err error) bytes of_read is = cc
-
-unlike : (a b : List ℕ) → not (bytes_eq a b) ≡ true → a ≢ b
-unlike a b is same = let equal : bytes_eq a b ≡ true = (bytes_eq-Decides a b).1 same in absurd (not-both (bytes_eq a b) equal is)
-
-byte_said : (byte : ℕ) → is_name_byte byte ≡ true → IsNameByte byte
-byte_said byte is =
-    let first = and_parts _ _ is in
-    let second = and_parts _ _ first.0 in
-    (leb-true _ _ second.0, leb-true _ _ second.1, λ same. not-both (byte == slash) (equal byte slash same) first.1)
-
-bytes_said : (name : List ℕ) → list_all is_name_byte name ≡ true → All IsNameByte name
-bytes_said [] all k d inside = absurd (omega arith)
-bytes_said (byte ∷ bytes) all zero d inside = byte_said byte (and_parts _ _ all).0
-bytes_said (byte ∷ bytes) all (suc k) d inside = bytes_said bytes (and_parts _ _ all).1 k d (omega arith)
-
-name_said : (name : List ℕ) → is_name name ≡ true → IsName name
-name_said name is =
-    let first = and_parts _ _ is in
-    let second = and_parts _ _ first.0 in
-    let third = and_parts _ _ second.0 in
-    let fourth = and_parts _ _ third.0 in
-    (leb-true _ _ fourth.0, leb-true _ _ fourth.1, bytes_said name third.1, unlike name (codes ".") second.1, unlike name (codes "..") first.1)
 
 one_name : (name : List ℕ) → IsName name → IsPath (name ∷ [])
 one_name name is = (omega arith, names)
@@ -198,7 +163,7 @@ unfolding one_name_path
 path_said [] path is = cc
 path_said (byte ∷ name) path is =
     let t = tested (byte == slash && is_name name) (name ∷ []) path is in
-    subst IsPath t.value_is (one_name name (name_said name (and_parts _ _ t.holds).1))
+    subst IsPath t.value_is (one_name name (named name (and_parts _ _ t.holds).1))
 
 even_or_not : (test : Bool) (digits bytes : List ℕ) → result_ok (cond test (Err OddLength) (decode_pairs 0 digits)) ≡ Some bytes → Each IsByte bytes
 even_or_not true digits bytes is = cc
@@ -242,7 +207,7 @@ put_said : (path : Option (List (List ℕ))) (bytes : Option (List ℕ)) (comman
 unfolding len_put
 put_said (Some path) (Some bytes) command is_path are_hex is =
     let hex = are_hex bytes refl in
-    subst IsFew (some-is is) (record {
+    subst IsFew (same_Some _ _ is) (record {
       in_range = λ servers. (is_path path refl, (hex.some, hex.few), hex.each);
       small = hex.few;
       plain = (hex.some, hex.few);
@@ -254,7 +219,7 @@ get_said : (path : Option (List (List ℕ))) (command : Command)
     → ((p : List (List ℕ)) → path ≡ Some p → IsPath p) → get_of path ≡ Some command → IsFew command
 unfolding len_put
 get_said (Some path) command is_path is =
-    subst IsFew (some-is is) (record { in_range = λ servers. (is_path path refl, tt); small = tt; plain = tt })
+    subst IsFew (same_Some _ _ is) (record { in_range = λ servers. (is_path path refl, tt); small = tt; plain = tt })
 get_said None command is_path is = cc
 
 put_words_said : (words : List (List ℕ)) (command : Command) → put_words words ≡ Some command → IsFew command
@@ -308,7 +273,7 @@ commands_said number (line ∷ lines) commands is =
     let rest = passed (read_commands (number + 1) lines) (λ commands. Ok (first.given ∷ commands)) commands first.next_is in
     let more = commands_said (number + 1) lines rest.given rest.first_is in
     let said = numbered number (command_at number line) first.given first.first_is in
-    let allowed_here = allowed (nat_lt number (first_command + most_commands)) (command_form line) first.given said in
+    let allowed_here = cond_passed (nat_lt number (first_command + most_commands)) (command_form line) first.given said in
     let below : number < first_command + most_commands = ltb-true _ _ allowed_here.0 in
     subst (AreFew number) (ok-is (first.given ∷ rest.given) commands (Ok (first.given ∷ rest.given)) refl rest.next_is)
     (record {
@@ -400,7 +365,7 @@ module _ (head : Head) (commands : List Command) (is : IsHead head.0.0 head.0.1)
 
   small : Each (λ len. len ≤ 32) (lens_put said)
   unfolding alone said
-  small = lens_small 32 alone (subst (Each (IsSmall 32)) (sym same) (each_then IsFew (IsSmall 32) (λ command few. few.small) commands are.each))
+  small = lens_small 32 alone (subst (Each (IsSmall 32)) (sym same) (each_weaker IsFew (IsSmall 32) (λ command few. few.small) commands are.each))
 
   few_puts : length (lens_put said) ≤ 4096
   unfolding alone said
@@ -421,8 +386,8 @@ module _ (head : Head) (commands : List Command) (is : IsHead head.0.0 head.0.1)
         phases = (omega arith, omega arith);
         few_actors = omega arith;
         few_commands = (few_enough (length commands) are.room, tt);
-        commands = (each_then IsFew (IsCommand head.0.1) (λ command few. few.in_range head.0.1) commands are.each, tt);
-        blocks_of_put = each_then (λ len. len ≤ 32) (λ len. blocks_in layout len ≤ 65536) (λ len most. omega (arith, one len most)) (lens_put said) small;
+        commands = (each_weaker IsFew (IsCommand head.0.1) (λ command few. few.in_range head.0.1) commands are.each, tt);
+        blocks_of_put = each_weaker (λ len. len ≤ 32) (λ len. blocks_in layout len ≤ 65536) (λ len most. omega (arith, one len most)) (lens_put said) small;
         blocks = omega (arith, few_puts, sum_by-le (blocks_in layout) 1 (lens_put said) (λ k d inside. one _ (all_small k d inside)));
         chunk_bytes = omega (arith, few_puts, sum_by-le (chunk_bytes_in layout) 589824 (lens_put said) (λ k d inside. few _ (all_small k d inside)));
         order = tt;

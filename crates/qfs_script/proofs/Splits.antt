@@ -1,5 +1,5 @@
 -- A text is its first piece and the pieces of what stands behind it.
-use Rattle.std.proofs.Common.{◌≡◌, ◌∙◌, ap, refl, arith, ℕ, ◌+◌, ◌-◌, ◌<◌, ◌≤◌, Bool, true, false, cond, List, [], ◌∷◌, length, take, drop, Option, Some, None}
+use Rattle.std.proofs.Common.{◌≡◌, ◌∙◌, ap, refl, arith, ℕ, ◌+◌, ◌-◌, ◌<◌, ◌≤◌, Bool, true, false, List, [], ◌∷◌, length, take, drop, Option, Some, None}
 use borrow.Author.Tests.{ltb-true, ltb-false}
 use Rattle.std.specs.Prelude.{All, position, is_some, not, IsTrue, ◌↔◌}
 use Rattle.std.specs.List.{position_or_len, slice_split}
@@ -7,20 +7,13 @@ use Rattle.std.specs.Borrow.{Bor}
 use Rattle.std.proofs.lemmas.Grind.{common_steps}
 use Rattle.std.proofs.lemmas.List.Splits.{slice_split_first, slice_split_none, length-slice_split}
 use Rattle.std.proofs.lemmas.List.Sums.{fails_before_first}
+use Rattle.std.proofs.lemmas.Option.{cond_some}
+use Rattle.qfs_base.specs.ListLaws.{cond_stopped}
 use Rattle.qfs_script.specs.Lines.{is_line_end, is_blank, text_lines, words_of, words_left, without_empty_end}
-
--- the place that a search found, and that it is a place
-some_place : (b : Bool) (n i : ℕ) → cond b (Some n) None ≡ Some i → (b ≡ true) × (n ≡ i)
-some_place true n i e = (refl, cc)
-some_place false n i e = cc
-
-no_place : (b : Bool) (n : ℕ) → cond b (Some n) None ≡ None → b ≡ false
-no_place true n e = cc
-no_place false n e = refl
 
 split_at : (p : ℕ → Bool) (text : List ℕ) (at : ℕ) → position p text ≡ Some at → slice_split p text ≡ take at text ∷ slice_split p (take (length text - (at + 1)) (drop (at + 1) text))
 split_at p text at found =
-    let place = some_place _ _ _ found in
+    let place = cond_some _ _ _ found in
     let inside : position_or_len p text < length text = ltb-true _ _ place.0 in
     let at_is : position_or_len p text ≡ at = place.1 in
     let cut : slice_split p text ≡ take at text ∷ slice_split p (drop (at + 1) text) = rw (← at_is) (slice_split_first p text 0 inside) in
@@ -29,7 +22,7 @@ split_at p text at found =
 
 split_nowhere : (p : ℕ → Bool) (text : List ℕ) → position p text ≡ None → slice_split p text ≡ text ∷ []
 split_nowhere p text absent =
-    let past : length text ≤ position_or_len p text = ltb-false _ _ (no_place _ _ absent) in
+    let past : length text ≤ position_or_len p text = ltb-false _ _ (cond_stopped _ _ absent) in
     let clear : All (λ byte. p byte ≡ false) text = λ k d inside. fails_before_first p text k d (omega arith) in
     slice_split_none p text clear
 

@@ -16,8 +16,8 @@ use Rattle.qfs_model_server.specs.Server.{Server, Answered, chunk_attempted, chu
 use Rattle.qfs_record.specs.ChunkRecord.{IsChunk, chunk_record}
 use Rattle.qfs_store.specs.Known.{Known, Sizes, size_of}
 use Rattle.qfs_store.specs.Serves.{IsAllowed, IsDone, PutLeaves, WipeLeaves, Does}
-use Rattle.qfs_store.specs.Stored.{Stored, StandsOn, IsUnread, IsGrounded, IsSound}
-use Rattle.qfs_store.proofs.SoundLaws.{grounded_after, not_unread}
+use Rattle.qfs_store.specs.Stored.{Stored, StandsOn, IsUnread, IsConsistent, IsSound}
+use Rattle.qfs_store.proofs.SoundLaws.{consistent_after, not_unread}
 use Rattle.qfs_store.proofs.StandsLaws.{put_passed, fetch_passed, erase_passed, inventory_passed, upgrade_passed}
 use Rattle.qfs_store.proofs.StartStep.{start_step}
 use Rattle.qfs_store.proofs.StepLaws.{Led, none_more, put_step, fetch_step, erase_step, wipe_step, inventory_step}
@@ -119,20 +119,20 @@ wiped_none _ before after left none = absurd left
 
 -- a store that waits for its first Start or Wipe goes on to wait, or stands for a server from then on
 waits_on : (request : ChunkRequest) (reply : ChunkReply) (before after : Stored) → IsAllowed request before → Does request reply before after
-    → is_some after.told ≡ is_some before.told → IsUnread before.known → IsGrounded before.stripe after.told after.known
+    → is_some after.told ≡ is_some before.told → IsUnread before.known → IsConsistent before.stripe after.told after.known
 waits_on (Ask.Put key life bytes) reply before after due did tells waits = not_unread before.known (put_passed before.known due.now key life bytes due.none).0 waits
 waits_on (Ask.Fetch key life from room) reply before after due did tells waits = not_unread before.known (fetch_passed before.known due.now key life from room due.none).0 waits
 waits_on (Ask.Erase key life) reply before after due did tells waits = not_unread before.known (erase_passed before.known due.now key life due.none) waits
 waits_on Ask.Inventory reply before after due did tells waits = not_unread before.known (inventory_passed before.known due.now due.none) waits
 waits_on Ask.Upgrade reply before after due did tells waits = not_unread before.known (upgrade_passed before.known due.now due.none) waits
 waits_on Ask.Stop reply before after due did tells waits =
-    subst (λ (known : Known). IsGrounded before.stripe after.told known) (sym did.1)
+    subst (λ (known : Known). IsConsistent before.stripe after.told known) (sym did.1)
     (λ held told_is. inr (record { down = refl; none = waits.none }))
 waits_on Ask.Start reply before after due did tells waits =
-    subst (λ (known : Known). IsGrounded before.stripe after.told known) (sym did.1)
+    subst (λ (known : Known). IsConsistent before.stripe after.told known) (sym did.1)
     (start_unread before.stripe reply.answer before.told after.told before.known after.known.copies waits did.2 tells)
 waits_on Ask.Wipe reply before after due did tells waits =
-    subst (λ (known : Known). IsGrounded before.stripe after.told known) (sym did.1)
+    subst (λ (known : Known). IsConsistent before.stripe after.told known) (sym did.1)
     (λ held told_is. inr (record { down = waits.down; none = wiped_none reply.answer before after did.2 waits.none }))
 
 abbrev IsForm : Known → Type 0
@@ -154,11 +154,11 @@ pub sound_after : (request : ChunkRequest) (reply : ChunkReply) (before after : 
 sound_after request reply before after due same did tells sound = record {
   stripe = subst IsStripe (sym same) sound.stripe;
   form = form_after request reply before after did sound.form;
-  grounded = subst (λ (stripe : ℕ). IsGrounded stripe after.told after.known) (sym same)
-      (grounded_after request reply before.stripe before.told after.told before.known after.known
+  consistent = subst (λ (stripe : ℕ). IsConsistent stripe after.told after.known) (sym same)
+      (consistent_after request reply before.stripe before.told after.told before.known after.known
       (λ server. chunk_attempted server request (chunk_outcome reply.answer)) tells
       (λ server held. does_step request reply before after server held due did)
-      (waits_on request reply before after due did tells) sound.grounded);
+      (waits_on request reply before after due did tells) sound.consistent);
 }
 
 -- a request that isn't due for a refusal, told of the same request and store

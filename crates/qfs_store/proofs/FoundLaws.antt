@@ -1,7 +1,7 @@
 -- What a start finds on a device that stands for a server: the copies of that server, from at least as many bytes as the
 -- heads of their records have, and from just as many where each key on the device is that of a copy.
 use Rattle.std.proofs.Common.{◌≡◌, ℕ, ◌+◌, ◌≤◌, Bool, true, false, not, cond, List, [], ◌∷◌, take, Option, Some, None, is_some, refl, sym, ap, subst, ◌∙◌, arith}
-use Rattle.std.specs.Prelude.{sum_by, ◌||◌}
+use Rattle.std.specs.Prelude.{sum_by}
 use Rattle.std.specs.List.{AllByRecursion, list_any}
 use Rattle.std.specs.List.Sorted.{IsStrictlySortedBy}
 use Rattle.std.specs.Map.{keys_of}
@@ -10,6 +10,7 @@ use Rattle.std.specs.declared.cmp.Ordering.TheVariants.{Less}
 use Rattle.std.proofs.lemmas.List.Sums.{sum_by-cons}
 use Rattle.std.proofs.lemmas.Map.Keys.{sorted_head, sorted_tail}
 use Rattle.std.proofs.lemmas.Option.{same_Some}
+use Rattle.std.proofs.lemmas.Bool.{or_parts}
 use Rattle.qfs_base.specs.Key.{key_cmp}
 use Rattle.qfs_base.specs.KeyMap.{value_at, has_key}
 use Rattle.qfs_base.specs.declared.chunk.ChunkKey.{ChunkKey}
@@ -20,7 +21,7 @@ use Rattle.qfs_model_store.specs.Stands.{IsRecordOf, HoldsUnder, StandsFor}
 use Rattle.qfs_record.specs.Part.{AreBytes}
 use Rattle.qfs_record.specs.ChunkRecord.{chunk_record}
 use Rattle.qfs_store.specs.Known.{Sizes, size_of, sizes_in}
-use Rattle.qfs_store.specs.Serves.{has_strays}
+use Rattle.qfs_store.specs.Serves.{has_leftovers}
 use Rattle.qfs_store.specs.Start.{front_bytes, copy_under, AreFronts, copies_in, fronts}
 use Rattle.qfs_store.specs.declared.copies.CopySize.{CopySize}
 use Rattle.qfs_store.proofs.EntryLaws.{behind_none, same_entries}
@@ -196,10 +197,6 @@ heads_whole stripe (e ∷ es) are found =
     let all = sum_by-cons front_of e es in
     omega (arith, more, here, rest, all)
 
-neither : (a b : Bool) → (a || b) ≡ false → (a ≡ false) × (b ≡ false)
-neither true b is = absurd cc
-neither false b is = (refl, is)
-
 one_found : (stripe : ℕ) (key : ChunkKey) (bytes : List ℕ) (copy : Option Chunk) → HoldsUnder stripe key (Some bytes) copy → not (is_some copy) ≡ false
     → is_some (copy_under stripe key bytes) ≡ true
 one_found stripe key bytes None holds there = absurd cc
@@ -209,7 +206,7 @@ all_found : (stripe : ℕ) (held : Held) (server : Server) (es : Contents) → S
     → list_any (λ (chunk : ChunkKey × List ℕ). not (has_key key_cmp server.copies chunk.0)) es ≡ false → AllFound stripe es
 all_found stripe held server [] stands there none = tt
 all_found stripe held server (e ∷ es) stands there none =
-    let parts = neither (not (has_key key_cmp server.copies e.0)) (list_any (λ (chunk : ChunkKey × List ℕ). not (has_key key_cmp server.copies chunk.0)) es) none in (
+    let parts = or_parts (not (has_key key_cmp server.copies e.0)) (list_any (λ (chunk : ChunkKey × List ℕ). not (has_key key_cmp server.copies chunk.0)) es) none in (
       one_found stripe e.0 e.1 (value_at key_cmp server.copies e.0)
           (subst (λ (found : Option (List ℕ)). HoldsUnder stripe e.0 found (value_at key_cmp server.copies e.0)) there.0 (stands.keys e.0)) parts.0,
       all_found stripe held server es stands there.1 parts.1,
@@ -233,7 +230,7 @@ reads_down server down = ap (λ (b : Bool). cond b 0 (sum_by copy_head server.co
 -- what is read of a device of a stopped server
 pub record ReadsAs (held : Held) (server : Server) : Type 0 where
   pub least : start_reads server ≤ fronts held.contents
-  pub exact : has_strays held server ≡ false → start_reads server ≡ fronts held.contents
+  pub exact : has_leftovers held server ≡ false → start_reads server ≡ fronts held.contents
 
 pub reads_as : (stripe : ℕ) (held : Held) (server : Server) → StandsFor stripe held server → server.up ≡ false → IsStrictlySortedBy key_cmp (keys_of held.contents)
     → AreFronts held.contents → copies_in stripe held.contents ≡ sizes_in server.copies → ReadsAs held server

@@ -33,5 +33,5 @@ pub empty_sound : (stripe faults : ℕ) (told : Option Held) → IsStripe stripe
 empty_sound stripe faults told is empty = record {
   stripe = is;
   form = inl refl;
-  grounded = λ held told_is. inl (empty_server held, empty_stands stripe held (empty held told_is));
+  consistent = λ held told_is. inl (empty_server held, empty_stands stripe held (empty held told_is));
 }

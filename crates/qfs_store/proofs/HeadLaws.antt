@@ -1,12 +1,13 @@
 -- A start tells the record of a copy by its head: where a record stands its head tells the copy, and where a head tells
 -- one, its record stands there.
-use Rattle.std.proofs.Common.{◌≡◌, ℕ, ◌+◌, ◌≤◌, Bool, true, false, cond, List, [], ◌++◌, length, take, drop, append_assoc, Option, Some, None, inl, inr, refl, sym, ap, subst, ◌∙◌, arith}
+use Rattle.std.proofs.Common.{◌≡◌, ℕ, ◌+◌, Bool, true, false, cond, List, [], ◌++◌, length, take, drop, append_assoc, Option, Some, None, inl, inr, refl, sym, ap, subst, ◌∙◌, arith}
 use Rattle.std.specs.Prelude.{nat_le, ◌==◌, ◌&&◌, ◌||◌}
 use Rattle.std.specs.Option.{option_map}
 use Rattle.std.specs.Ordering.{is_eq}
-use Rattle.std.proofs.lemmas.Bool.Decides.{nat_tests, Decides-eqb}
+use Rattle.std.proofs.lemmas.Bool.Decides.{Decides-eqb}
 use Rattle.std.proofs.lemmas.List.{append-nil, length-append, take-append-drop, take_at}
 use Rattle.std.proofs.lemmas.Option.{same_Some}
+use Rattle.std.proofs.lemmas.Bool.{eq-eqb, le-leb}
 use Rattle.qfs_base.specs.Key.{key_cmp}
 use Rattle.qfs_base.specs.declared.chunk.ChunkKey.{ChunkKey}
 use Rattle.qfs_model_server.specs.Chunk.{Chunk, head_bytes}
@@ -24,18 +25,12 @@ use Rattle.qfs_store.proofs.RecordLaws.{head_long, record_long}
 
 -- ---- a record's head tells the copy
 
-itself : (n : ℕ) → (n == n) ≡ true
-itself n = (Decides-eqb n n).1 refl
-
-reached : (least size : ℕ) → least ≤ size → nat_le least size ≡ true
-reached least size long = grind (arith, nat_tests)
-
 -- a record names the stripe, or its form names none
 stripe_named : (form stripe : ℕ) → ((form == 1) || (named_stripe form stripe == stripe)) ≡ true
 stripe_named form stripe =
     elim (form == 1) as (λ (b : Bool). (b || (cond b 0 stripe == stripe)) ≡ true) [
       | true ↦ refl
-      | false ↦ itself stripe
+      | false ↦ eq-eqb stripe stripe refl
     ]
 
 all_three : (a b c : Bool) → a ≡ true → b ≡ true → c ≡ true → (a && b && c) ≡ true
@@ -58,13 +53,13 @@ first_front : (stripe : ℕ) (key : ChunkKey) (bytes : List ℕ) → length (chu
     → front_bytes (chunk_record stripe key (with_form 1 bytes)) ≡ head_bytes 1
 unfolding head_bytes
 first_front stripe key bytes long =
-    front_if (chunk_record stripe key (with_form 1 bytes)) false true _ (first_marked stripe key bytes) (reached 21 _ (omega arith)) refl
+    front_if (chunk_record stripe key (with_form 1 bytes)) false true _ (first_marked stripe key bytes) (le-leb 21 _ (omega arith)) refl
 
 second_front : (stripe : ℕ) (key : ChunkKey) (bytes : List ℕ) → length (chunk_record stripe key (with_form 2 bytes)) ≡ head_bytes 2 + length bytes
     → front_bytes (chunk_record stripe key (with_form 2 bytes)) ≡ head_bytes 2
 unfolding head_bytes
 second_front stripe key bytes long =
-    front_if (chunk_record stripe key (with_form 2 bytes)) true true true (second_marked stripe key bytes) (reached 21 _ (omega arith)) (reached 25 _ (omega arith))
+    front_if (chunk_record stripe key (with_form 2 bytes)) true true true (second_marked stripe key bytes) (le-leb 21 _ (omega arith)) (le-leb 25 _ (omega arith))
 
 -- the head of a record is read, and no more
 pub record_front : (stripe : ℕ) (key : ChunkKey) (copy : Chunk) → IsHead (head_of stripe key copy) → front_bytes (chunk_record stripe key copy) ≡ head_bytes copy.form
@@ -91,7 +86,7 @@ whole_found stripe key copy fits =
     take_at (head_text head) copy.bytes (front_bytes whole) (head_long head fits.named ∙ sym (record_front stripe key copy fits)) in
     let tells : is_head_of stripe key (length whole) head ≡ true =
     all_three _ _ _ (same_itself key) (stripe_named copy.form stripe)
-    (ap (λ (n : ℕ). head_bytes copy.form + length copy.bytes == n) (record_long stripe key copy fits) ∙ itself (head_bytes copy.form + length copy.bytes)) in
+    (ap (λ (n : ℕ). head_bytes copy.form + length copy.bytes == n) (record_long stripe key copy fits) ∙ eq-eqb (head_bytes copy.form + length copy.bytes) (head_bytes copy.form + length copy.bytes) refl) in
     ap (copy_in stripe key (length whole)) (ap head_in front ∙ head_again head fits)
     ∙ ap (λ (b : Bool). cond b (Some (size_of copy)) None) tells
 

@@ -1,7 +1,7 @@
 -- What becomes of a server's keys, and of the sizes that are known of its copies, where a key is set or taken out.
 use Rattle.std.proofs.Common.{◌≡◌, Bool, true, false, cond, List, [], ◌∷◌, Option, Some, None, is_some, refl, sym, ap, ◌∙◌, true≢false}
 use Rattle.std.specs.Option.{option_map}
-use Rattle.std.specs.Cmp.{tied_itself}
+use Rattle.std.specs.Cmp.{tied_itself, Equal-is}
 use Rattle.std.specs.Ordering.{is_eq, eq_by_cmp, match_ordering}
 use Rattle.std.proofs.lemmas.Map.Made.{lookup-map_values}
 use Rattle.std.specs.declared.cmp.Ordering.{Ordering}
@@ -16,16 +16,11 @@ use Rattle.qfs_store.specs.Known.{Sizes, size_of, sizes_in}
 
 -- ---- one key
 
-equal_if : (r : Ordering) → is_eq r ≡ true → r ≡ Equal
-equal_if Less e = absurd (true≢false (sym e))
-equal_if Equal e = refl
-equal_if Greater e = absurd (true≢false (sym e))
-
 abbrev pub same_key : ChunkKey → ChunkKey → Bool
 same_key q key = eq_by_cmp key_cmp q key
 
 pub same_key-is : (q key : ChunkKey) → same_key q key ≡ true → key ≡ q
-same_key-is q key e = sym (key_cmp-Equal q key (equal_if (key_cmp q key) e))
+same_key-is q key e = sym (key_cmp-Equal q key ((Equal-is (key_cmp q key)).0 e))
 
 pub same_itself : (key : ChunkKey) → is_eq (key_cmp key key) ≡ true
 same_itself key = ap is_eq (tied_itself key_cmp_total key)

@@ -1,8 +1,7 @@
 -- The range of a Fetch that isn't refused lies in the record of its copy.
 use Rattle.std.proofs.Common.{◌≡◌, ℕ, ◌+◌, ◌≤◌, true, List, [], length, Option, Some, None, is_some, unwrap_or, inl, inr, sym, ap, subst, ◌∙◌, arith}
-use Rattle.std.specs.Prelude.{nat_le}
 use Rattle.std.specs.Option.{ForSome, option_map}
-use Rattle.std.proofs.lemmas.Bool.Decides.{nat_tests}
+use Rattle.std.proofs.lemmas.Bool.{leb-true}
 use Rattle.qfs_base.specs.Key.{key_cmp}
 use Rattle.qfs_base.specs.KeyMap.{value_at}
 use Rattle.qfs_base.specs.declared.chunk.ChunkKey.{ChunkKey}
@@ -28,16 +27,13 @@ small_head form stripe named =
       | inr two ↦ subst (λ (form : ℕ). head_bytes form ≤ 25) (sym two.0) (omega arith)
     ]
 
-reached : (end len : ℕ) → nat_le end len ≡ true → end ≤ len
-reached end len is = grind (arith, nat_tests)
-
 -- a range that a copy reaches lies behind the head of its record
 part_of : (stripe : ℕ) (held : Held) (key : ChunkKey) (from count : ℕ) (copy : Chunk) → IsRecordOf stripe key (chunk_at held key) copy
     → reaches (from + count) (Some (size_of copy)) ≡ true → IsPart held key (size_of copy) from count
 part_of stripe held key from count copy is reaches =
     let whole : length (bytes_at held key) ≡ head_bytes copy.form + length copy.bytes =
     ap (λ (found : Option (List ℕ)). length (unwrap_or found [])) is.spelled ∙ record_long stripe key copy is.fits in
-    let inside = reached (from + count) (length copy.bytes) reaches in
+    let inside = leb-true (from + count) (length copy.bytes) reaches in
     let small = small_head copy.form (head_of stripe key copy).stripe is.fits.named in
     let least = is.fits.len in
     record { lies = record { there = ap is_some is.spelled; inside = omega arith }; small = omega arith }
@@ -56,7 +52,7 @@ pub range_lies : (key : ChunkKey) (life from : ℕ) (room : List ℕ) (before : 
 range_lies key life from room before size due sound there held told_is =
     let passed = fetch_passed before.known due.now key life from room due.none in
     let reached : reaches (from + length room) (Some size) ≡ true = ap (reaches (from + length room)) (sym there) ∙ passed.1 in
-    elim (sound.grounded held told_is) [
+    elim (sound.consistent held told_is) [
       | inl stood ↦
           copy_part_of before.stripe held key size from (length room) (value_at key_cmp stood.0.copies key) (stood.1.stands.keys key)
           (sym (size_at stood.0.copies key) ∙ ap (λ (sizes : Sizes). value_at key_cmp sizes key) (sym stood.1.copies) ∙ there) reached

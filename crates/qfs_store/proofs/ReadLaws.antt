@@ -18,10 +18,12 @@ use Rattle.qfs_base.specs.Key.{key_cmp}
 use Rattle.qfs_base.specs.KeyLaws.{key_cmp_total}
 use Rattle.qfs_base.specs.KeyMap.{value_at, has_key, with_entry, without_key, unless}
 use Rattle.qfs_base.specs.declared.chunk.ChunkKey.{ChunkKey}
+use Rattle.qfs_device.proofs.Sizes.{keys-sizes_of}
 use Rattle.qfs_device.specs.Held.{Held, Contents, bytes_at, handing, sizes_of}
 use Rattle.qfs_device.specs.declared.chunk_device.KeySize.{KeySize}
 use Rattle.std.proofs.lemmas.Bool.Decides.{nat_tests}
 use Rattle.std.specs.Prelude.{Err}
+use Rattle.std.proofs.lemmas.Bool.{le-leb}
 use Rattle.qfs_device.specs.Fault.{TakesNoMemory}
 use Rattle.qfs_device.specs.declared.errors.DeviceError.{DeviceError}
 use Rattle.qfs_device.specs.declared.errors.DeviceError.TheVariants as Error
@@ -115,12 +117,8 @@ are_sized held (entry ∷ part) stand = (
   are_sized held part stand.1,
 )
 
-keys_are : (contents : Contents) → map (λ chunk. chunk.key) (sizes_of contents) ≡ keys_of contents
-keys_are [] = refl
-keys_are (entry ∷ rest) = ap (λ (keys : List ChunkKey). entry.0 ∷ keys) (keys_are rest)
-
 pub contents_rise : (held : Held) (sizes : List KeySize) → sizes ≡ sizes_of held.contents → IsStrictlySortedBy key_cmp (map (λ chunk. chunk.key) sizes) → IsStrictlySortedBy key_cmp (keys_of held.contents)
-contents_rise held sizes are rising = subst (IsStrictlySortedBy key_cmp) (ap (λ (t : List KeySize). map (λ chunk. chunk.key) t) are ∙ keys_are held.contents) rising
+contents_rise held sizes are rising = subst (IsStrictlySortedBy key_cmp) (ap (λ (t : List KeySize). map (λ chunk. chunk.key) t) are ∙ keys-sizes_of held.contents) rising
 
 pub all_begin : (stripe : ℕ) (held : Held) (told : Option Held) (begun : Sizes) (sizes : List KeySize) → told ≡ Some held → sizes ≡ sizes_of held.contents
     → IsStrictlySortedBy key_cmp (map (λ chunk. chunk.key) sizes) → Checked stripe held told begun begun sizes sizes
@@ -329,12 +327,9 @@ second_front (a ∷ b ∷ []) = refl
 second_front (a ∷ b ∷ c ∷ []) = refl
 second_front (a ∷ b ∷ c ∷ d ∷ rest) = refl
 
-long_enough : (size : ℕ) → 21 ≤ size → nat_le 21 size ≡ true
-long_enough size long = grind (arith, nat_tests)
-
 front_size : (bytes : List ℕ) (more : Bool) → 21 ≤ length bytes → (begins_second bytes && nat_le 25 (length bytes)) ≡ more → front_bytes bytes ≡ cond more 25 21
 front_size bytes more long is =
-    ap (λ (b : Bool). cond b (cond (begins_second bytes && nat_le 25 (length bytes)) 25 21) 0) (long_enough (length bytes) long)
+    ap (λ (b : Bool). cond b (cond (begins_second bytes && nat_le 25 (length bytes)) 25 21) 0) (le-leb 21 (length bytes) long)
     ∙ ap (λ (b : Bool). cond b 25 21) is
 
 -- so many bytes from the front were read, and are those that tell the head

@@ -7,16 +7,16 @@ use Rattle.qfs_base.specs.declared.request.ChunkRequest.{ChunkRequest}
 use Rattle.qfs_device.specs.Held.{Held}
 use Rattle.qfs_model_server.specs.Server.{Server, Answered}
 use Rattle.qfs_store.specs.Known.{Known}
-use Rattle.qfs_store.specs.Stored.{StandsOn, IsUnread, IsGrounded}
+use Rattle.qfs_store.specs.Stored.{StandsOn, IsUnread, IsConsistent}
 use Rattle.qfs_store.proofs.ReadLaws.{some_of}
 use Rattle.qfs_store.proofs.StepLaws.{Led}
 
-pub grounded_after : (request : ChunkRequest) (reply : ChunkReply) (stripe : ℕ) (told told' : Option Held) (known known' : Known) (act : Server → Answered) → is_some told' ≡ is_some told
+pub consistent_after : (request : ChunkRequest) (reply : ChunkReply) (stripe : ℕ) (told told' : Option Held) (known known' : Known) (act : Server → Answered) → is_some told' ≡ is_some told
     → ((server : Server) (held : Held) → told ≡ Some held → StandsOn stripe held known server → Led request reply stripe held told' known' server (act server))
-    → (IsUnread known → IsGrounded stripe told' known') → IsGrounded stripe told known → IsGrounded stripe told' known'
-grounded_after request reply stripe told told' known known' act tells step unread grounded held now_is =
+    → (IsUnread known → IsConsistent stripe told' known') → IsConsistent stripe told known → IsConsistent stripe told' known'
+consistent_after request reply stripe told told' known known' act tells step unread consistent held now_is =
     let before = some_of told (sym tells ∙ ap is_some now_is) in
-    elim (grounded before.0 before.1) [
+    elim (consistent before.0 before.1) [
       | inl stood ↦
           let led = step stood.0 before.0 before.1 stood.1 in
           let same : led.0 ≡ held = same_Some led.0 held (sym led.1 ∙ now_is) in

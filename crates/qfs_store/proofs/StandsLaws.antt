@@ -3,6 +3,7 @@
 use Rattle.std.proofs.Common.{◌≡◌, ℕ, ◌+◌, Bool, true, false, not, cond, List, [], length, Option, Some, None, is_some, refl, sym, ap, subst, ◌∙◌}
 use Rattle.std.specs.Prelude.{◌==◌, ◌&&◌, nat_le}
 use Rattle.std.specs.Option.{option_map}
+use Rattle.std.proofs.lemmas.Bool.{not-false}
 use Rattle.qfs_base.specs.Key.{key_cmp}
 use Rattle.qfs_base.specs.KeyLaws.{key_cmp_total}
 use Rattle.qfs_base.specs.KeyMap.{value_at, has_key, with_entry, without_key}
@@ -74,15 +75,11 @@ pub put_passed : (known : Known) (now : ℕ) (key : ChunkKey) (life : ℕ) (byte
     → (known.up ≡ true) × (has_key key_cmp known.copies key ≡ false)
 put_passed known now key life bytes none = both_passed life Answer.Held known.up now (has_key key_cmp known.copies key) none
 
-not_false : (b : Bool) → not b ≡ false → b ≡ true
-not_false true e = refl
-not_false false e = absurd cc
-
 pub fetch_passed : (known : Known) (now : ℕ) (key : ChunkKey) (life from : ℕ) (room : List ℕ) → refusal known now (Ask.Fetch key life from room) ≡ None
     → (known.up ≡ true) × (reaches (from + length room) (value_at key_cmp known.copies key) ≡ true)
 fetch_passed known now key life from room none =
     let p = both_passed life Answer.Absent known.up now (not (reaches (from + length room) (value_at key_cmp known.copies key))) none in
-    (p.0, not_false _ p.1)
+    (p.0, not-false _ p.1)
 
 pub erase_passed : (known : Known) (now : ℕ) (key : ChunkKey) (life : ℕ) → refusal known now (Ask.Erase key life) ≡ None → known.up ≡ true
 erase_passed known now key life none = (both_passed life Answer.Absent known.up now (not (has_key key_cmp known.copies key)) none).0

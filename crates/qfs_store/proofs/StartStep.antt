@@ -11,7 +11,7 @@ use Rattle.qfs_device.specs.Held.{Held}
 use Rattle.qfs_model_server.specs.Server.{Server, chunk_attempted, chunk_served, room_of, start_reads, without_room}
 use Rattle.qfs_model_store.specs.Stands.{HandsOut, kept}
 use Rattle.qfs_store.specs.Known.{Known, Sizes, sizes_in}
-use Rattle.qfs_store.specs.Serves.{IsLife, FindsCopies, StartLeaves, has_strays, up_after}
+use Rattle.qfs_store.specs.Serves.{IsLife, FindsCopies, StartLeaves, has_leftovers, up_after}
 use Rattle.qfs_store.specs.Start.{Reads, Found, copies_in, fronts}
 use Rattle.qfs_store.specs.Stored.{StandsOn}
 use Rattle.qfs_store.proofs.FoundLaws.{copies_found, ReadsAs, reads_as}
@@ -55,7 +55,7 @@ start_done stripe life true held told told' known copies' server told_is stands 
       record {
         reply_is = ap (λ (n : ℕ). without_room (Answer.Started n)) (life_told life told' held now_is life_is ∙ stands.stands.life);
         stands = started_stands stripe held held known server copies' stands refl refl (found.0 ∙ stands.copies);
-        handed = nothing_more (has_strays held server) held.handed_out server.handed_out (start_reads server) (none_up server (sym stands.up ∙ up));
+        handed = nothing_more (has_leftovers held server) held.handed_out server.handed_out (start_reads server) (none_up server (sym stands.up ∙ up));
       },
     )
 start_done stripe life false held told told' known copies' server told_is stands up life_is found =
@@ -69,7 +69,7 @@ start_done stripe life false held told told' known copies' server told_is stands
       record {
         reply_is = ap (λ (n : ℕ). without_room (Answer.Started n)) (life_told life told' now finds.reads.told_is life_is ∙ finds.reads.life ∙ stands.stands.life);
         stands = started_stands stripe held now known server copies' stands finds.reads.contents finds.reads.life (finds.copies ∙ same);
-        handed = handed_as (has_strays held server) held.handed_out now.handed_out server.handed_out (start_reads server) (fronts held.contents) reads.least reads.exact finds.reads.handed;
+        handed = handed_as (has_leftovers held server) held.handed_out now.handed_out server.handed_out (start_reads server) (fronts held.contents) reads.least reads.exact finds.reads.handed;
       },
     )
 

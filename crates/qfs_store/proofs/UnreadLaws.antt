@@ -24,7 +24,7 @@ use Rattle.qfs_record.specs.Part.{AreBytes}
 use Rattle.qfs_store.specs.Known.{Known, Sizes, size_of, sizes_in}
 use Rattle.qfs_store.specs.Serves.{FindsCopies, StartLeaves, up_after}
 use Rattle.qfs_store.specs.Start.{front_bytes, copy_under, AreFronts, entry_of, copies_in, Found}
-use Rattle.qfs_store.specs.Stored.{StandsOn, IsUnread, IsGrounded}
+use Rattle.qfs_store.specs.Stored.{StandsOn, IsUnread, IsConsistent}
 use Rattle.qfs_store.specs.declared.copies.CopySize.{CopySize}
 use Rattle.qfs_store.proofs.HeadLaws.{record_found, found_record}
 use Rattle.qfs_store.proofs.KeyLaws.{same_key, same_key-is, absent_again}
@@ -145,7 +145,7 @@ started_stands stripe form held now told copies found told_is =
 -- a store that waits for its first Start finds the server that it then stands for, or goes on to wait
 pub start_unread : (stripe : ℕ) (answer : ChunkAnswer) (told told' : Option Held) (known : Known) (copies' : Sizes) → IsUnread known
     → StartLeaves stripe known.up answer known.copies copies' told told' → is_some told' ≡ is_some told
-    → IsGrounded stripe told' (record known { up = up_after answer known.up; copies = copies' })
+    → IsConsistent stripe told' (record known { up = up_after answer known.up; copies = copies' })
 start_unread stripe (Answer.Started life) told told' known copies' waits left tells now now_is =
     let before = some_of told (sym tells ∙ ap is_some now_is) in
     let finds = subst (λ (up : Bool). FindsCopies stripe up known.copies copies' told told') waits.down left.1 in

@@ -23,9 +23,11 @@ sizes_in copies = map (λ (copy : ChunkKey × Chunk). (copy.0, size_of copy.1)) 
 
 -- another size in place of that of a copy that is there
 abbrev pub resized : Sizes → ChunkKey → CopySize → Sizes
-resized copies key size = if has_key key_cmp copies key then with_entry key_cmp copies key size else copies
+resized copies key size =
+    if has_key key_cmp copies key then with_entry key_cmp copies key size else copies
 
--- whether a server is up, the form in which it writes chunk records, and its copies as far as it knows them
+-- whether a server is up, the form in which it writes chunk records, and its copies as far as it
+-- knows them
 pub record Known : Type 0 where
   pub up : Bool
   pub form : ℕ
@@ -38,7 +40,8 @@ reaches end (Some size) = nat_le end size.len
 
 -- ---- refusals
 
--- a server that isn't up, or is in another life than the one that was asked for, refuses; else the rest decides
+-- a server that isn't up, or is in another life than the one that was asked for, refuses; else the
+-- rest decides
 abbrev pub unless_away : Known → ℕ → ℕ → Option ChunkAnswer → Option ChunkAnswer
 unless_away known now life other =
     refuse (not known.up) Answer.Down (refuse (not (life == now)) (Answer.Lost life now) other)
@@ -49,7 +52,8 @@ refusal known now (Ask.Put key life bytes) =
     unless_away known now life (refuse (has_key key_cmp known.copies key) Answer.Held None)
 refusal known now (Ask.Fetch key life from room) =
     unless_away known now life
-    (refuse (not (reaches (from + length room) (value_at key_cmp known.copies key))) Answer.Absent None)
+    (refuse (not (reaches (from + length room) (value_at key_cmp known.copies key)))
+    Answer.Absent None)
 refusal known now (Ask.Erase key life) =
     unless_away known now life (refuse (not (has_key key_cmp known.copies key)) Answer.Absent None)
 refusal known now Ask.Stop = None

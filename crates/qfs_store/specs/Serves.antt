@@ -27,7 +27,8 @@ use Rattle.qfs_store.specs.Start.{Reads, Found}
 use Rattle.qfs_store.specs.Stored.{Stored, StandsOn}
 use Rattle.qfs_store.specs.declared.copies.CopySize.{CopySize}
 
--- a request that some actor may ask: a Put's slot is one of nine, and its bytes are at most 67,108,864
+-- a request that some actor may ask: a Put's slot is one of nine, and its bytes are at most
+-- 67,108,864
 abbrev pub IsBuilt : ChunkRequest → Type 0
 IsBuilt (Ask.Put key life bytes) = (key.slot < SLOTS) × (length bytes ≤ MOST_CHUNK_BYTES)
 IsBuilt _ = ⊤
@@ -38,13 +39,24 @@ IsBuilt _ = ⊤
 abbrev pub IsLife : ℕ → Option Held → Type 0
 IsLife life told = IfSome told (λ held. life ≡ held.life)
 
--- a Put stores this record under its key; one that failed leaves that key absent or holding a front of the record
-abbrev pub PutLeaves : ChunkKey → CopySize → List ℕ → ChunkAnswer → Sizes → Sizes → Option Held → Option Held → Type 0
+-- a request that names no key
+abbrev pub IsWhole : ChunkRequest → Type 0
+IsWhole (Ask.Put key life bytes) = ⊥
+IsWhole (Ask.Fetch key life from room) = ⊥
+IsWhole (Ask.Erase key life) = ⊥
+IsWhole request = ⊤
+
+-- a Put stores this record under its key; one that failed leaves that key absent or holding a front
+-- of the record
+abbrev pub PutLeaves : ChunkKey → CopySize → List ℕ → ChunkAnswer → Sizes → Sizes → Option Held
+    → Option Held → Type 0
 PutLeaves key size spelled Answer.Stored copies copies' told told' =
     (copies' ≡ with_entry key_cmp copies key size) × (told' ≡ option_map (holding key spelled) told)
 PutLeaves key size spelled Answer.Fault copies copies' told told' =
-    (copies' ≡ copies) × ((left : Option (List ℕ)) × IsTorn spelled left × (told' ≡ option_map (leaving key left) told))
-PutLeaves key size spelled Answer.NoMemory copies copies' told told' = (copies' ≡ copies) × (told' ≡ told)
+    (copies' ≡ copies)
+    × ((left : Option (List ℕ)) × IsTorn spelled left × (told' ≡ option_map (leaving key left) told))
+PutLeaves key size spelled Answer.NoMemory copies copies' told told' =
+    (copies' ≡ copies) × (told' ≡ told)
 PutLeaves key size spelled _ copies copies' told told' = ⊥
 
 -- a device has, behind the head of a copy of this size, so many bytes of it from this offset on
@@ -52,13 +64,17 @@ pub record IsPart (held : Held) (key : ChunkKey) (size : CopySize) (from count :
   pub lies : LiesIn held key (head_bytes size.form + from) count
   pub small : head_bytes size.form + from < 2 ^ 32
 
--- a Fetch fills its room from the record of the copy, behind its head, or with zeros where it failed
-abbrev pub FetchLeaves : ChunkKey → CopySize → ℕ → ℕ → ChunkAnswer → List ℕ → Option Held → Option Held → Type 0
+-- a Fetch fills its room from the record of the copy, behind its head, or with zeros where it
+-- failed
+abbrev pub FetchLeaves : ChunkKey → CopySize → ℕ → ℕ → ChunkAnswer → List ℕ → Option Held
+    → Option Held → Type 0
 FetchLeaves key size from count Answer.Fetched room told told' =
     (told' ≡ option_map (handing count) told)
     × (length room ≡ count)
-    × IfSome told (λ held. room ≡ take count (drop (head_bytes size.form + from) (bytes_at held key)))
-FetchLeaves key size from count Answer.Fault room told told' = (told' ≡ told) × (room ≡ replicate count 0)
+    × IfSome told
+    (λ held. room ≡ take count (drop (head_bytes size.form + from) (bytes_at held key)))
+FetchLeaves key size from count Answer.Fault room told told' =
+    (told' ≡ told) × (room ≡ replicate count 0)
 FetchLeaves key size from count _ room told told' = ⊥
 
 -- an Erase takes its key out
@@ -81,12 +97,13 @@ InventoryIs (Answer.Inventory life keys) copies told = (keys ≡ keys_of copies)
 InventoryIs Answer.NoMemory copies told = ⊤
 InventoryIs _ copies told = ⊥
 
--- a stopped server, whose copies rose by key, has those that stand on its device, and all fronts were read; on one that
--- is up nothing is read
+-- a stopped server, whose copies rose by key, has those that stand on its device, and all fronts
+-- were read; on one that is up nothing is read
 abbrev pub FindsCopies : ℕ → Bool → Sizes → Sizes → Option Held → Option Held → Type 0
 FindsCopies stripe true copies copies' told told' = (copies' ≡ copies) × (told' ≡ told)
 FindsCopies stripe false copies copies' told told' =
-    IsStrictlySortedBy key_cmp (keys_of copies) × ((held : Held) → told ≡ Some held → Found stripe held copies' told')
+    IsStrictlySortedBy key_cmp (keys_of copies)
+    × ((held : Held) → told ≡ Some held → Found stripe held copies' told')
 
 -- a Start that failed may have read; one that found no memory has read nothing
 abbrev pub StartLeaves : ℕ → Bool → ChunkAnswer → Sizes → Sizes → Option Held → Option Held → Type 0
@@ -94,7 +111,8 @@ StartLeaves stripe up (Answer.Started life) copies copies' told told' =
     IsLife life told' × FindsCopies stripe up copies copies' told told'
 StartLeaves stripe up Answer.Fault copies copies' told told' =
     (copies' ≡ copies) × ((held : Held) → told ≡ Some held → (count : ℕ) × Reads held told' count)
-StartLeaves stripe up Answer.NoMemory copies copies' told told' = (copies' ≡ copies) × (told' ≡ told)
+StartLeaves stripe up Answer.NoMemory copies copies' told told' =
+    (copies' ≡ copies) × (told' ≡ told)
 StartLeaves stripe up _ copies copies' told told' = ⊥
 
 -- ---- whole requests
@@ -137,11 +155,17 @@ Does (Ask.Erase key life) reply before after =
     (reply.room ≡ []) × SameBut before after
     × EraseLeaves key reply.answer before.known.copies after.known.copies before.told after.told
 Does Ask.Stop reply before after =
-    (reply ≡ without_room Answer.Stopped) × (after.known ≡ record before.known { up = false }) × (after.told ≡ before.told)
+    (reply ≡ without_room Answer.Stopped)
+    × (after.known ≡ record before.known { up = false }) × (after.told ≡ before.told)
 Does Ask.Start reply before after =
     (reply.room ≡ [])
-    × (after.known ≡ record before.known { up = up_after reply.answer before.known.up; copies = after.known.copies })
-    × StartLeaves before.stripe before.known.up reply.answer before.known.copies after.known.copies before.told after.told
+    × (after.known
+    ≡ record before.known {
+      up = up_after reply.answer before.known.up;
+      copies = after.known.copies;
+    })
+    × StartLeaves before.stripe before.known.up reply.answer before.known.copies
+    after.known.copies before.told after.told
 Does Ask.Wipe reply before after =
     (reply.room ≡ []) × SameBut before after
     × WipeLeaves reply.answer before.known.copies after.known.copies before.told after.told
@@ -149,10 +173,12 @@ Does Ask.Inventory reply before after =
     (reply.room ≡ []) × (after.known ≡ before.known) × (after.told ≡ before.told)
     × InventoryIs reply.answer before.known.copies before.told
 Does Ask.Upgrade reply before after =
-    (reply ≡ without_room Answer.Upgraded) × (after.known ≡ record before.known { form = 2 }) × (after.told ≡ before.told)
+    (reply ≡ without_room Answer.Upgraded)
+    × (after.known ≡ record before.known { form = 2 }) × (after.told ≡ before.told)
 
 -- what is done, and counted, over one stripe
-pub record IsDone (request : ChunkRequest) (reply : ChunkReply) (before after : Stored) : Type 0 where
+pub record IsDone (request : ChunkRequest) (reply : ChunkReply) (before after : Stored)
+    : Type 0 where
   pub stripe : after.stripe ≡ before.stripe
   pub does : Does request reply before after
   pub counted : Counted reply.answer before.faults after.faults
@@ -163,26 +189,33 @@ pub record IsAllowed (request : ChunkRequest) (before : Stored) : Type 0 where
   pub life : IsLife now before.told
   pub none : refusal before.known now request ≡ None
 
--- a refusal comes where it is due and changes nothing, and the room comes back; else the request is carried out
+-- a refusal comes where it is due and changes nothing, and the room comes back; else the request is
+-- carried out
 abbrev pub Answers : ChunkRequest → ChunkReply → Stored → Stored → Option ChunkAnswer → Type 0
-Answers request reply before after (Some answer) = (reply ≡ record { answer = answer; room = room_of request }) × (after ≡ before)
+Answers request reply before after (Some answer) =
+    (reply ≡ record { answer = answer; room = room_of request }) × (after ≡ before)
 Answers request reply before after None = IsDone request reply before after
 
 -- ---- the step of the definitions
 
 -- whether a key on the device is that of no copy
-abbrev pub has_strays : Held → Server → Bool
-has_strays held server = list_any (λ (chunk : ChunkKey × List ℕ). not (has_key key_cmp server.copies chunk.0)) held.contents
+abbrev pub has_leftovers : Held → Server → Bool
+has_leftovers held server =
+    list_any (λ (chunk : ChunkKey × List ℕ). not (has_key key_cmp server.copies chunk.0))
+    held.contents
 
--- whether a step may have read more than the server of the definitions: a Start that failed, or that found keys of no copy
+-- whether a step may have read more than the server of the definitions: a Start that failed, or
+-- that found keys of no copy
 abbrev pub reads_more : ChunkRequest → ChunkAnswer → Held → Server → Bool
 reads_more Ask.Start Answer.Fault held server = true
 reads_more Ask.Start Answer.NoMemory held server = false
-reads_more Ask.Start _ held server = has_strays held server
+reads_more Ask.Start _ held server = has_leftovers held server
 reads_more _ answer held server = false
 
--- the two stand for the server where a step of the definitions led, gave its reply and handed out what it did
-pub record Steps (request : ChunkRequest) (reply : ChunkReply) (stripe : ℕ) (before after : Held) (known : Known) (server : Server) (step : Answered) : Type 0 where
+-- the two stand for the server where a step of the definitions led, gave its reply and handed out
+-- what it did
+pub record Steps (request : ChunkRequest) (reply : ChunkReply) (stripe : ℕ) (before after : Held)
+    (known : Known) (server : Server) (step : Answered) : Type 0 where
   pub reply_is : reply ≡ step.reply
   pub stands : StandsOn stripe after known step.server
   pub handed : HandsOut (reads_more request reply.answer before server) after.handed_out
@@ -193,10 +226,12 @@ abbrev pub IsStep : ChunkRequest → ChunkReply → Stored → Stored → Type 0
 IsStep request reply before after =
     (server : Server) (held : Held) → before.told ≡ Some held → StandsOn before.stripe held before.known server
     → (now : Held) × (after.told ≡ Some now)
-    × Steps request reply before.stripe held now after.known server (server_step request (chunk_outcome reply.answer) server)
+    × Steps request reply before.stripe held now after.known server
+    (server_step request (chunk_outcome reply.answer) server)
 
 -- what comes of a request
-pub record Serves (request : ChunkRequest) (reply : ChunkReply) (before after : Stored) : Type 0 where
+pub record Serves (request : ChunkRequest) (reply : ChunkReply) (before after : Stored)
+    : Type 0 where
   -- the life that the device gave, and the answer by it: over any device
   pub now : ℕ
   pub life : IsLife now before.told

@@ -23,11 +23,13 @@ use Rattle.qfs_store.specs.declared.copies.CopySize.{CopySize}
 
 -- ---- reading a head
 
--- how many bytes are read to know the head of these: none where there are fewer than the shorter head has
+-- how many bytes are read to know the head of these: none where there are fewer than the shorter
+-- head has
 abbrev pub front_bytes : List ℕ → ℕ
 front_bytes bytes =
     if nat_le FIRST_HEAD_BYTES (length bytes)
-    then (if begins_second bytes && nat_le SECOND_HEAD_BYTES (length bytes) then SECOND_HEAD_BYTES else FIRST_HEAD_BYTES)
+    then (if begins_second bytes && nat_le SECOND_HEAD_BYTES (length bytes)
+    then SECOND_HEAD_BYTES else FIRST_HEAD_BYTES)
     else 0
 
 -- a head names this key, this stripe where its form names one, and as many bytes as there are
@@ -42,15 +44,19 @@ size_in head = record { form = head.form; len = head.len }
 -- the copy that a head of a record of this size tells of, if it does
 abbrev pub copy_in : ℕ → ChunkKey → ℕ → Option Head → Option CopySize
 copy_in stripe key size None = None
-copy_in stripe key size (Some head) = if is_head_of stripe key size head then Some (size_in head) else None
+copy_in stripe key size (Some head) =
+    if is_head_of stripe key size head then Some (size_in head) else None
 
 -- the copy that these bytes under this key are the record of, if they are one
 abbrev pub copy_under : ℕ → ChunkKey → List ℕ → Option CopySize
-copy_under stripe key bytes = copy_in stripe key (length bytes) (head_in (take (front_bytes bytes) bytes))
+copy_under stripe key bytes =
+    copy_in stripe key (length bytes) (head_in (take (front_bytes bytes) bytes))
 
 -- the head of a chunk under each key was read: all that was read are bytes
 abbrev pub AreFronts : Contents → Type 0
-AreFronts contents = AllByRecursion (λ (chunk : ChunkKey × List ℕ). AreBytes (take (front_bytes chunk.1) chunk.1)) contents
+AreFronts contents =
+    AllByRecursion
+    (λ (chunk : ChunkKey × List ℕ). AreBytes (take (front_bytes chunk.1) chunk.1)) contents
 
 -- ---- all keys
 
@@ -60,7 +66,9 @@ entry_of key size = (key, size)
 -- the copies on a device
 abbrev pub copies_in : ℕ → Contents → Sizes
 copies_in stripe contents =
-    filter_map (λ (chunk : ChunkKey × List ℕ). option_map (entry_of chunk.0) (copy_under stripe chunk.0 chunk.1)) contents
+    filter_map
+    (λ (chunk : ChunkKey × List ℕ).
+    option_map (entry_of chunk.0) (copy_under stripe chunk.0 chunk.1)) contents
 
 -- how many bytes are read to know all heads
 abbrev pub fronts : Contents → ℕ
@@ -74,7 +82,9 @@ unread = record { form = 1; len = 0 }
 
 -- a key is noted where its bytes are enough for a head
 abbrev pub noting : Sizes → KeySize → Sizes
-noting copies chunk = if nat_le FIRST_HEAD_BYTES chunk.size then with_entry key_cmp copies chunk.key unread else copies
+noting copies chunk =
+    if nat_le FIRST_HEAD_BYTES chunk.size
+    then with_entry key_cmp copies chunk.key unread else copies
 
 -- a noted key gets the size of its copy, or is taken out
 abbrev pub settled : Sizes → ChunkKey → Option CopySize → Sizes
@@ -84,7 +94,8 @@ settled copies key (Some size) = resized copies key size
 abbrev pub checking : ℕ → Held → Sizes → KeySize → Sizes
 checking stripe held copies chunk =
     if nat_le FIRST_HEAD_BYTES chunk.size
-    then settled copies chunk.key (copy_under stripe chunk.key (bytes_at held chunk.key)) else copies
+    then settled copies chunk.key (copy_under stripe chunk.key (bytes_at held chunk.key))
+    else copies
 
 -- how many bytes are read to know the head under a key
 abbrev pub front_under : Held → KeySize → ℕ
@@ -118,7 +129,8 @@ pub record Found (stripe : ℕ) (held : Held) (known : Sizes) (told : Option Hel
   pub reads : Reads held told (fronts held.contents)
 
 -- the checks of the keys up to those that are left
-pub record Checked (stripe : ℕ) (held : Held) (told : Option Held) (begun now : Sizes) (sizes rest : List KeySize) : Type 0 where
+pub record Checked (stripe : ℕ) (held : Held) (told : Option Held) (begun now : Sizes)
+    (sizes rest : List KeySize) : Type 0 where
   pub count : ℕ
   pub reads : Reads held told count
   pub leads : fold (checking stripe held) now rest ≡ fold (checking stripe held) begun sizes
@@ -133,15 +145,19 @@ HeadRead held told chunk (Ok head) =
     × Reads held told (front_under held chunk)
 HeadRead held told chunk (Err error) = (count : ℕ) × Reads held told count
 
-abbrev pub KeyChecked : {E : Type 0} → ℕ → Held → Option Held → KeySize → Sizes → Sizes → Result (Unit {0}) E → Type 0
+abbrev pub KeyChecked : {E : Type 0} → ℕ → Held → Option Held → KeySize → Sizes → Sizes
+    → Result (Unit {0}) E → Type 0
 KeyChecked stripe held told chunk copies copies' (Ok done) =
-    (copies' ≡ checking stripe held copies chunk) × HasBytes held chunk × Reads held told (front_under held chunk)
+    (copies' ≡ checking stripe held copies chunk)
+    × HasBytes held chunk × Reads held told (front_under held chunk)
 KeyChecked stripe held told chunk copies copies' (Err error) = (count : ℕ) × Reads held told count
 
--- the copies on a device were found, and all fronts read; or it failed after some; or no memory was found and nothing read
+-- the copies on a device were found, and all fronts read; or it failed after some; or no memory was
+-- found and nothing read
 abbrev pub FindsOn : ℕ → Result Sizes DeviceError → Option Held → Option Held → Type 0
 FindsOn stripe (Ok copies) told told' =
     (held : Held) → told ≡ Some held
     → Found stripe held copies told'
-FindsOn stripe (Err Failed) told told' = (held : Held) → told ≡ Some held → (count : ℕ) × Reads held told' count
+FindsOn stripe (Err Failed) told told' =
+    (held : Held) → told ≡ Some held → (count : ℕ) × Reads held told' count
 FindsOn stripe (Err NoMemory) told told' = told' ≡ told

@@ -1,4 +1,5 @@
--- A chunk server together with its device, and the server of the definitions that the two stand for.
+-- A chunk server together with its device, and the server of the definitions that the two stand
+-- for.
 use Rattle.std.specs.Prelude.{ℕ, ◌≡◌, ◌⊎◌, false, true, [], Option}
 use Rattle.std.specs.Option.{ForSome}
 use Rattle.qfs_base.specs.Shape.{IsStripe}
@@ -7,8 +8,8 @@ use Rattle.qfs_model_server.specs.Server.{Server}
 use Rattle.qfs_model_store.specs.Stands.{StandsFor}
 use Rattle.qfs_store.specs.Known.{Known, sizes_in}
 
--- the stripe of the layout, what the server knows of its copies, what its device tells that it holds, if it tells that,
--- and how often the device has failed
+-- the stripe of the layout, what the server knows of its copies, what its device tells that it
+-- holds, if it tells that, and how often the device has failed
 pub record Stored : Type 0 where
   pub stripe : ℕ
   pub known : Known
@@ -34,13 +35,15 @@ pub record IsUnread (known : Known) : Type 0 where
   pub down : known.up ≡ false
   pub none : known.copies ≡ []
 
--- as far as the device tells what it holds, there is a server that the two stand for, or they wait for the first Start
--- or Wipe
-abbrev pub IsGrounded : ℕ → Option Held → Known → Type 0
-IsGrounded stripe told known = ForSome told (λ held. ((server : Server) × StandsOn stripe held known server) ⊎ IsUnread known)
+-- as far as the device tells what it holds, there is a server that the two stand for, or they wait
+-- for the first Start or Wipe
+abbrev pub IsConsistent : ℕ → Option Held → Known → Type 0
+IsConsistent stripe told known =
+    ForSome told
+    (λ held. ((server : Server) × StandsOn stripe held known server) ⊎ IsUnread known)
 
 -- what holds of a store at any time
 pub record IsSound (store : Stored) : Type 0 where
   pub stripe : IsStripe store.stripe
   pub form : (store.known.form ≡ 1) ⊎ (store.known.form ≡ 2)
-  pub grounded : IsGrounded store.stripe store.told store.known
+  pub consistent : IsConsistent store.stripe store.told store.known

@@ -2,6 +2,7 @@
 ghost use Rattle.std.specs.Prelude.{◌≡◌, ℕ, ◌≤◌, [], ◌++◌, Some, is_some, IfOk, OnOk};
 ghost use Rattle.std.specs.Option.{ForSome};
 ghost use Rattle.std.specs.List.{fold};
+ghost use Rattle.qfs_base.specs.Sizes.{FIRST_HEAD_BYTES};
 ghost use Rattle.qfs_device.specs.Fault.{Counts, TakesNoMemory};
 ghost use Rattle.qfs_device.specs.Held.{Held};
 ghost use Rattle.qfs_model_server.specs.Chunk.{head_bytes};
@@ -13,6 +14,14 @@ use qfs_base::sizes::{FIRST_HEAD_BYTES, SECOND_HEAD_BYTES};
 use qfs_device::{ChunkDevice, DeviceError, KeySize, KeySizes};
 use qfs_record::{Head, is_second, read_head};
 use std::alloc::{AllocError, Global};
+
+/// The bytes of a head of the first version, of one of the second, and of the stripe that the
+/// second has more.
+const FIRST: usize = FIRST_HEAD_BYTES as usize;
+
+const SECOND: usize = SECOND_HEAD_BYTES as usize;
+
+const MORE: usize = SECOND - FIRST;
 
 /// The bytes of the head of a chunk record of this version.
 #[tactic(auto, unfolding(qfs_model_server::specs::Chunk::head_bytes))]
@@ -101,7 +110,7 @@ fn settle(copies: &mut Copies, key: ChunkKey, size: Option<CopySize>)
 
 /// The head under a key whose bytes are enough for one, or None where they begin with none.
 fn head_under<D: ChunkDevice>(device: &mut D, chunk: &KeySize) -> Result<Option<Head>, DeviceError>
-    requires long { 21 ≤ chunk.now.size }
+    requires long { FIRST_HEAD_BYTES ≤ chunk.now.size }
     requires readable { ForSome (D.told device.old) (λ held. IsSized held chunk.now) }
     ensures read { (held : Held) → D.told device.old ≡ Some held
         → HeadRead held (D.told device.new) chunk.now result }
@@ -109,23 +118,23 @@ fn head_under<D: ChunkDevice>(device: &mut D, chunk: &KeySize) -> Result<Option<
     ensures counts { Counts (D.faults device.old) (D.faults device.new) result }
     ensures no_memory { TakesNoMemory result }
 {
-    let mut first = [0u8; 21];
+    let mut first = [0u8; FIRST];
     device.read(chunk.key, 0, &mut first)?;
     if !is_second(&first) || chunk.size < SECOND_HEAD_BYTES as u64 {
         return Ok(read_head(&first));
     }
-    let mut stripe = [0u8; 4];
+    let mut stripe = [0u8; MORE];
     device.read(chunk.key, FIRST_HEAD_BYTES, &mut stripe)?;
     Ok(read_head(&joined(&first, &stripe)))
 }
 
 /// The bytes of a head of the second version, whose stripe stands behind the others.
-fn joined(first: &[u8; 21], stripe: &[u8; 4]) -> [u8; 25]
+fn joined(first: &[u8; FIRST], stripe: &[u8; MORE]) -> [u8; SECOND]
     ensures { result ≡ first.now ++ stripe.now }
 {
-    let mut front = [0u8; 25];
-    front[..21].copy_from_slice(first);
-    front[21..].copy_from_slice(stripe);
+    let mut front = [0u8; SECOND];
+    front[..FIRST].copy_from_slice(first);
+    front[FIRST..].copy_from_slice(stripe);
     front
 }
 

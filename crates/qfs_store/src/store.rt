@@ -7,7 +7,7 @@ ghost use Rattle.qfs_base.specs.KeyMap.{value_at};
 ghost use Rattle.qfs_device.specs.Held.{new_device};
 ghost use Rattle.qfs_model_server.specs.Server.{fresh_server, refuse, room_of};
 ghost use Rattle.qfs_store.specs.Known.{refusal, unless_away, reaches};
-ghost use Rattle.qfs_store.specs.Serves.{IsBuilt, IsAllowed, IsDone, Serves};
+ghost use Rattle.qfs_store.specs.Serves.{IsBuilt, IsAllowed, IsDone, IsWhole, Serves};
 ghost use Rattle.qfs_store.specs.Stored.{no_copies, stopped, StandsOn};
 
 use crate::copies::Copies;
@@ -231,6 +231,23 @@ impl<D: ChunkDevice> Store<D> {
                 answer: erase(&mut self.device, &mut self.copies, key),
                 room: none,
             },
+            ChunkRequest::Stop
+            | ChunkRequest::Start
+            | ChunkRequest::Wipe
+            | ChunkRequest::Inventory
+            | ChunkRequest::Upgrade => self.carry_out_whole(request),
+        }
+    }
+
+    /// Does what a request asks for that names no key and isn't refused.
+    fn carry_out_whole(&mut self, request: ChunkRequest) -> ChunkReply
+        requires whole { IsWhole request }
+        requires due { IsAllowed request self.old }
+        ensures done { IsDone request result self.old self.new }
+        ensures tells { is_some self.new.told ≡ is_some self.old.told }
+    {
+        let none = Bytes::new(self.alloc);
+        match request {
             ChunkRequest::Stop => {
                 self.up = false;
                 ChunkReply {
@@ -262,6 +279,9 @@ impl<D: ChunkDevice> Store<D> {
                     answer: ChunkAnswer::Upgraded,
                     room: none,
                 }
+            }
+            ChunkRequest::Put { .. } | ChunkRequest::Fetch { .. } | ChunkRequest::Erase { .. } => {
+                unreachable!()
             }
         }
     }

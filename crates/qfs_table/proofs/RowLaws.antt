@@ -11,6 +11,7 @@ use Rattle.std.specs.declared.cmp.Ordering.{Ordering}
 use Rattle.std.specs.declared.cmp.Ordering.TheVariants.{Less, Equal, Greater}
 use Rattle.qfs_base.specs.Table.{Each, IsRising, place, place_before, without, has_key, is_behind}
 use Rattle.qfs_table.specs.Cuts.{IsCut}
+use Rattle.qfs_table.specs.KeyLaws.{gt_is}
 use Rattle.qfs_table.specs.Keys.{Falls, Follows, IsOnly, starts_tied, without_first}
 use Rattle.qfs_table.specs.declared.place.Place.{Place}
 use Rattle.qfs_table.specs.Chunks.{flat, rows_at, front, back}
@@ -21,11 +22,6 @@ use Rattle.qfs_base.specs.EachLaws.{each_weaker, each_append}
 use Rattle.qfs_table.proofs.EachLaws.{each_back}
 
 -- ---- what a comparison was
-
-gt_is : (o : Ordering) → is_gt o ≡ true → o ≡ Greater
-gt_is Less e = absurd (true≢false (sym e))
-gt_is Equal e = absurd (true≢false (sym e))
-gt_is Greater e = refl
 
 pub gt_not_eq : (o : Ordering) → is_gt o ≡ true → is_eq o ≡ false
 gt_not_eq o e = ap is_eq (gt_is o e)
@@ -40,7 +36,7 @@ lt_from Less e = refl
 lt_from Equal e = absurd (true≢false e)
 lt_from Greater e = absurd (true≢false e)
 
-lt_not_eq : (o : Ordering) → is_ge o ≡ false → is_eq o ≡ false
+pub lt_not_eq : (o : Ordering) → is_ge o ≡ false → is_eq o ≡ false
 lt_not_eq Less e = refl
 lt_not_eq Equal e = absurd (true≢false e)
 lt_not_eq Greater e = absurd (true≢false e)
@@ -69,26 +65,6 @@ module _ {X : Type 0} (cmp : X → X → Ordering) (order : X → Ordering)
 
   pub key_cut_ge : (rows : List X) → IsRising cmp rows → IsCut (λ row. is_ge (order row)) rows
   key_cut_ge = rising_cut (λ row. is_ge (order row)) cmp (λ a b below. (falls a b below).1)
-
-module _ {K : Type 0} {cmp : K → K → Ordering} (total : IsTotalOrder cmp) where
-  lower : (x y k : K) → cmp x y ≡ Less → cmp y k ≡ Less → cmp x k ≡ Less
-  lower x y k less below = total.trans x y k less below
-
-  higher : (k x y : K) → cmp x y ≡ Less → cmp k x ≡ Less → cmp k y ≡ Less
-  higher k x y less below = total.trans k x y below less
-
-  -- a row as a key compares with a lower row and then with a higher one
-  pub row_falls : (k x y : K) → cmp x y ≡ Less → Falls (cmp k x) (cmp k y)
-  row_falls k x y less = (
-    λ above. ap is_gt (total.antisymm k x ∙ ap ordering_reverse
-        (lower x y k less (total.antisymm y k ∙ ap ordering_reverse (gt_is _ above)))),
-    λ not_below.
-        elim (cmp k x) as (λ o. cmp k x ≡ o → is_ge o ≡ true) [
-          | Less ↦ λ below. absurd (true≢false (sym not_below ∙ ap is_ge (higher k x y less below)))
-          | Equal ↦ λ same. refl
-          | Greater ↦ λ above. refl
-        ] refl,
-  )
 
 -- ---- what is found
 

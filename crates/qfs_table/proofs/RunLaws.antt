@@ -12,6 +12,7 @@ use Rattle.qfs_table.specs.Chunks.{flat, rows_at, front, back}
 use Rattle.qfs_table.specs.Places.{IsFirst}
 use Rattle.qfs_base.specs.EachLaws.{each_weaker}
 use Rattle.qfs_table.proofs.EachLaws.{each_both, each_front, each_back}
+use Rattle.qfs_table.proofs.RowLaws.{gt_not_eq, lt_not_eq}
 use Rattle.qfs_table.proofs.FlatLaws.{flat_append, flat_cut}
 
 module _ {X : Type 0} where
@@ -100,16 +101,6 @@ filter_all test (row ∷ rows) each =
     ap (λ b. cond b (row ∷ filter test rows) (filter test rows)) each.0
     ∙ ap (λ rest. row ∷ rest) (filter_all test rows each.1)
 
-above_other : (o : Ordering) → is_gt o ≡ true → is_eq o ≡ false
-above_other Less e = refl
-above_other Equal e = absurd (true≢false (sym e))
-above_other Greater e = refl
-
-below_other : (o : Ordering) → is_ge o ≡ false → is_eq o ≡ false
-below_other Less e = refl
-below_other Equal e = absurd (true≢false e)
-below_other Greater e = absurd (true≢false e)
-
 between_so : (o : Ordering) → is_gt o ≡ false → is_ge o ≡ true → is_eq o ≡ true
 between_so Less e f = absurd (true≢false (sym f))
 between_so Equal e f = refl
@@ -154,9 +145,9 @@ module _ {T Z : Type 0} (order : T → Ordering) (chunks : List (Vec T Z)) (from
       sym (ap (filter test) (flat_cut chunks from.chunk from.row ∙ ap (λ rest. low ++ rest) rest_is)
       ∙ filter-append test low (between ++ high)
       ∙ ap (λ rows. rows ++ filter test (between ++ high))
-      (filter_none test low (each_weaker _ _ (λ row e. above_other (order row) e) low
+      (filter_none test low (each_weaker _ _ (λ row e. gt_not_eq (order row) e) low
       first.before))
       ∙ filter-append test between high
       ∙ (λ i. filter_all test between between_tied i ++ filter_none test high
-      (each_weaker _ _ (λ row e. below_other (order row) e) high last.behind) i)
+      (each_weaker _ _ (λ row e. lt_not_eq (order row) e) high last.behind) i)
       ∙ append-nil between)

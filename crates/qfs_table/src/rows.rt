@@ -7,9 +7,9 @@ ghost use Rattle.qfs_table.specs.Tables.{held, Takes};
 ghost use Rattle.qfs_table.specs.Rooms.{strain};
 
 use crate::chunk::{HALF, MOST};
-use crate::key::{BelowKey, Change, Key, Row};
+use crate::key::{BelowKey, ByRow, Change, Key, Row};
 use crate::place::{Place, first_failing};
-use crate::search::{has_row, search, search_row};
+use crate::search::{has_row, search};
 use crate::shelf::{
     behind, change_row, insert_row, join_around, open_first, remove_row, replace_row, settled,
 };
@@ -53,7 +53,7 @@ pub fn place_row<T: Row>(
     ensures few { length spare.old.items ≤ length spare.new.items + result }
     ensures many { even ≡ true → Takes result chunks.old spare.old chunks.new spare.new }
 {
-    match search_row(chunks.as_slice(), &row) {
+    match search(chunks.as_slice(), &ByRow { row: &row }) {
         Ok(at) => {
             replace_row(chunks, at, row);
             0

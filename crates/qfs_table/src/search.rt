@@ -6,7 +6,7 @@ ghost use Rattle.qfs_table.specs.Chunks.{flat, back, IsChunk};
 ghost use Rattle.qfs_table.specs.Keys.{starts_tied};
 ghost use Rattle.qfs_table.specs.Places.{IsPlaced, IsSought};
 
-use crate::key::{BelowKey, BelowRow, Key, Row, UpToKey};
+use crate::key::{BelowKey, Key, Row, UpToKey};
 use crate::place::{Place, first_failing, row_at};
 use crate::run::Run;
 
@@ -25,21 +25,6 @@ pub fn search<T: Row, K: Key<T>>(chunks: &[Vec<T>], key: &K) -> Result<Place, Pl
     }
 }
 
-/// The place of the row with the key of another; else, as an error, where the other would stand.
-pub fn search_row<T: Row>(chunks: &[Vec<T>], row: &T) -> Result<Place, Place>
-    requires rising { IsRising T.cmp (flat chunks.now) }
-    requires sound { All IsChunk chunks.now }
-    ensures found { IfOk result (λ at. IsSought true (T.cmp row.now) chunks.now at) }
-    ensures free { IfErr result (λ at. IsSought false (T.cmp row.now) chunks.now at) }
-{
-    let at = first_failing(chunks, &BelowRow { row });
-    if is_tied(chunks, at, row) {
-        Ok(at)
-    } else {
-        Err(at)
-    }
-}
-
 /// Whether the row at a place has a key.
 pub fn has_row<T: Row, K: Key<T>>(chunks: &[Vec<T>], at: Place, key: &K) -> bool
     requires { IsPlaced chunks.now at }
@@ -47,17 +32,6 @@ pub fn has_row<T: Row, K: Key<T>>(chunks: &[Vec<T>], at: Place, key: &K) -> bool
 {
     match row_at(chunks, at) {
         Some(row) => key.order(row).is_eq(),
-        None => false,
-    }
-}
-
-/// Whether the row at a place has the key of another.
-fn is_tied<T: Row>(chunks: &[Vec<T>], at: Place, row: &T) -> bool
-    requires { IsPlaced chunks.now at }
-    ensures { result ≡ starts_tied (T.cmp row.now) (back chunks.now at.chunk at.row) }
-{
-    match row_at(chunks, at) {
-        Some(other) => row.cmp_row(other).is_eq(),
         None => false,
     }
 }

@@ -142,6 +142,7 @@ impl<T: Row> Table<T> {
         ensures rows { self.new.rows ≡ place T.cmp row self.old.rows }
         ensures spare { length self.new.rows + self.new.spare
             ≡ length self.old.rows + self.old.spare }
+        ensures few { self.old.spare ≤ self.new.spare + 1 }
     {
         let even = self.spare.len() < self.promised;
         let added = place_row(&mut self.chunks, &mut self.spare, row, even);

@@ -53,16 +53,16 @@ impl<D: ChunkDevice, L: LogDisk> Model for World<D, L> {
     ghost Value = { WorldView D L };
 
     ghost view = { λ it.
-      view_of it.script.value it.counts.value it.nodes.items it.actors.items it.order it.spare.items
-      it.disks };
+        view_of it.script.value it.counts.value it.nodes.items it.actors.items it.order
+        it.spare.items it.disks };
 
     ghost use Rattle.std.specs.Prelude.{vec_capacity};
     ghost use Rattle.qfs_world.specs.AtWork.{HasRoom, IsAtWork};
 
     ghost invariant = { λ it.
-      IsAtWork it.script.value it.counts.value it.nodes.items it.actors.items it.phases.items
-      it.order
-      × HasRoom it.nodes.items it.spare.items (vec_capacity it.spare) };
+        IsAtWork it.script.value it.counts.value it.nodes.items it.actors.items it.phases.items
+        it.order
+        × HasRoom it.nodes.items it.spare.items (vec_capacity it.spare) };
 }
 
 impl<D: ChunkDevice, L: LogDisk> World<D, L> {

@@ -3,6 +3,7 @@ use Rattle.std.proofs.Common.{◌≡◌, refl, ap, ◌∙◌}
 use Rattle.std.proofs.lemmas.Result.{err_from_is_err_and}
 use Rattle.qfs_base.specs.declared.image.MetaImage.{MetaImage}
 use Rattle.qfs_driver.proofs.DeviceLaws.{Ran, run_stays}
+use Rattle.qfs_driver.proofs.Remaining.{same_stay}
 use Rattle.qfs_driver.proofs.RunLaws.{run_prints, run_stops}
 use Rattle.qfs_driver.specs.declared.status.Status.TheVariants as Ended
 use Rattle.qfs_nodes.specs.Actors.{lines_of_actors}
@@ -62,3 +63,8 @@ returns-clause-err g c =
     let starts = rw c.replace-taken.ensures.value at c.in-Ok.ensures.ok in
     run_stops (record { enough = c.requires.enough; starts = starts; continues = c.play-played.ensures.continues; are = c.in-Err-into_parts.ensures.err_devices })
     c.args.number Ended.NoMemory c.in-Err-into_parts.ensures.after tt
+
+pub returns-in-Err-clause-places : goal.returns-in-Err-clause-places
+returns-in-Err-clause-places g c =
+    same_stay g.D.ChunkDevice.told g.D.ChunkDevice.faults c.args.script.now.servers c.args.devices.now.items c.in-Err.error.devices.items
+    (rw c.replace-taken.ensures.value at c.in-Err.ensures.err_devices)

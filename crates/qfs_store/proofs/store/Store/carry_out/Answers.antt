@@ -1,6 +1,5 @@
 -- Each request is served by its own function.
 use Rattle.std.proofs.Common.{refl, sym, ◌∙◌}
-use Rattle.qfs_base.specs.declared.reply.ChunkAnswer.TheVariants as Answer
 use Rattle.qfs_model_server.specs.Server.{without_room}
 use Rattle.qfs_store.proofs.DoesLaws.{sound_after, allowed_so, done_so}
 use Rattle.qfs_store.proofs.RangeLaws.{range_lies}
@@ -24,26 +23,6 @@ pub invariant_of-self-in-Erase : goal.invariant_of-self-in-Erase
 invariant_of-self-in-Erase g c =
     sound_after _ (without_room c.erase.result) _ _ (allowed_so _ _ _ _ c.in-Erase.is c.self.view_is c.requires.due) refl
     (refl, refl, c.erase.ensures.erased) c.erase.ensures.tells c.self.invariant
-
-pub invariant_of-self-in-Stop : goal.invariant_of-self-in-Stop
-invariant_of-self-in-Stop g c =
-    sound_after _ (without_room Answer.Stopped) _ _ (allowed_so _ _ _ _ c.in-Stop.is c.self.view_is c.requires.due) refl
-    (refl, refl, refl) refl c.self.invariant
-
-pub invariant_of-self-in-Start : goal.invariant_of-self-in-Start
-invariant_of-self-in-Start g c = rw c.start.ensures.up
-    (sound_after _ (without_room c.start.result) _ _ (allowed_so _ _ _ _ c.in-Start.is c.self.view_is c.requires.due) refl
-    (refl, refl, c.start.ensures.started) c.start.ensures.tells c.self.invariant)
-
-pub invariant_of-self-in-Wipe : goal.invariant_of-self-in-Wipe
-invariant_of-self-in-Wipe g c =
-    sound_after _ (without_room c.wipe.result) _ _ (allowed_so _ _ _ _ c.in-Wipe.is c.self.view_is c.requires.due) refl
-    (refl, refl, c.wipe.ensures.wiped) c.wipe.ensures.tells c.self.invariant
-
-pub invariant_of-self-in-Upgrade : goal.invariant_of-self-in-Upgrade
-invariant_of-self-in-Upgrade g c =
-    sound_after _ (without_room Answer.Upgraded) _ _ (allowed_so _ _ _ _ c.in-Upgrade.is c.self.view_is c.requires.due) refl
-    (refl, refl, refl) refl c.self.invariant
 
 pub returns-in-Put-clause-done : goal.returns-in-Put-clause-done
 returns-in-Put-clause-done g c =

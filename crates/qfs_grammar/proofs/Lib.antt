@@ -1,0 +1,6 @@
+mod LinesRead
+mod Orders
+mod LastItems
+mod Places
+mod Rows
+mod Taken

@@ -1,0 +1,11 @@
+pub mod Changes
+pub mod RowKeys
+pub mod Slots
+pub mod Condemning
+pub mod Granted
+pub mod Losses
+pub mod Losing
+pub mod Lists
+pub mod SlotTable
+pub mod Servers
+pub mod FreedLaws

@@ -1,0 +1,154 @@
+-- Rows that are placed where none has their key, and maps of tables that are placed, kept by a
+-- test or changed. Cited by the laws of slots, of the tree and of the metaserver.
+use Rattle.qfs_base.specs.Table.{Each, IsRising, change_row, change_where, place, place_all, place_before}
+use Rattle.std.proofs.Common.{Bool, List, [], ap, arith, cond, false, filter, map, refl, subst, sym, true, ℕ, ◌+◌, ◌||◌, ◌∙◌, ◌∷◌, ◌≡◌}
+use Rattle.std.specs.Cmp.{IsTotalOrder}
+use Rattle.std.specs.List.{list_any}
+use Rattle.std.specs.Ordering.{ordering_reverse}
+use Rattle.std.specs.declared.cmp.Ordering.{Ordering}
+use Rattle.std.specs.declared.cmp.Ordering.TheVariants.{Equal, Greater, Less}
+use Rattle.qfs_laws_tables.specs.EachRow.{each_place}
+use Rattle.qfs_laws_tables.specs.InOrder.{place_rises}
+use Rattle.qfs_laws_tables.specs.Keys.{less-not}
+use Rattle.qfs_laws_tables.specs.Sums.{total}
+
+abbrev pub Apart : {X : Type 0} → (X → X → Ordering) → X → List X → Type 0
+Apart order new rows = Each (λ row. order new row ≡ Equal → ⊥) rows
+
+pub any-placed : {X : Type 0} (order : X → X → Ordering) (test : X → Bool) (new : X) (rows : List X)
+    → Apart order new rows → list_any test (place order new rows) ≡ (test new || list_any test rows)
+any-placed order test new [] apart = refl
+any-placed order test new (row ∷ rows) apart =
+    (elim (order new row) as (λ o. order new row ≡ o → list_any test
+    (place_before new row rows (place order new rows) o) ≡ (test new
+    || (test row || list_any test rows))) [
+      | Less ↦ λ _. refl
+      | Equal ↦ λ is. absurd (apart.0 is)
+      | Greater ↦ λ _. ap (λ b. test row || b) (any-placed order test new rows apart.1) ∙ swap
+          (test row) (test new) (list_any test rows)
+    ]) refl
+  where
+    swap : (a b c : Bool) → (a || (b || c)) ≡ (b || (a || c))
+    swap true true c = refl
+    swap true false c = refl
+    swap false true c = refl
+    swap false false c = refl
+
+pub total-placed_apart : {X : Type 0} (order : X → X → Ordering) (w : X → ℕ) (new : X)
+    (rows : List X)
+    → Apart order new rows → total w (place order new rows) ≡ w new + total w rows
+total-placed_apart order w new [] apart = refl
+total-placed_apart order w new (row ∷ rows) apart =
+    let rest = total-placed_apart order w new rows apart.1 in
+    (elim (order new row) as (λ o. order new row ≡ o → total w
+    (place_before new row rows (place order new rows) o) ≡ w new + (w row + total w rows)) [
+      | Less ↦ λ _. refl
+      | Equal ↦ λ is. absurd (apart.0 is)
+      | Greater ↦ λ _. omega arith
+    ]) refl
+
+module _ {X : Type 0} {order : X → X → Ordering} (total_order : IsTotalOrder order) where
+  abbrev pub AllApart : List X → List X → Type 0
+  AllApart news rows = Each (λ new. Apart order new rows) news
+
+  still-apart : (new : X) (news rows : List X) → Each (λ later. order new later ≡ Less) news
+      → AllApart news rows → AllApart news (place order new rows)
+  still-apart new [] rows above apart = tt
+  still-apart new (next ∷ news) rows above apart = (
+    each_place (λ row. order next row ≡ Equal → ⊥) order new rows
+        (λ tie. less-not (sym above.0 ∙ total_order.antisymm new next ∙ ap ordering_reverse tie))
+        apart.0,
+    still-apart new news rows above.1 apart.1,
+  )
+
+  pub any-placed_all : (test : X → Bool) (news rows : List X) → IsRising order news
+      → AllApart news rows
+      → list_any test (place_all order news rows) ≡ (list_any test news || list_any test rows)
+  any-placed_all test [] rows rising apart = refl
+  any-placed_all test (new ∷ news) rows rising apart =
+      any-placed_all test news (place order new rows) rising.1
+      (still-apart new news rows rising.0 apart.1)
+      ∙ ap (λ b. list_any test news || b) (any-placed order test new rows apart.0)
+      ∙ swap (list_any test news) (test new) (list_any test rows)
+    where
+      swap : (a b c : Bool) → (a || (b || c)) ≡ ((b || a) || c)
+      swap true true c = refl
+      swap true false c = refl
+      swap false true c = refl
+      swap false false c = refl
+
+  pub total-placed_all : (w : X → ℕ) (news rows : List X) → IsRising order news → AllApart news rows
+      → total w (place_all order news rows) ≡ total w news + total w rows
+  total-placed_all w [] rows rising apart = omega arith
+  total-placed_all w (new ∷ news) rows rising apart =
+      let rest = total-placed_all w news (place order new rows) rising.1
+      (still-apart new news rows rising.0 apart.1) in
+      let here = total-placed_apart order w new rows apart.0 in
+      omega arith
+
+  pub each-placed_all : (P : X → Type 0) (news rows : List X) → Each P news → Each P rows
+      → Each P (place_all order news rows)
+  each-placed_all P [] rows n each = each
+  each-placed_all P (new ∷ news) rows n each =
+      each-placed_all P news (place order new rows) n.1 (each_place P order new rows n.0 each)
+
+  pub placed_all-rises : (news rows : List X) → IsRising order rows
+      → IsRising order (place_all order news rows)
+  placed_all-rises [] rows rising = rising
+  placed_all-rises (new ∷ news) rows rising =
+      placed_all-rises news (place order new rows) (place_rises total_order new rows rising)
+
+pub map-placed : {X Y : Type 0} (f : X → Y) (order : X → X → Ordering) (other : Y → Y → Ordering)
+    → ((a b : X) → other (f a) (f b) ≡ order a b) → (new : X) (rows : List X)
+    → map f (place order new rows) ≡ place other (f new) (map f rows)
+map-placed f order other same new [] = refl
+map-placed f order other same new (row ∷ rows) =
+    subst (λ o. map f (place_before new row rows (place order new rows)
+    (order new row)) ≡ place_before (f new) (f row) (map f rows) (place other (f new) (map f rows))
+    o) (sym (same new row))
+    (elim (order new row) as (λ o. map f
+    (place_before new row rows (place order new rows) o) ≡ place_before (f new) (f row) (map f rows)
+    (place other (f new) (map f rows)) o) [
+      | Less ↦ refl
+      | Equal ↦ refl
+      | Greater ↦ ap (λ ys. f row ∷ ys) (map-placed f order other same new rows)
+    ])
+
+pub map-placed_all : {X Y : Type 0} (f : X → Y) (order : X → X → Ordering)
+    (other : Y → Y → Ordering)
+    → ((a b : X) → other (f a) (f b) ≡ order a b) → (news rows : List X)
+    → map f (place_all order news rows) ≡ place_all other (map f news) (map f rows)
+map-placed_all f order other same [] rows = refl
+map-placed_all f order other same (new ∷ news) rows =
+    map-placed_all f order other same news (place order new rows) ∙ ap
+    (place_all other (map f news)) (map-placed f order other same new rows)
+
+pub map-filter : {X Y : Type 0} (f : X → Y) (test : X → Bool) (other : Y → Bool) → (rows : List X)
+    → Each (λ x. other (f x) ≡ test x) rows → map f (filter test rows) ≡ filter other (map f rows)
+map-filter f test other [] same = refl
+map-filter f test other (row ∷ rows) same =
+    subst (λ b. map f (cond (test row) (row ∷ filter test rows) (filter test rows)) ≡ cond b
+    (f row ∷ filter other (map f rows)) (filter other (map f rows))) (sym same.0)
+    (elim (test row) as (λ b. map f (cond b (row ∷ filter test rows) (filter test rows)) ≡ cond b
+    (f row ∷ filter other (map f rows)) (filter other (map f rows))) [
+      | true ↦ ap (λ ys. f row ∷ ys) (map-filter f test other rows same.1)
+      | false ↦ map-filter f test other rows same.1
+    ])
+
+pub map-changed : {X Y : Type 0} (f : X → Y) (test : X → Bool) (other : Y → Bool) (change : X → X)
+    (make : Y → Y)
+    → (rows : List X)
+    → Each (λ x. (other (f x) ≡ test x) × (test x ≡ true → f (change x) ≡ make (f x))) rows → map f
+    (change_where test change rows) ≡ change_where other make (map f rows)
+map-changed f test other change make [] same = refl
+map-changed f test other change make (row ∷ rows) same =
+    let rest = map-changed f test other change make rows same.1 in
+    subst (λ b. f (change_row change row (test row)) ∷ map f
+    (change_where test change rows) ≡ change_row make (f row) b ∷ change_where other make
+    (map f rows)) (sym same.0.0)
+    ((elim (test row) as (λ b. test row ≡ b → f (change_row change row b) ∷ map f
+    (change_where test change rows) ≡ change_row make (f row) b ∷ change_where other make
+    (map f rows)) [
+      | true ↦ λ is. (λ i. same.0.1 is i ∷ rest i)
+      | false ↦ λ _. (λ i. f row ∷ rest i)
+    ]) refl)

@@ -1,0 +1,6 @@
+mod HexWords
+mod NumberTexts
+mod PathWords
+mod RunWords
+mod Splits
+mod TextLines
