@@ -1,10 +1,10 @@
 -- The calls of a disk in memory, as moves of its past.
 use Rattle.std.proofs.Common.{◌≡◌, inl, inr, ⊎_elim, ◌∙◌, refl, sym, ap, subst, arith, ℕ, ◌≤◌, Bool, true, false, cond, List, [], ◌∷◌, ◌++◌, length, length-append}
 use Rattle.std.specs.Prelude.{Result, Ok, Err}
-use Rattle.qfs_disk.specs.Disk.{Same, Spoils, Torn, CutShort}
+use Rattle.qfs_disk.specs.Disk.{Same, Spoils, Torn, CutShort, WithoutMemory}
 use Rattle.qfs_disk.specs.Moves.{Moves}
 use Rattle.qfs_disk.specs.Steps.{torn_itself, cut_itself}
-use Rattle.qfs_disk.specs.Moments.{Moment, Past, now, then, IsImage, LeftSince, after_write, after_cut, after_sync, after_call, settled, moments_from, past_of, reads, counts, only}
+use Rattle.qfs_disk.specs.Moments.{Moment, Past, now, then, IsImage, LeftSince, after_write, after_cut, after_sync, after_call, settled, moments_from, past_of, beginning, reads, counts, only}
 use Rattle.qfs_disk.specs.declared.disk_call.DiskCall.{DiskCall}
 use Rattle.qfs_device.specs.declared.errors.DeviceError.{DeviceError}
 use Rattle.qfs_device.specs.declared.errors.DeviceError.TheVariants.{Failed, NoMemory}
@@ -103,3 +103,17 @@ pub push_keeps : (start : List ℕ) (calls more : List DiskCall) (call : DiskCal
     → (now (past_of start calls)).bytes ≡ (now (past_of start more)).bytes
 push_keeps start calls more call true same is = sym (ap (λ (m : Moment). m.bytes) (held_more start calls more call is) ∙ same)
 push_keeps start calls more call false same is = ap (λ (l : List DiskCall). (now (past_of start l)).bytes) (sym is)
+
+-- a disk that begins with no bytes has no other image
+pub begins_empty : (past : Past) → past ≡ beginning [] → (c : List ℕ) → IsImage (now past) c → c ≡ []
+begins_empty past is c image = sync_only (settled []) c (subst (λ (p : Past). IsImage (now p) c) is image)
+
+-- a past that is as it was has the images that it had
+pub same_images : (old new : Past) → new ≡ old → (c : List ℕ) → IsImage (now old) c → IsImage (now new) c
+same_images old new same c image = subst (λ (p : Past). IsImage (now p) c) (sym same) image
+
+-- what holds anyway holds without memory
+pub without_memory : {T P : Type 0} (result : Result T DeviceError) → P → WithoutMemory result P
+without_memory (Ok value) p = tt
+without_memory (Err Failed) p = tt
+without_memory (Err NoMemory) p = p

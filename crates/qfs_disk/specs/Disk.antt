@@ -1,5 +1,5 @@
 -- What the calls of a disk do to its bytes, and how far a crash may undo or spoil that.
-use Rattle.std.specs.Prelude.{◌≡◌, ◌<◌, ◌≤◌, ◌⊎◌, ℕ, ◌+◌, min, max, List, ◌++◌, length, take, drop, get_or, Result, Ok, Err}
+use Rattle.std.specs.Prelude.{◌≡◌, ◌<◌, ◌≤◌, ◌⊎◌, ℕ, ◌+◌, min, max, List, ◌++◌, length, take, drop, get_or, Result, Ok, Err, ⊤}
 use Rattle.qfs_device.specs.declared.errors.DeviceError.{DeviceError}
 use Rattle.qfs_device.specs.declared.errors.DeviceError.TheVariants.{Failed, NoMemory}
 
@@ -55,3 +55,13 @@ module _ {T : Type 0} where
   CutsLength n old new (Ok value) = new ≡ n
   CutsLength n old new (Err Failed) = (new ≡ old) ⊎ (new ≡ n)
   CutsLength n old new (Err NoMemory) = new ≡ old
+
+  -- what a call without memory leaves as it was
+  abbrev pub WithoutMemory : Result T DeviceError → Type 0 → Type 0
+  WithoutMemory (Ok value) Stays = ⊤
+  WithoutMemory (Err Failed) Stays = ⊤
+  WithoutMemory (Err NoMemory) Stays = Stays
+
+-- all that a crash might have left it may leave
+abbrev pub AllOf : (List ℕ → Type 0) → (List ℕ → Type 0) → Type 0
+AllOf old new = (c : List ℕ) → old c → new c

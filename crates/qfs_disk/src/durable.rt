@@ -11,13 +11,17 @@ use qfs_device::DeviceError;
 pub fn write_durably<L: LogDisk>(disk: &mut L, at: u64, bytes: &[u8]) -> Result<(), DeviceError>
     requires { at ≤ L.length_of disk.old }
     ensures tells { L.tells disk.new ≡ L.tells disk.old }
-    ensures size { OnOk result (L.length_of disk.new ≡ max (L.length_of disk.old) (at + length bytes.now)) }
+    ensures size { OnOk result (
+        L.length_of disk.new ≡ max (L.length_of disk.old) (at + length bytes.now)) }
     ensures no_longer { L.length_of disk.new ≤ max (L.length_of disk.old) (at + length bytes.now) }
     ensures fits { L.length_of disk.new < 2 ^ 64 }
     ensures longer { L.length_of disk.old ≤ L.length_of disk.new }
-    ensures bytes { OnOk result (IsTrue (L.tells disk.old) → L.content disk.new ≡ written at bytes.now (L.content disk.old)) }
-    ensures durable { OnOk result (IsTrue (L.tells disk.old) → Only (L.content disk.new) (L.leaves disk.new)) }
-    ensures crash { IsTrue (L.tells disk.old) → Moves L.clock L.leaves L.left_since (Torn at (length bytes.now)) disk.old disk.new }
+    ensures bytes { OnOk result (IsTrue (L.tells disk.old)
+        → L.content disk.new ≡ written at bytes.now (L.content disk.old)) }
+    ensures durable { OnOk result (IsTrue (L.tells disk.old)
+        → Only (L.content disk.new) (L.leaves disk.new)) }
+    ensures crash { IsTrue (L.tells disk.old)
+        → Moves L.clock L.leaves L.left_since (Torn at (length bytes.now)) disk.old disk.new }
     ensures counts { Counts (L.faults disk.old) (L.faults disk.new) result }
 {
     disk.write_at(at, bytes)?;
@@ -30,9 +34,12 @@ pub fn cut_durably<L: LogDisk>(disk: &mut L, len: u64) -> Result<(), DeviceError
     ensures tells { L.tells disk.new ≡ L.tells disk.old }
     ensures size { OnOk result (L.length_of disk.new ≡ len) }
     ensures no_shorter { len ≤ L.length_of disk.new }
-    ensures bytes { OnOk result (IsTrue (L.tells disk.old) → L.content disk.new ≡ take len (L.content disk.old)) }
-    ensures durable { OnOk result (IsTrue (L.tells disk.old) → Only (L.content disk.new) (L.leaves disk.new)) }
-    ensures crash { IsTrue (L.tells disk.old) → Moves L.clock L.leaves L.left_since (CutShort len) disk.old disk.new }
+    ensures bytes { OnOk result (IsTrue (L.tells disk.old)
+        → L.content disk.new ≡ take len (L.content disk.old)) }
+    ensures durable { OnOk result (IsTrue (L.tells disk.old)
+        → Only (L.content disk.new) (L.leaves disk.new)) }
+    ensures crash { IsTrue (L.tells disk.old)
+        → Moves L.clock L.leaves L.left_since (CutShort len) disk.old disk.new }
     ensures counts { Counts (L.faults disk.old) (L.faults disk.new) result }
 {
     disk.cut(len)?;

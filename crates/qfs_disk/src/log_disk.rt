@@ -1,7 +1,7 @@
 //! The disks that keep the metaserver's log and its checkpoints.
 ghost use Rattle.std.specs.Prelude.{◌≡◌, ℕ, ◌+◌, ◌≤◌, ◌<◌, ◌^◌, List, Bool, IsTrue, length, take, drop, min, OnOk, OnErr};
 ghost use Rattle.qfs_base.specs.Sizes.{LAST_U64};
-ghost use Rattle.qfs_disk.specs.Disk.{Torn, CutShort, Same, Only, Spoils, Writes, Cuts, WritesLength, CutsLength};
+ghost use Rattle.qfs_disk.specs.Disk.{AllOf, WithoutMemory, Torn, CutShort, Same, Only, Spoils, Writes, Cuts, WritesLength, CutsLength};
 ghost use Rattle.qfs_device.specs.Fault.{Counts, TakesNoMemory};
 ghost use Rattle.qfs_disk.specs.Moves.{Moves};
 
@@ -61,12 +61,13 @@ pub trait LogDisk: Drop + Send + Sync {
         ensures not_handed { OnErr result (handed_out self.new ≡ handed_out self.old) }
         ensures crash { IsTrue (tells self.old) →
             Moves clock leaves left_since Same self.old self.new }
+        ensures leaves { IsTrue (tells self.old) → AllOf (leaves self.old) (leaves self.new) }
         ensures counts { Counts (faults self.old) (faults self.new) result }
         ensures no_memory { TakesNoMemory result };
 
     /// Writes bytes at an offset of at most the length, over what is there and past the end. A
-    /// failure leaves any bytes in that range, and a length from the old one to that of the finished
-    /// write; want of memory changes nothing.
+    /// failure leaves any bytes in that range, and a length from the old one to that of the
+    /// finished write; want of memory changes nothing.
     fn write_at(&mut self, at: u64, bytes: &[u8]) -> Result<(), DeviceError>
         requires { at ≤ length_of self.old }
         ensures tells { tells self.new ≡ tells self.old }
@@ -75,13 +76,16 @@ pub trait LogDisk: Drop + Send + Sync {
         ensures bytes { IsTrue (tells self.old) →
             Writes at bytes.now (content self.old) (content self.new) result }
         ensures crash { IsTrue (tells self.old) →
-            Moves clock leaves left_since (Spoils (Torn at (length bytes.now)) result) self.old self.new }
+            Moves clock leaves left_since (Spoils (Torn at (length bytes.now)) result)
+            self.old self.new }
+        ensures leaves { WithoutMemory result (IsTrue (tells self.old)
+            → AllOf (leaves self.old) (leaves self.new)) }
         ensures handed { handed_out self.new ≡ handed_out self.old }
         ensures counts { Counts (faults self.old) (faults self.new) result };
 
-    /// Cuts the file to a length of at most its own. A failure leaves the old or the new length; want
-    /// of memory changes nothing. Until a sync a crash may leave any longer file up to the old length,
-    /// with any bytes in the part that was cut away.
+    /// Cuts the file to a length of at most its own. A failure leaves the old or the new length;
+    /// want of memory changes nothing. Until a sync a crash may leave any longer file up to the old
+    /// length, with any bytes in the part that was cut away.
     fn cut(&mut self, len: u64) -> Result<(), DeviceError>
         requires { len ≤ length_of self.old }
         ensures tells { tells self.new ≡ tells self.old }
@@ -90,11 +94,13 @@ pub trait LogDisk: Drop + Send + Sync {
             Cuts len (content self.old) (content self.new) result }
         ensures crash { IsTrue (tells self.old) →
             Moves clock leaves left_since (Spoils (CutShort len) result) self.old self.new }
+        ensures leaves { WithoutMemory result (IsTrue (tells self.old)
+            → AllOf (leaves self.old) (leaves self.new)) }
         ensures handed { handed_out self.new ≡ handed_out self.old }
         ensures counts { Counts (faults self.old) (faults self.new) result };
 
-    /// Settles what was written and cut: once it succeeds, a crash leaves what a read gives. Whatever
-    /// it answers, the length and what a read gives stay.
+    /// Settles what was written and cut: once it succeeds, a crash leaves what a read gives.
+    /// Whatever it answers, the length and what a read gives stay.
     fn sync(&mut self) -> Result<(), DeviceError>
         ensures tells { tells self.new ≡ tells self.old }
         ensures size { length_of self.new ≡ length_of self.old }
@@ -103,11 +109,14 @@ pub trait LogDisk: Drop + Send + Sync {
             Only (content self.old) (leaves self.new)) }
         ensures crash { IsTrue (tells self.old) →
             Moves clock leaves left_since Same self.old self.new }
+        ensures leaves { WithoutMemory result (IsTrue (tells self.old)
+            → AllOf (leaves self.old) (leaves self.new)) }
         ensures handed { handed_out self.new ≡ handed_out self.old }
         ensures counts { Counts (faults self.old) (faults self.new) result };
 
     /// The length is that of the bytes.
-    ghost told_length: { (disk : Self) → IsTrue (tells disk) → length (content disk) ≡ length_of disk };
+    ghost told_length: { (disk : Self) → IsTrue (tells disk)
+        → length (content disk) ≡ length_of disk };
 
     /// What a read gives is one of the images.
     ghost reads_an_image: { (disk : Self) → IsTrue (tells disk) → leaves disk (content disk) };

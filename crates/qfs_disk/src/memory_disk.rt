@@ -1,6 +1,7 @@
 //! Log disks that keep their bytes in memory. They tell their contents and their crash images.
 ghost use Rattle.std.specs.Prelude.{◌≡◌, ℕ, ◌+◌, ◌≤◌, [], List, true, IsTrue, length, take, drop};
 ghost use Rattle.std.proofs.Common.{refl};
+ghost use Rattle.qfs_disk.specs.Disk.{Only};
 ghost use Rattle.qfs_disk.specs.Moments.{now, beginning, IsImage, LeftSince, reads, counts, only};
 
 use crate::call_list::CallList;
@@ -20,15 +21,18 @@ pub struct BytesDisk<F, M> {
 /// A log disk in memory whose calls fail by a list. It keeps its writes, cuts and syncs.
 pub type MemoryDisk = BytesDisk<FailList, CallList>;
 
-/// A log disk in memory that never fails.
+/// A log disk in memory that never fails. It keeps its calls too.
 pub type SureDisk = BytesDisk<NeverFails, CallList>;
 
 impl BytesDisk<FailList, CallList> {
     /// An empty disk. `fails` are the numbers of the calls that fail, rising, counted from 1
     /// over all calls but `size`. It takes no memory.
+    #[tactic(auto, using(crate::proofs::PastLaws::begins_empty))]
     pub fn new(alloc: Global, fails: Vec<u64>) -> BytesDisk<FailList, CallList>
         ensures length { ⟦<BytesDisk<FailList, CallList> as LogDisk>⟧.length_of result ≡ 0 }
         ensures faults { ⟦<BytesDisk<FailList, CallList> as LogDisk>⟧.faults result ≡ 0 }
+        ensures tells { IsTrue (⟦<BytesDisk<FailList, CallList> as LogDisk>⟧.tells result) }
+        ensures settled { Only [] (⟦<BytesDisk<FailList, CallList> as LogDisk>⟧.leaves result) }
     {
         BytesDisk {
             kept: CallList::new(alloc),
@@ -40,9 +44,12 @@ impl BytesDisk<FailList, CallList> {
 
 impl BytesDisk<NeverFails, CallList> {
     /// An empty disk. It takes no memory.
+    #[tactic(auto, using(crate::proofs::PastLaws::begins_empty))]
     pub fn new(alloc: Global) -> BytesDisk<NeverFails, CallList>
         ensures length { ⟦<BytesDisk<NeverFails, CallList> as LogDisk>⟧.length_of result ≡ 0 }
         ensures faults { ⟦<BytesDisk<NeverFails, CallList> as LogDisk>⟧.faults result ≡ 0 }
+        ensures tells { IsTrue (⟦<BytesDisk<NeverFails, CallList> as LogDisk>⟧.tells result) }
+        ensures settled { Only [] (⟦<BytesDisk<NeverFails, CallList> as LogDisk>⟧.leaves result) }
     {
         BytesDisk {
             kept: CallList::new(alloc),

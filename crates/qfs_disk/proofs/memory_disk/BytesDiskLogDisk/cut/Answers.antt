@@ -5,7 +5,7 @@ use Rattle.std.proofs.lemmas.List.{length-take-le}
 use Rattle.qfs_disk.specs.Disk.{CutShort}
 use Rattle.qfs_disk.specs.Moments.{Moment, now, after_cut}
 use Rattle.qfs_disk.specs.Steps.{cut_itself}
-use Rattle.qfs_disk.proofs.PastLaws.{idle, idle_spoils, cuts, holds}
+use Rattle.qfs_disk.proofs.PastLaws.{same_images, without_memory, idle, idle_spoils, cuts, holds}
 use Rattle.qfs_disk.proofs.memory_disk.BytesDiskLogDisk.cut.Goals as goal
 
 pub returns-then-next_fails-clause-crash : goal.returns-then-next_fails-clause-crash
@@ -26,3 +26,7 @@ returns-clause-bytes g c = λ told.
 
 pub returns-clause-crash : goal.returns-clause-crash
 returns-clause-crash g c = λ told. cuts (λ (d : BytesDisk g.row.F.Denot g.row.M.Denot). g.M.Moments.past d.kept) c.args.len c.args.self.now _ c.requires c.in_ok-cut.ensures.ok
+
+pub returns-in_err-cut-clause-leaves : goal.returns-in_err-cut-clause-leaves
+returns-in_err-cut-clause-leaves g c = without_memory c.from_residual.result (λ told image is.
+    same_images (g.M.Moments.past c.args.self.now.kept) (g.M.Moments.past c.cut.new.self) c.in_err-cut.ensures.err image is)

@@ -3,7 +3,7 @@ use Rattle.std.proofs.Common.{refl, ap, length}
 use Rattle.qfs_disk.specs.declared.memory_disk.BytesDisk.{BytesDisk}
 use Rattle.qfs_disk.specs.Disk.{Same}
 use Rattle.qfs_disk.specs.Moments.{Moment, now, after_sync}
-use Rattle.qfs_disk.proofs.PastLaws.{idle, syncs, settles, holds}
+use Rattle.qfs_disk.proofs.PastLaws.{same_images, without_memory, idle, syncs, settles, holds}
 use Rattle.qfs_disk.proofs.memory_disk.BytesDiskLogDisk.sync.Goals as goal
 
 pub returns-then-next_fails-clause-crash : goal.returns-then-next_fails-clause-crash
@@ -27,3 +27,7 @@ returns-clause-durable g c = λ told. settles g.M.Moments.past c.args.self.now.k
 
 pub returns-clause-crash : goal.returns-clause-crash
 returns-clause-crash g c = λ told. syncs (λ (d : BytesDisk g.row.F.Denot g.row.M.Denot). g.M.Moments.past d.kept) c.args.self.now _ c.in_ok-sync.ensures.ok
+
+pub returns-in_err-sync-clause-leaves : goal.returns-in_err-sync-clause-leaves
+returns-in_err-sync-clause-leaves g c = without_memory c.from_residual.result (λ told image is.
+    same_images (g.M.Moments.past c.args.self.now.kept) (g.M.Moments.past c.sync.new.self) c.in_err-sync.ensures.err image is)

@@ -5,7 +5,7 @@ use Rattle.qfs_disk.specs.Disk.{Torn}
 use Rattle.qfs_disk.specs.Moments.{Moment, now, after_write}
 use Rattle.qfs_disk.specs.Steps.{torn_itself}
 use Rattle.qfs_disk.proofs.Images.{length-written}
-use Rattle.qfs_disk.proofs.PastLaws.{idle, idle_spoils, writes, holds}
+use Rattle.qfs_disk.proofs.PastLaws.{same_images, without_memory, idle, idle_spoils, writes, holds}
 use Rattle.qfs_disk.proofs.memory_disk.BytesDiskLogDisk.write_at.Goals as goal
 
 pub returns-then-next_fails-clause-crash : goal.returns-then-next_fails-clause-crash
@@ -28,3 +28,7 @@ returns-clause-bytes g c = λ told.
 
 pub returns-clause-crash : goal.returns-clause-crash
 returns-clause-crash g c = λ told. writes (λ (d : BytesDisk g.row.F.Denot g.row.M.Denot). g.M.Moments.past d.kept) c.args.at c.args.bytes.now c.args.self.now _ c.requires c.in_ok-write.ensures.ok
+
+pub returns-in_err-write-clause-leaves : goal.returns-in_err-write-clause-leaves
+returns-in_err-write-clause-leaves g c = without_memory c.from_residual.result (λ told image is.
+    same_images (g.M.Moments.past c.args.self.now.kept) (g.M.Moments.past c.write.new.self) c.in_err-write.ensures.err image is)
