@@ -1,16 +1,14 @@
 -- Which actors count as dropped behind a step: those that did before, and the one that the request
 -- drops. A dropped actor is told so, whatever it asks, and changes nothing.
-use Rattle.std.proofs.Common.{◌≡◌, ℕ, ◌⊎◌, inl, inr, ⊎_elim, ◌==◌, Bool, true, false, cond, List, [], ◌∷◌, ◌++◌, map, filter, find, length, Option, Some, None, refl, sym, ap, ◌∙◌, subst}
+use Rattle.std.proofs.Common.{◌≡◌, ℕ, ◌⊎◌, inl, inr, ⊎_elim, ◌==◌, Bool, true, false, cond, List, [], ◌∷◌, ◌++◌, map, filter, length, Option, Some, None, refl, sym, ap, ◌∙◌, subst}
 use Rattle.std.proofs.lemmas.Bool.{eqb-true}
 use Rattle.std.specs.Cmp.{ranked}
 use Rattle.std.specs.Option.{option_map}
-use Rattle.std.specs.Ordering.{nat_cmp, is_eq}
 use Rattle.std.specs.Prelude.{⊤, flat_map}
-use Rattle.std.specs.declared.cmp.Ordering.{Ordering}
-use Rattle.std.specs.declared.cmp.Ordering.TheVariants.{Less, Equal, Greater}
+use Rattle.std.specs.declared.cmp.Ordering.TheVariants.{Equal}
 use Rattle.qfs_base.specs.EachLaws.{each_append}
 use Rattle.qfs_base.specs.NameTree.{PathNames}
-use Rattle.qfs_base.specs.Table.{Each, has_key, place, place_before}
+use Rattle.qfs_base.specs.Table.{Each, has_key, place}
 use Rattle.qfs_base.specs.declared.change.Change.{Change}
 use Rattle.qfs_base.specs.declared.change.Change.TheVariants.{AddDirectory, FailGrant, GiveUp, ConfirmSlot, EmptySlot, EndLease, CondemnStray, DropActor}
 use Rattle.qfs_base.specs.declared.chunk.BlockId.{BlockId}
@@ -43,12 +41,13 @@ use Rattle.qfs_model_meta.specs.RepairRequests.{decide_recover, decide_heal, hea
 use Rattle.qfs_model_meta.specs.ServerRequests.{decide_hello, decide_bye, decide_leave, decide_hibernate, decide_tick, decide_left_on}
 use Rattle.qfs_model_meta.specs.SettleRequests.{decide_confirm, confirm_grant, end_own_lease, end_live_lease, decide_abandon, abandon_changes, give_up_own, is_own_grant}
 use Rattle.qfs_model_meta.specs.Slots.{slots_of, slot_at}
-use Rattle.qfs_model_meta.specs.Step.{Served, stays, take_step, next_turn, carry_out, fail_disks, end_step, serve_unless_dropped, meta_step}
+use Rattle.qfs_model_meta.specs.Step.{stays, take_step, next_turn, carry_out, fail_disks, end_step, serve_unless_dropped, meta_step}
 use Rattle.qfs_model_meta.specs.SweepRequests.{decide_order, order_row, decide_swept}
 use Rattle.qfs_model_meta.specs.TreeRequests.{decide_mkdir, decide_rmdir, decide_remove, remove_changes, decide_rename, decide_list}
 use Rattle.qfs_model_meta.specs.TreeRows.{file_stands, unclosed_files, row_at}
 use Rattle.qfs_laws_tables.specs.Keys.{key-is}
 use Rattle.qfs_laws_slots.specs.Losing.{losing-frame, stray-frame}
+use Rattle.qfs_laws_tables.specs.Placed.{find-apart}
 
 -- ---- what is told
 
@@ -329,20 +328,6 @@ others-stay rules actor request outcome m who is =
     (request-spares rules actor m request is))))
 
 -- ---- an actor is dropped
-
-find-apart : {X : Type 0} (order : X → X → Ordering) (test : X → Bool) (new : X) (rows : List X)
-    → test new ≡ false → ((row : X) → order new row ≡ Equal → test row ≡ false)
-    → find test (place order new rows) ≡ find test rows
-find-apart order test new [] off apart = ap (λ b. cond b (Some new) None) off
-find-apart order test new (row ∷ rows) off apart =
-    elim (order new row) as (λ o. order new row ≡ o → find test
-    (place_before new row rows (place order new rows) o) ≡ cond (test row) (Some row)
-    (find test rows)) [
-      | Less ↦ λ _. ap (λ b. cond b (Some new) (cond (test row) (Some row) (find test rows))) off
-      | Equal ↦ λ tie. ap (λ b. cond b (Some new) (find test rows)) off ∙ sym
-          (ap (λ b. cond b (Some row) (find test rows)) (apart row tie))
-      | Greater ↦ λ _. ap (cond (test row) (Some row)) (find-apart order test new rows off apart)
-    ] refl
 
 -- what holds of an actor where this one is dropped
 abbrev Behind : ℕ → ℕ → List DroppedActor → List DroppedActor → Type 0

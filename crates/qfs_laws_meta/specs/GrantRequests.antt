@@ -30,7 +30,7 @@ use Rattle.std.specs.List.{enumerate_from, list_any}
 use Rattle.std.specs.Prelude.{IsTrue, is_some, unwrap_or}
 use Rattle.qfs_base.specs.declared.lists.NameKind.TheVariants as Is
 use Rattle.qfs_base.specs.declared.reply.MetaReply.TheVariants as Told
-use Rattle.qfs_laws_meta.specs.Granting.{chosen-is, unbarred-apart, version-left}
+use Rattle.qfs_laws_meta.specs.Granting.{unbarred-apart, version-left}
 use Rattle.qfs_laws_meta.specs.Kept.{Fits, Keeps}
 use Rattle.qfs_laws_meta.specs.Listing.{AreCurrent, file-each, listed-each, one-current, others-current}
 use Rattle.qfs_laws_meta.specs.Replies.{listed-kept}
@@ -46,6 +46,7 @@ use Rattle.qfs_laws_tree.specs.Stands.{stands_of_closed}
 use Rattle.qfs_laws_tree.specs.Tree.{HasTree}
 use Rattle.qfs_laws_tree.specs.TreeChanges.{closed-any, closed_test}
 use Rattle.qfs_laws_tree.specs.TreeFacts.{kind-row, look-closed}
+use Rattle.qfs_laws_slots.specs.Choice.{chosen-is}
 
 -- ---- what a lease and a grant tell
 

@@ -29,7 +29,8 @@ use Rattle.qfs_laws_slots.specs.Slots.{forgotten-cases, placed-cases, same_block
 use Rattle.qfs_laws_tables.specs.Distinct.{distinct-both}
 use Rattle.qfs_base.specs.EachLaws.{each_weaker}
 use Rattle.qfs_laws_tables.specs.EachRow.{each_passes}
-use Rattle.qfs_laws_tables.specs.SomeRow.{any_append, any_change_given, any_each, any_filter, any_last, any_map, any_of_append, any_of_filter}
+use Rattle.qfs_laws_tables.specs.SomeRow.{any_append, any_change_given, any_each, any_filter, any_last, any_map, any_of_filter}
+use Rattle.qfs_laws_slots.specs.Lists.{live-before}
 
 -- ---- a live lease is on the file of what it lists
 
@@ -309,22 +310,11 @@ pub keeps-given : (actor file until : ℕ) (m : MetaImage) (l : ListedCopy) → 
       leases = give_lease m.next_lease actor file until m.leases;
       next_lease = m.next_lease + 1;
     }) l
-unfolding give_lease is_live_lease
+unfolding is_live_lease
 keeps-given actor file until m l older keeps live =
     let lives = and_parts _ _ live in
-    let new : Lease = record { lease = m.next_lease; actor = actor; file = file; until = until } in
-    let apart : is_lease l.lease new ≡ false = is_lease-is l.lease new ∙ later m.next_lease l.lease
-    older in
-    let before : (list_any (is_lease l.lease) m.leases || (is_lease l.lease new || false)) ≡ true =
-    sym (any_of_append (is_lease l.lease) m.leases (new ∷ [])) ∙ lives.0 in
-    keeps (and_from _ _ (drop_last _ _ apart before) lives.1)
-  where
-    later : (a b : ℕ) → b < a → (a == b) ≡ false
-    later a b l = grind (arith, nat_tests)
-
-    drop_last : (a b : Bool) → b ≡ false → (a || (b || false)) ≡ true → a ≡ true
-    drop_last true b e h = refl
-    drop_last false b e h = absurd (true≢false (sym h ∙ (λ i. e i || false)))
+    keeps (and_from _ _ (live-before actor file until m.next_lease l.lease m.leases older lives.0)
+    lives.1)
 
 pub keeps-granted : (block : BlockId) (slot server actor lease : ℕ) (m : MetaImage) (l : ListedCopy)
     → KeepsListed m l → KeepsListed (grant_slot block slot server actor lease m) l

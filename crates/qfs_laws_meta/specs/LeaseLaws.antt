@@ -83,10 +83,10 @@ unfolding grant_slot with_slots
 granted-leases block slot server actor lease m past given = given
 
 -- a lease is given
-leases-given : (past : Past) (actor file until : ℕ) (m : MetaImage) → LeasesHold past m
+given-holds : (past : Past) (actor file until : ℕ) (m : MetaImage) → LeasesHold past m
     → LeasesHold (told (GiveLease actor file until) m past) (apply m (GiveLease actor file until))
 unfolding apply give_lease same_lease_number
-leases-given past actor file until m h =
+given-holds past actor file until m h =
     let new : GivenLease = record { lease = m.next_lease; actor = actor; file = file } in
     let live : Lease = record { lease = m.next_lease; actor = actor; file = file; until = until } in
     record {
@@ -129,7 +129,7 @@ pub kept-leases : (past : Past) (m : MetaImage) (change : Change) → MayMake pa
     → LeasesHold past m → LeasesHold (told change m past) (apply m change)
 unfolding apply write_entry add_file with_slots with_copy server_down server_leaving server_asleep finish_lease bring_up
 kept-leases past m (GiveLease actor file until) may bare lives known h =
-    leases-given past actor file until m h
+    given-holds past actor file until m h
 kept-leases past m (EndLease lease) may bare lives known h =
     leases-stay past m (finish_lease lease m) refl (ended lease m past h.given)
     (λ l on. keeps-unblocked lease m l) h

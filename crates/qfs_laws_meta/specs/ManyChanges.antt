@@ -30,7 +30,7 @@ use Rattle.qfs_model_meta.specs.SweepRequests.{decide_order, order_row}
 use Rattle.qfs_model_meta.specs.TreeRequests.{decide_remove, remove_changes}
 use Rattle.qfs_model_meta.specs.TreeRows.{has_file, is_unclosed_of, is_unclosed_row, rising_files, row_at, standing, take_file, unclosed_file, unclosed_files}
 use Rattle.std.proofs.Common.{Bool, List, None, Option, Some, [], ap, arith, cond, false, filter, find, inl, inr, length, map, nat_eq, nat_lt, not, refl, subst, suc, sym, true, zero, ℕ, ⊎_elim, ◌&&◌, ◌++◌, ◌+◌, ◌<◌, ◌==◌, ◌||◌, ◌∙◌, ◌∷◌, ◌≡◌, ◌≢◌, ◌≤◌, ◌⊎◌}
-use Rattle.std.proofs.lemmas.Bool.{and_from, and_parts, eq-eqb, eqb-true, ne_eqb, true≢false}
+use Rattle.std.proofs.lemmas.Bool.{and_from, and_parts, eq-eqb, eqb-true, ne_eqb, or_right, true≢false}
 use Rattle.std.specs.Cmp.{ranked}
 use Rattle.std.specs.List.{list_any}
 use Rattle.std.specs.Ordering.{nat_cmp}
@@ -41,7 +41,7 @@ use Rattle.qfs_laws_meta.specs.Kept.{Fits, Keeps}
 use Rattle.qfs_laws_meta.specs.Known.{Knows, RowGranted, held}
 use Rattle.qfs_laws_meta.specs.Replies.{ordered-kept}
 use Rattle.qfs_laws_meta.specs.Requests.{AllMake, Fine, apply-append, file-fine, make-append, need-fine, told-append, told_all}
-use Rattle.qfs_laws_meta.specs.SimpleRequests.{IsFree, each-map, free-make, free-told, next-fits, unclosed-fits}
+use Rattle.qfs_laws_meta.specs.SimpleRequests.{IsAlwaysAllowed, each-map, free-make, free-told, next-fits, unclosed-fits}
 use Rattle.qfs_laws_slots.specs.Changes.{MayAbort}
 use Rattle.qfs_laws_slots.specs.Condemning.{condemned_count, count_in, version_of, weight_of}
 use Rattle.qfs_laws_slots.specs.Granted.{is_copy-is}
@@ -164,7 +164,7 @@ remove-fine actor past m path =
     let n : MetaImage = apply_all empties m in
     let trees : n.tree ≡ m.tree = keep-tree empties m
     (each-tree empty_row (λ row. losing-tree (empty_row row) tt) rows) in
-    let free : Each IsFree empties = each-map empty_row (λ row p k. (tt, refl)) rows in (
+    let free : Each IsAlwaysAllowed empties = each-map empty_row (λ row p k. (tt, refl)) rows in (
       make-append past m empties (RemoveFile path file ∷ []) (free-make empties free past m) (
         record {
           closed = ap (λ t. look_refusal (standing t) path) trees ∙ closed;
@@ -262,10 +262,6 @@ files-unclosed actor tree next fits h =
     small zero e below = omega arith
     small (suc n) e below = let l = below (omega arith) in omega arith
 
-    or_true : (a b : Bool) → b ≡ true → (a || b) ≡ true
-    or_true true b e = refl
-    or_true false b e = e
-
     own : (rows : List TreeRow)
         → Each (λ (row : TreeRow). is_unclosed_row row ≡ true → list_any
         (λ (other : TreeRow). is_unclosed_row other && has_file row.file other) rows ≡ true) rows
@@ -278,7 +274,7 @@ files-unclosed actor tree next fits h =
           (λ (other : TreeRow). is_unclosed_row other && has_file later.file other) rows ≡ true)
           (λ (later : TreeRow). is_unclosed_row later ≡ true → list_any
           (λ (other : TreeRow). is_unclosed_row other && has_file later.file other)
-          (row ∷ rows) ≡ true) (λ later any is. or_true
+          (row ∷ rows) ≡ true) (λ later any is. or_right
           (is_unclosed_row row && has_file later.file row) _ (any is)) rows (own rows),
     )
 
@@ -333,10 +329,10 @@ aborts-told past slots (file ∷ files) m =
     ∙ aborts-told past slots files (apply_all (map give_row rows ++ AbortFile file ∷ []) m)
 
 drop-free : (actor : ℕ) (m : MetaImage)
-    → Each IsFree (map EndLease (leases_of actor m.leases) ++ recovery_changes actor m.tree m.slots)
+    → Each IsAlwaysAllowed (map EndLease (leases_of actor m.leases) ++ recovery_changes actor m.tree m.slots)
 unfolding recovery_changes
 drop-free actor m =
-    each_append IsFree (map EndLease (leases_of actor m.leases)) _
+    each_append IsAlwaysAllowed (map EndLease (leases_of actor m.leases)) _
     (each-map EndLease (λ lease p n. (tt, refl)) (leases_of actor m.leases))
     (each-map give_row (λ row p n. (tt, refl)) (filter (is_recovery_of actor m.tree) m.slots))
 

@@ -32,12 +32,12 @@ use Rattle.qfs_model_meta.specs.RepairRequests.{closed_slots, decide_heal, heal_
 use Rattle.qfs_model_meta.specs.Slots.{change_slot, failed_slot, never_granted, slot_at, slot_id, ungranted_slot}
 use Rattle.qfs_model_meta.specs.TreeRows.{closed_file, has_file, is_closed_row, is_unclosed_row, rising_files, unclosed_file}
 use Rattle.std.proofs.Common.{Bool, List, None, Option, Some, [], ap, arith, false, filter, find, length, map, refl, subst, suc, sym, true, zero, ℕ, ◌&&◌, ◌+◌, ◌<◌, ◌||◌, ◌∙◌, ◌∷◌, ◌≡◌, ◌≤◌}
-use Rattle.std.proofs.lemmas.Bool.{and_from, and_parts, eq-eqb, ltb-true, not-true, true≢false}
+use Rattle.std.proofs.lemmas.Bool.{and_from, and_parts, eq-eqb, ltb-true, not-true, or_right, true≢false}
 use Rattle.std.specs.List.{enumerate_from, list_any, range_with_len, reduce}
 use Rattle.std.specs.Prelude.{IsTrue, fold, is_none, is_some}
 use Rattle.qfs_base.specs.declared.reply.MetaReply.TheVariants as Told
 use Rattle.qfs_laws_meta.specs.GrantRequests.{chosen-fine, leased-fine}
-use Rattle.qfs_laws_meta.specs.Granting.{IsNumbered, census-length, chosen-is, enumerated, lightest, put-apart, version-kept, version-left}
+use Rattle.qfs_laws_meta.specs.Granting.{put-apart, version-kept, version-left}
 use Rattle.qfs_laws_meta.specs.Kept.{Fits, Keeps, kept}
 use Rattle.qfs_laws_meta.specs.Listing.{AreCurrent, none-current, one-current, others-current}
 use Rattle.qfs_laws_meta.specs.Requests.{Fine, Quiet, need-fine, refuse-fine, unless-fine}
@@ -53,6 +53,7 @@ use Rattle.qfs_laws_tables.specs.InOrder.{numbers-each}
 use Rattle.qfs_laws_tables.specs.SomeRow.{found-any}
 use Rattle.qfs_laws_tree.specs.Files.{not-closed, unclosed-rows}
 use Rattle.qfs_laws_tree.specs.TreeChanges.{closed-any, closed_test, stands-any, stands_test}
+use Rattle.qfs_laws_slots.specs.Choice.{IsNumbered, census-length, chosen-is, enumerated, lightest}
 
 -- ---- lists of slots
 
@@ -88,12 +89,8 @@ own-closed (row ∷ rows) = (
   each_weaker (λ (later : TreeRow). is_closed_row later ≡ true → list_any (closed_test later.file)
       rows ≡ true) (λ (later : TreeRow). is_closed_row later ≡ true → list_any
       (closed_test later.file) (row ∷ rows) ≡ true)
-      (λ later any is. or_true (closed_test later.file row) _ (any is)) rows (own-closed rows),
+      (λ later any is. or_right (closed_test later.file row) _ (any is)) rows (own-closed rows),
 )
-  where
-    or_true : (a b : Bool) → b ≡ true → (a || b) ≡ true
-    or_true true b e = refl
-    or_true false b e = e
 
 closed-files : (tree : List TreeRow)
     → Each (λ file. IsTrue (is_some (closed_file file tree)))
@@ -237,11 +234,7 @@ unclosed-stands : (file : ℕ) (row : TreeRow) → is_unclosed_row row ≡ true 
     → stands_test file row ≡ true
 unclosed-stands file row is own =
     and_from (is_closed_row row || is_unclosed_row row) (has_file file row)
-    (right (is_closed_row row) (is_unclosed_row row) is) own
-  where
-    right : (a b : Bool) → b ≡ true → (a || b) ≡ true
-    right true b e = refl
-    right false b e = e
+    (or_right (is_closed_row row) (is_unclosed_row row) is) own
 
 of-file : (file : ℕ) (row : TreeRow) → row.file ≡ file → has_file file row ≡ true
 of-file file row e = has_file-is file row ∙ eq-eqb row.file file e

@@ -141,29 +141,29 @@ close-fine layout actor past m file f counters =
 
 -- ---- changes that may always be made, and tell nothing
 
-abbrev pub IsFree : Change → Type 0
-IsFree change = (past : Past) (m : MetaImage) → MayMake past m change × (told change m past ≡ past)
+abbrev pub IsAlwaysAllowed : Change → Type 0
+IsAlwaysAllowed change = (past : Past) (m : MetaImage) → MayMake past m change × (told change m past ≡ past)
 
-pub free-make : (changes : List Change) → Each IsFree changes → (past : Past) (m : MetaImage)
+pub free-make : (changes : List Change) → Each IsAlwaysAllowed changes → (past : Past) (m : MetaImage)
     → AllMake past m changes
 free-make [] each past m = tt
 free-make (change ∷ changes) each past m =
     ((each.0 past m).0, free-make changes each.1 (told change m past) (apply m change))
 
-pub free-told : (changes : List Change) → Each IsFree changes → (past : Past) (m : MetaImage)
+pub free-told : (changes : List Change) → Each IsAlwaysAllowed changes → (past : Past) (m : MetaImage)
     → told_all changes m past ≡ past
 free-told [] each past m = refl
 free-told (change ∷ changes) each past m =
     free-told changes each.1 (told change m past) (apply m change) ∙ (each.0 past m).1
 
-pub each-map : {X : Type 0} (f : X → Change) → ((x : X) → IsFree (f x)) → (xs : List X)
-    → Each IsFree (map f xs)
+pub each-map : {X : Type 0} (f : X → Change) → ((x : X) → IsAlwaysAllowed (f x)) → (xs : List X)
+    → Each IsAlwaysAllowed (map f xs)
 each-map f free [] = tt
 each-map f free (x ∷ xs) = (free x, each-map f free xs)
 
 pub free-fine : (actor : ℕ) (past : Past) (m : MetaImage) (changes : List Change)
     (reply : MetaReply)
-    → Each IsFree changes → Quiet actor past reply → Fine actor past m (Makes changes reply)
+    → Each IsAlwaysAllowed changes → Quiet actor past reply → Fine actor past m (Makes changes reply)
 free-fine actor past m changes reply free quiet = (
   free-make changes free past m,
   λ h. subst (λ p. Keeps p (apply_all changes m))
@@ -191,7 +191,7 @@ tick-fine actor past m =
     let now : ℕ = risen LAST_U64 m.clock in
     free-fine actor past m (ClockTicks ∷ map EndLease (leases_over now m.leases)) (Told.Clock now) (
       (λ p n. (tt, refl)),
-      each_map (λ _. Unit {0}) IsFree EndLease (λ lease _ p n. (tt, refl))
+      each_map (λ _. Unit {0}) IsAlwaysAllowed EndLease (λ lease _ p n. (tt, refl))
           (leases_over now m.leases) (each_of_all _ (λ _. tt) (leases_over now m.leases)),
     ) refl
 
@@ -274,7 +274,7 @@ hello-fine actor past m server life keys range granted =
 
 -- ---- recoveries and moves that end
 
-end_own-free : (b : Bool) (lease : ℕ) → Each IsFree (cond b (EndLease lease ∷ []) [])
+end_own-free : (b : Bool) (lease : ℕ) → Each IsAlwaysAllowed (cond b (EndLease lease ∷ []) [])
 end_own-free true lease = ((λ p n. (tt, refl)), tt)
 end_own-free false lease = tt
 
@@ -323,7 +323,7 @@ confirm-fine actor past m block slot version lease = one (file_stands block.file
     one true = confirmed actor past m block slot version lease
 
 free_give : (b : Bool) (block : BlockId) (slot : ℕ)
-    → Each IsFree (cond b (GiveUp block slot ∷ []) [])
+    → Each IsAlwaysAllowed (cond b (GiveUp block slot ∷ []) [])
 free_give true block slot = ((λ p n. (tt, refl)), tt)
 free_give false block slot = tt
 
@@ -333,7 +333,7 @@ pub abandon-fine : (actor : ℕ) (past : Past) (m : MetaImage) (block : BlockId)
 unfolding decide_abandon abandon_changes end_own_lease give_up_own remember
 abandon-fine actor past m block slot version lease =
     free-fine actor past m _ (Told.Done (length m.history))
-    (each_append IsFree (cond (holds_lease actor lease m.leases) (EndLease lease ∷ []) []) _
+    (each_append IsAlwaysAllowed (cond (holds_lease actor lease m.leases) (EndLease lease ∷ []) []) _
     (end_own-free (holds_lease actor lease m.leases) lease)
     (free_give (is_own_grant actor version lease (slot_at m.slots block slot).grant) block slot))
     refl

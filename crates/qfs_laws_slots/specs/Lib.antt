@@ -9,3 +9,4 @@ pub mod Lists
 pub mod SlotTable
 pub mod Servers
 pub mod FreedLaws
+pub mod Choice

@@ -164,14 +164,14 @@ slot-small servers next tree slots block slot found none copy h at =
 -- ---- changes of one slot
 
 -- a change of a record that fits
-abbrev pub Fits : ℕ → ℕ → List TreeRow → BlockId → (SlotRecord → SlotRecord) → Type 0
-Fits servers next tree block change =
+abbrev pub KeepsFit : ℕ → ℕ → List TreeRow → BlockId → (SlotRecord → SlotRecord) → Type 0
+KeepsFit servers next tree block change =
     (state : SlotRecord) → StateFits servers next tree block.file state → StateFits servers next
     tree block.file (change state)
 
 pub table-changed : (servers next : ℕ) (tree : List TreeRow) (block : BlockId) (slot : ℕ)
     (change : SlotRecord → SlotRecord) (slots : List SlotRow)
-    → Fits servers next tree block change
+    → KeepsFit servers next tree block change
     → HasTable servers next tree slots → HasTable servers next tree
     (change_slot block slot change slots)
 unfolding change_slot change_state slot_cmp
@@ -191,13 +191,13 @@ table-changed servers next tree block slot change slots fits h = record {
 }
 
 ungranted-fits : (servers next : ℕ) (tree : List TreeRow) (block : BlockId)
-    → Fits servers next tree block ungranted_slot
+    → KeepsFit servers next tree block ungranted_slot
 unfolding ungranted_slot granted_copy
 ungranted-fits servers next tree block state f =
     record { current = f.current; pending = tt; grant = tt; failed = f.failed; rising = f.rising }
 
 failed-fits : (servers next : ℕ) (tree : List TreeRow) (block : BlockId) (server : ℕ)
-    → IsServer servers server → Fits servers next tree block (failed_slot server)
+    → IsServer servers server → KeepsFit servers next tree block (failed_slot server)
 unfolding failed_slot
 failed-fits servers next tree block server is state f =
     record {
@@ -211,7 +211,7 @@ failed-fits servers next tree block server is state f =
     }
 
 confirmed-fits : (servers next : ℕ) (tree : List TreeRow) (block : BlockId)
-    → IsTrue (is_some (closed_file block.file tree)) → Fits servers next tree block confirmed_slot
+    → IsTrue (is_some (closed_file block.file tree)) → KeepsFit servers next tree block confirmed_slot
 unfolding confirmed_slot granted_copy
 confirmed-fits servers next tree block closed state f =
     record {
@@ -225,7 +225,7 @@ confirmed-fits servers next tree block closed state f =
     }
 
 emptied-fits : (servers next : ℕ) (tree : List TreeRow) (block : BlockId)
-    → Fits servers next tree block emptied_slot
+    → KeepsFit servers next tree block emptied_slot
 unfolding emptied_slot granted_copy
 emptied-fits servers next tree block state f =
     record { current = tt; pending = tt; grant = tt; failed = f.failed; rising = f.rising }

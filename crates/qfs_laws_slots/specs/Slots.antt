@@ -19,9 +19,10 @@ use Rattle.std.specs.Prelude.{IsTrue, is_some}
 use Rattle.std.specs.declared.cmp.Ordering.{Ordering}
 use Rattle.std.specs.declared.cmp.Ordering.TheVariants.{Equal, Greater, Less}
 use Rattle.qfs_base.specs.EachLaws.{each_weaker}
-use Rattle.qfs_laws_tables.specs.EachRow.{each_both, find_none}
+use Rattle.qfs_laws_tables.specs.EachRow.{each_both, each_of_all, find_none}
 use Rattle.qfs_laws_tables.specs.Keys.{equal-is, greater-not, key-is, less-not}
 use Rattle.qfs_laws_tables.specs.Sums.{total}
+use Rattle.qfs_laws_tables.specs.Placed.{find-placed, find-apart}
 
 -- ---- keys
 
@@ -159,14 +160,9 @@ slot_has P (row ∷ rows) block slot none each =
 
 found-placed : (new : SlotRow) (rows : List SlotRow)
     → find (is_slot new.block new.slot) (place slot_cmp new rows) ≡ Some new
-found-placed new [] = rw (is_slot-self new) refl
-found-placed new (row ∷ rows) =
-    elim (slot_cmp new row) as (λ o. slot_cmp new row ≡ o → find (is_slot new.block new.slot)
-    (place_before new row rows (place slot_cmp new rows) o) ≡ Some new) [
-      | Less ↦ λ is. rw (is_slot-self new) refl
-      | Equal ↦ λ is. rw (is_slot-self new) refl
-      | Greater ↦ λ is. rw (not_slot new row Greater is greater-not) (found-placed new rows)
-    ] refl
+found-placed new rows =
+    find-placed slot_cmp (is_slot new.block new.slot) new rows (is_slot-self new)
+    (each_of_all _ (λ row above. not_slot new row Greater above greater-not) rows)
 
 pub placed-same : (block : BlockId) (slot : ℕ) (state : SlotRecord) (slots : List SlotRow)
     → slot_at (with_slot block slot state slots) block slot ≡ state
@@ -178,20 +174,12 @@ found-other : (block : BlockId) (slot : ℕ) (new : SlotRow) (rows : List SlotRo
     → is_slot block slot new ≡ false
     → find (is_slot block slot) (place slot_cmp new rows) ≡ find (is_slot block slot) rows
 unfolding is_slot
-found-other block slot new [] other = rw other refl
-found-other block slot new (row ∷ rows) other =
-    elim (slot_cmp new row) as (λ o. slot_cmp new row ≡ o → find (is_slot block slot)
-    (place_before new row rows (place slot_cmp new rows) o) ≡ find (is_slot block slot)
-    (row ∷ rows)) [
-      | Less ↦ λ is. rw other refl
-      | Equal ↦ λ is. let same = ties new row is in let too : is_eq
-          (ordering_then (block_cmp block row.block) (nat_cmp slot row.slot)) ≡ false = subst
-          (λ s. is_eq (ordering_then (block_cmp block row.block) (nat_cmp slot s)) ≡ false) same.1
-          (subst (λ b. is_eq (ordering_then (block_cmp block b) (nat_cmp slot new.slot)) ≡ false)
-          same.0 other) in rw (other, too) refl
-      | Greater ↦ λ is. ap (cond (is_slot block slot row) (Some row))
-          (found-other block slot new rows other)
-    ] refl
+found-other block slot new rows other =
+    find-apart slot_cmp (is_slot block slot) new rows other
+    (λ row tie. let same = ties new row tie in
+    subst (λ s. is_eq (ordering_then (block_cmp block row.block) (nat_cmp slot s)) ≡ false) same.1
+    (subst (λ b. is_eq (ordering_then (block_cmp block b) (nat_cmp slot new.slot)) ≡ false)
+    same.0 other))
 
 pub placed-other : (block other : BlockId) (slot number : ℕ) (state : SlotRecord)
     (slots : List SlotRow)
@@ -506,9 +494,6 @@ rows-found (row ∷ rows) rising = (
       (λ (later : SlotRow). slot_at rows later.block later.slot ≡ later.state) rows rising.0
       (rows-found rows rising.1)),
 )
-  where
-    greater-not : Greater ≡ Equal → ⊥
-    greater-not e = cc
 
 -- no slot of a file has a current copy
 abbrev pub Bare : MetaImage → ℕ → Type 0

@@ -22,9 +22,6 @@ use Rattle.qfs_laws_tree.specs.Tree.{HasTree, RowIs, file-one}
 use Rattle.qfs_laws_tree.specs.TreeChanges.{closed-any, closed_test}
 use Rattle.qfs_laws_tree.specs.TreeFacts.{kind-row, look-closed, or-none, rmdir-empty}
 
-root-kind : kind_at [] [] ≡ Some Is.Directory
-root-kind = unfold kind_at in refl
-
 not-root : (tree : List TreeRow) (path : PathNames) (kind : NameKind)
     → kind_at (standing tree) path ≡ Some kind → (kind ≡ Is.Directory → ⊥) → path ≡ [] → ⊥
 unfolding kind_at

@@ -93,12 +93,12 @@ entry-order puts a b = refl
 
 -- ---- change by change
 
-kind-unclosed : (n : ℕ) → 1 ≤ n → kind_of n false ≡ Is.Unclosed
+pub kind-unclosed : (n : ℕ) → 1 ≤ n → kind_of n false ≡ Is.Unclosed
 unfolding kind_of
 kind-unclosed zero low = absurd (omega arith)
 kind-unclosed (suc n) low = refl
 
-kind-closed : (n : ℕ) → 1 ≤ n → kind_of n true ≡ Is.Closed
+pub kind-closed : (n : ℕ) → 1 ≤ n → kind_of n true ≡ Is.Closed
 unfolding kind_of
 kind-closed zero low = absurd (omega arith)
 kind-closed (suc n) low = refl

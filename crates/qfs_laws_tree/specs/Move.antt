@@ -8,7 +8,7 @@ use Rattle.qfs_base.specs.declared.reply.TreeRefusal.{TreeRefusal}
 use Rattle.qfs_model_meta.specs.TreeRows.{at_path, file_stands, has_file, is_closed_row, is_unclosed_row, move_path, row_path, standing}
 use Rattle.std.proofs.Common.{Bool, List, None, Some, [], ap, arith, cond, drop, false, filter, length, length-append, length-take, map, nat_lt, not, refl, subst, sym, take, true, ℕ, ⊎_elim, ◌&&◌, ◌++◌, ◌+◌, ◌-◌, ◌<◌, ◌==◌, ◌||◌, ◌∙◌, ◌∷◌, ◌≡◌, ◌≢◌, ◌≤◌}
 use Rattle.std.proofs.Math.Seq.{drop-append_seam, take-append-add, take-append_seam, take-length}
-use Rattle.std.proofs.lemmas.Bool.{and_from, and_parts, cases_lt, ltb-false, not-true, or_parts, true≢false}
+use Rattle.std.proofs.lemmas.Bool.{and_from, and_parts, cases_lt, ltb-false, not-true, or_left, or_parts, or_right, true≢false}
 use Rattle.std.proofs.lemmas.List.{take-append-drop, take-append-le, take-take}
 use Rattle.std.proofs.lemmas.List.Elements.{All-append, All-drop}
 use Rattle.std.specs.Cmp.{tied_itself}
@@ -131,10 +131,6 @@ module _ (from to : PathNames) (tree : List TreeRow) (next : ℕ) (h : HasTree n
       ∙ or_right _ _ (any_filter (is_directory_at path) (λ row. not (is_moved row))
       (λ row is. ap (λ p. not (is_within from p)) (path-is row.path path (and_parts _ _ is).0) ∙ ap
       not off) tree has)
-    where
-      or_right : (a b : Bool) → b ≡ true → (a || b) ≡ true
-      or_right true b e = refl
-      or_right false b e = e
 
   lands : (x : PathNames) → HasDirectory tree (from ++ x)
       → HasDirectory (place_all (row_cmp row_path) landed kept_rows) (to ++ x)
@@ -155,10 +151,6 @@ module _ (from to : PathNames) (tree : List TreeRow) (next : ℕ) (h : HasTree n
       (and_parts (path_eq row.path (from ++ x)) (row.file == 0) is).0 in
       ap (is_within from) at ∙ is-within from (from ++ x) (sym (take-append_seam from x))) tree
       has))
-    where
-      or_left : (a b : Bool) → a ≡ true → (a || b) ≡ true
-      or_left true b e = refl
-      or_left false b e = absurd (true≢false (sym e))
 
   kept-lies : (row : TreeRow) → not (is_moved row) ≡ true → Lies tree row.path
       → Lies (place_all (row_cmp row_path) landed kept_rows) row.path

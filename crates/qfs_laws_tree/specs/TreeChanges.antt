@@ -5,7 +5,7 @@ use Rattle.qfs_base.specs.Table.{Each, change_row, change_where, place}
 use Rattle.qfs_base.specs.declared.image.TreeRow.{TreeRow}
 use Rattle.qfs_model_meta.specs.TreeRows.{add_row, close_file, close_row, closed_file, file_stands, has_file, is_closed, is_closed_row, is_unclosed, is_unclosed_row, kind_of, row_path, standing, take_file, take_path}
 use Rattle.std.proofs.Common.{Bool, List, None, Some, [], ap, arith, false, filter, length, length-take, nat_eq, nat_lt, not, refl, subst, suc, sym, take, true, zero, ℕ, ◌&&◌, ◌+◌, ◌<◌, ◌==◌, ◌||◌, ◌∙◌, ◌∷◌, ◌≡◌, ◌≤◌}
-use Rattle.std.proofs.lemmas.Bool.{and_from, and_parts, eqb-true, lt-ltb, ltb-true, or_parts, true≢false}
+use Rattle.std.proofs.lemmas.Bool.{and_from, and_parts, eqb-true, lt-ltb, ltb-true, or_parts, or_right, true≢false}
 use Rattle.std.proofs.lemmas.Bool.Decides.{nat_tests}
 use Rattle.std.specs.List.{list_any}
 use Rattle.std.specs.Prelude.{IsTrue, is_some}
@@ -125,10 +125,6 @@ tree-added next more new tree free is above later h =
   where
     less : (a b c : ℕ) → a < b → b ≤ c → a < c
     less a b c p q = omega arith
-
-    or_right : (a b : Bool) → b ≡ true → (a || b) ≡ true
-    or_right true b e = refl
-    or_right false b e = e
 
     one : (b : Bool) → nat_lt 0 new.file ≡ b → (file : ℕ) (c : Bool) → nat_eq new.file file ≡ c
         → file_count file tree ≤ 1
@@ -255,12 +251,6 @@ tree-emptied next path tree free h =
     (sym (below-taken row.path n high) ∙ ap (λ p. is_below p row.path) same ∙ off)) h
 
 -- ---- a file is closed
-
-closed_row-directory : (file : ℕ) (parent : PathNames) (row : TreeRow) (b : Bool)
-    → is_directory_at parent (change_row close_row row b) ≡ is_directory_at parent row
-unfolding close_row
-closed_row-directory file parent row true = refl
-closed_row-directory file parent row false = refl
 
 pub tree-closed : (next file : ℕ) (tree : List TreeRow) → 0 < file → HasTree next tree
     → HasTree next (close_file file tree)
