@@ -1,12 +1,12 @@
 -- Some server is chosen where there are more servers, all of them up, than are barred.
-use Rattle.std.proofs.Common.{◌≡◌, ℕ, zero, suc, ◌+◌, ◌<◌, ◌≤◌, nat_lt, nat_eq, Bool, true, false, cond, not, ◌&&◌, List, [], ◌∷◌, length, map, filter, fold, replicate, Option, Some, refl, sym, ap, subst, ◌∙◌, arith}
+use Rattle.std.proofs.Common.{◌≡◌, ℕ, zero, suc, ◌+◌, ◌<◌, ◌≤◌, nat_eq, Bool, true, false, cond, not, ◌&&◌, List, [], ◌∷◌, length, map, filter, fold, replicate, Option, Some, refl, sym, subst, ◌∙◌, arith}
 use Rattle.std.specs.Option.{option_map}
 use Rattle.std.specs.List.{IsDistinct, AllByRecursion, range_with_len, reduce, enumerate_from}
 use Rattle.std.specs.Set.{is_member}
 use Rattle.std.proofs.lemmas.Cmp.{nat_eq_equiv}
 use Rattle.std.proofs.lemmas.List.FromFn.{length-range_with_len}
 use Rattle.std.proofs.lemmas.Map.Made.{length-le_from_is_member}
-use Rattle.std.proofs.lemmas.Bool.{eqb-true}
+use Rattle.std.proofs.lemmas.Bool.{and_right, eqb-true}
 use Rattle.std.proofs.lemmas.Bool.Decides.{nat_tests}
 use Rattle.std.specs.BTreeSet.{insert_key}
 use Rattle.std.specs.declared.cmp.Ordering.TheVariants.{Less, Equal, Greater}
@@ -21,8 +21,8 @@ use Rattle.qfs_base.specs.declared.image.SlotRow.{SlotRow}
 use Rattle.qfs_model_meta.specs.Placing.{Numbered, load_of, census, is_open, open_servers, lighter, choose, with_live_servers}
 use Rattle.qfs_model_meta.specs.Servers.{is_live}
 use Rattle.qfs_model_meta.specs.Step.{first_server}
-use Rattle.qfs_laws_first.proofs.Rows.{each_weaker}
-use Rattle.qfs_laws_first.proofs.Tests.{and-false}
+use Rattle.std.proofs.lemmas.List.{length-replicate}
+use Rattle.qfs_laws_slots.specs.Choice.{IsNumbered, census-length, enumerated, lightest}
 
 -- ---- open servers
 
@@ -42,7 +42,7 @@ none_open barred number (load ∷ loads) ready none q member = one (has barred n
         → has barred q ≡ true
     one true true p here rest = rw (eqb-true q number here) p
     one true false p here rest =
-        let shut : is_open barred (number, load) ≡ false = rw p (and-false (load.up && not load.leaving)) in
+        let shut : is_open barred (number, load) ≡ false = rw p (and_right (load.up && not load.leaving) false refl) in
         rest (rw shut at none) q (rw here at member)
     one false here p is rest =
         let open_now : is_open barred (number, load) ≡ true = rw (ready.0.0, ready.0.1, p) refl in
@@ -63,29 +63,6 @@ range-apart a (suc n) = (above (a + 1) n (omega arith), range-apart (a + 1) n)
     above b zero less = tt
     above b (suc n) less = (grind (arith, nat_tests), above (b + 1) n (omega (arith, less)))
 
--- a server of a number in a range
-abbrev IsNumbered : ℕ → ℕ → Numbered → Type 0
-IsNumbered from to s = (from ≤ s.0) × (s.0 < to)
-
-numbers-wider : (from to : ℕ) (s : Numbered) → IsNumbered (from + 1) to s → IsNumbered from to s
-numbers-wider from to s is = (omega (arith, is.0), is.1)
-
-enumerated : (from : ℕ) (loads : List Load) → Each (IsNumbered from (from + length loads)) (enumerate_from from loads)
-enumerated from [] = tt
-enumerated from (load ∷ loads) =
-    let to : from + 1 + length loads ≡ from + length (load ∷ loads) = omega arith in
-    let rest : Each (IsNumbered (from + 1) (from + length (load ∷ loads))) (enumerate_from (from + 1) loads) =
-    subst (λ to. Each (IsNumbered (from + 1) to) (enumerate_from (from + 1) loads)) to (enumerated (from + 1) loads) in
-    ((omega arith, omega arith), each_weaker _ _ _ (numbers-wider from (from + length (load ∷ loads))) rest)
-
-lighter-one : (P : Numbered → Type 0) (best next : Numbered) → P best → P next → P (lighter best next)
-unfolding lighter
-lighter-one P best next b n = elim (nat_lt next.1.count best.1.count) as (λ t. P (cond t next best)) [ true ↦ n | false ↦ b ]
-
-lightest-one : (P : Numbered → Type 0) (best : Numbered) (servers : List Numbered) → P best → Each P servers → P (fold lighter best servers)
-lightest-one P best [] b each = b
-lightest-one P best (next ∷ servers) b each = lightest-one P (lighter best next) servers (lighter-one P best next b each.0) each.1
-
 -- a server that was chosen of so many
 pub record IsChosen (servers : ℕ) (found : Option ℕ) : Type 0 where
   pub server : ℕ
@@ -97,7 +74,7 @@ chosen_of : (servers : ℕ) (candidates : List Numbered) → Each (IsNumbered 1 
     → IsChosen servers (option_map (λ (s : Numbered). s.0) (reduce lighter candidates))
 chosen_of servers [] each some = absurd (some refl)
 chosen_of servers (best ∷ rest) each some =
-    let lightest = lightest-one (IsNumbered 1 (1 + servers)) best rest each.0 each.1 in
+    let lightest = lightest (IsNumbered 1 (1 + servers)) best rest each.0 each.1 in
     record { server = (fold lighter best rest).0; first = lightest.0; last = omega (arith, lightest.1); chosen = refl }
 
 choose-some : (loads : List Load) (barred : List ℕ) → Each IsReady loads → length barred < length loads → IsChosen (length loads) (choose loads barred)
@@ -117,14 +94,10 @@ unfolding load_of first_server
 ready_from slots from zero = tt
 ready_from slots from (suc n) = ((refl, refl), ready_from slots (from + 1) n)
 
-census_long : (slots : List SlotRow) (from n : ℕ) → length (map (λ (s : ℕ × ServerView). load_of slots s.0 s.1) (enumerate_from from (replicate n first_server))) ≡ n
-census_long slots from zero = refl
-census_long slots from (suc n) = ap suc (census_long slots (from + 1) n)
-
 pub choose-first : (slots : List SlotRow) (n : ℕ) (barred : List ℕ) → length barred < n → IsChosen n (choose (census (replicate n first_server) slots) barred)
 unfolding census
 choose-first slots n barred few =
-    let long = census_long slots 1 n in
+    let long = census-length slots 1 (replicate n first_server) ∙ length-replicate n first_server in
     let loads : List Load = map (λ (s : ℕ × ServerView). load_of slots s.0 s.1) (enumerate_from 1 (replicate n first_server)) in
     subst (λ k. IsChosen k (choose loads barred)) long (choose-some loads barred (ready_from slots 1 n) (omega (arith, few, long)))
 

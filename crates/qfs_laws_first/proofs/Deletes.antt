@@ -49,7 +49,8 @@ use Rattle.qfs_laws_first.specs.Asks.{IsMetaOfFiles, IsChunkOfFiles, IsOfFiles, 
 use Rattle.qfs_laws_first.specs.FirstPath.{IsPutOrGet, PutsAndGets}
 use Rattle.qfs_laws_first.proofs.AsksOfGets.{get_work-asks}
 use Rattle.qfs_laws_first.proofs.AsksOfPuts.{put_work-asks}
-use Rattle.qfs_laws_first.proofs.Rows.{each_weaker, each_at, each_numbered, each_renumbered}
+use Rattle.qfs_laws_first.proofs.Rows.{each_at, each_numbered, each_renumbered}
+use Rattle.qfs_base.specs.EachLaws.{each_weaker}
 
 -- ---- what a put or get asks
 
@@ -306,4 +307,4 @@ keeps : (event : Event) → IsIdle event → KeepsAtRestart event
 keeps event idle restarted = let none = idle.1 in absurd (cc)
 
 pub restarts_nothing : (script : Script) (order : List Step) → PutsAndGets script → Each KeepsAtRestart (events script order)
-restarts_nothing script order all = each_weaker IsIdle KeepsAtRestart (events script order) keeps (events-silent script order all)
+restarts_nothing script order all = each_weaker IsIdle KeepsAtRestart keeps (events script order) (events-silent script order all)

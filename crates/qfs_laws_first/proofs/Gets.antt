@@ -1,5 +1,5 @@
 -- A get opens its file, fetches its slots and releases its lease.
-use Rattle.std.proofs.Common.{◌≡◌, ℕ, ◌+◌, ◌*◌, ◌<◌, ◌≤◌, true, false, List, [], ◌∷◌, length, map, take, Some, None, refl, ap, ◌∙◌, arith}
+use Rattle.std.proofs.Common.{List, None, Some, [], ap, arith, false, length, map, refl, sym, take, true, ℕ, ◌*◌, ◌+◌, ◌<◌, ◌∙◌, ◌∷◌, ◌≡◌, ◌≤◌}
 use Rattle.std.proofs.Math.Seq.{take-length}
 use Rattle.std.proofs.lemmas.List.FromFn.{length-map-range_with_len}
 use Rattle.std.proofs.lemmas.Option.{slice_get-map}
@@ -43,17 +43,19 @@ use Rattle.qfs_laws_first.proofs.Histories.{written-later}
 use Rattle.qfs_laws_first.proofs.Kept.{file-kept, view-first}
 use Rattle.qfs_laws_first.proofs.MetaSteps.{refused-file, accepted-file, AreFew, few-more, step-makes, step-tells}
 use Rattle.qfs_laws_first.proofs.Reading.{IsShort, blocks_of-one}
-use Rattle.qfs_laws_first.proofs.Rows.{each_weaker}
 use Rattle.qfs_laws_first.proofs.Servers.{IsUp, stored_at, stored-same, are_up-changed}
 use Rattle.qfs_laws_first.proofs.States.{first_block, first_key, first_copy, IsFile, IsRow, Steady, Between, Within}
 use Rattle.qfs_laws_first.proofs.Works.{place-of}
-use Rattle.qfs_laws_first.proofs.Trees.{ClosedAt, standing-files, bytes-found, each_find}
+use Rattle.qfs_laws_first.proofs.Trees.{ClosedAt, bytes-found}
+use Rattle.qfs_base.specs.EachLaws.{each_weaker}
+use Rattle.qfs_laws_tree.specs.History.{standing-files}
+use Rattle.qfs_laws_tables.specs.EachRow.{found_has}
 
 -- ---- replies at the end of the history
 
 module _ (script : Script) (servers : List Server) (m : MetaImage) (commands most : ℕ) (s : Steady script servers m commands most) where
   files-now : files_of (puts_of script) (take (length m.history) m.history) ≡ map (file_entry (puts_of script)) m.tree
-  files-now = ap (files_of (puts_of script)) (take-length m.history) ∙ s.written.files
+  files-now = ap (files_of (puts_of script)) (take-length m.history) ∙ sym (s.written.files (puts_of script))
 
   standing-now : files_standing (files_of (puts_of script) (take (length m.history) m.history)) ≡ standing m.tree
   standing-now = ap files_standing files-now ∙ standing-files (puts_of script) m.tree
@@ -72,7 +74,7 @@ module _ (script : Script) (servers : List Server) (m : MetaImage) (commands mos
       rw (standing-now, refused) refl
 
   row-here : (path : PathNames) (c : ClosedAt m.tree path) → IsRow script servers m.slots m.next_file c.row
-  row-here path c = each_find (IsRow script servers m.slots m.next_file) (stands_at row_path path) m.tree c.row s.rows c.found
+  row-here path c = (found_has (IsRow script servers m.slots m.next_file) (stands_at row_path path) m.tree c.row c.found s.rows).0
 
   -- what a get of a closed file answers there: the bytes of the put that closed it
   pub get-read-there : (path : PathNames) (c : ClosedAt m.tree path) → look_refusal (standing m.tree) path ≡ None
@@ -185,13 +187,13 @@ module _ (script : Script) (servers : List Server) (m : MetaImage) (commands ser
     up = are_up-changed servers server u handed u.up u.life u.form script.servers r.up;
     few = r.few;
     written = r.written;
-    rows = each_weaker (IsRow script servers m.slots m.next_file) (IsRow script (renumbered servers server handed) m.slots m.next_file) m.tree
-        (λ row is. record {
+    rows = each_weaker (IsRow script servers m.slots m.next_file) (IsRow script (renumbered servers server handed) m.slots m.next_file) (λ row is. record {
           above = is.above;
           below = is.below;
           whole = λ closed. file-kept script.layout script.servers servers (renumbered servers server handed) m.slots m.slots row.file row.len _
               (λ slot within. refl) (λ other slot. stays-stored other (first_key row.file slot)) (is.whole closed);
-        }) r.rows;
+        })
+        m.tree r.rows;
     slots_below = r.slots_below;
     none_to_come = λ other key above. stays-stored other key ∙ r.none_to_come other key above;
   }

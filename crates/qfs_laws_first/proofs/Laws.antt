@@ -42,14 +42,15 @@ use Rattle.qfs_laws_first.specs.FirstPath.{IsPutOrGet, IsFirst, IsFirstPath, All
 use Rattle.qfs_laws_first.specs.Replies.{IsPlain, PlainReplies}
 use Rattle.qfs_laws_first.proofs.Deletes.{deletes_nothing}
 use Rattle.qfs_laws_first.proofs.GetRuns.{get-starts, get-goes}
-use Rattle.qfs_laws_first.proofs.Histories.{written-none}
+use Rattle.qfs_laws_first.proofs.Histories.{history-legal, written-none}
 use Rattle.qfs_laws_first.proofs.Moves.{request-none}
 use Rattle.qfs_laws_first.proofs.PutRuns.{command-at, put-starts, put-stores-on, put-goes}
 use Rattle.qfs_laws_first.proofs.Reports.{IsBorneOut, IsGood, IsReadBy, opened_in, ReadsWhereOpened, numbered-more}
-use Rattle.qfs_laws_first.proofs.Rows.{each_at, each_weaker}
+use Rattle.qfs_laws_first.proofs.Rows.{each_at}
 use Rattle.qfs_laws_first.proofs.Runs.{Resting, Run, Next, no-step}
 use Rattle.qfs_laws_first.proofs.Servers.{IsUp, stored_at}
 use Rattle.qfs_laws_first.proofs.States.{Between}
+use Rattle.qfs_base.specs.EachLaws.{each_weaker}
 
 -- ---- one step
 
@@ -167,13 +168,13 @@ module _ (script : Script) (commands : List Command) (steps : List Event) (w : W
   legal-of =
       elim r.stage [
         | inl idle ↦ elim idle.1 [
-          | inl rest ↦ rest.between.written.legal
+          | inl rest ↦ history-legal script _ _ _ _ rest.between.written
           | inr busy ↦ elim busy [
-            | inl granting ↦ granting.puts.steady.written.legal
-            | inr storing ↦ storing.puts.steady.written.legal
+            | inl granting ↦ history-legal script _ _ _ _ granting.puts.steady.written
+            | inr storing ↦ history-legal script _ _ _ _ storing.puts.steady.written
           ]
         ]
-        | inr fetching ↦ fetching.reads.written.legal
+        | inr fetching ↦ history-legal script _ _ _ _ fetching.reads.written
       ]
 
   borne-agrees : (number : ℕ) (command : FileCommand) (report : Report) → IsBorneOut script w.meta.history number command report
@@ -192,7 +193,7 @@ module _ (script : Script) (commands : List Command) (steps : List Event) (w : W
   each-reply : (P : ℕ → ℕ → Report → Type 0) → ((number : ℕ) (report : Report) → IsGood script steps w.meta.history number report → P 1 number report) → EachReport w P
   each-reply P holds =
       let of_actor : Each (λ (reply : ℕ × Report). P 1 reply.0 reply.1) (enumerate_from 1 r.actor.ended) =
-      each_weaker (λ (reply : ℕ × Report). IsGood script steps w.meta.history reply.0 reply.1) _ (enumerate_from 1 r.actor.ended) (λ reply good. holds reply.0 reply.1 good) r.replies in
+      each_weaker (λ (reply : ℕ × Report). IsGood script steps w.meta.history reply.0 reply.1) _ (λ reply good. holds reply.0 reply.1 good) (enumerate_from 1 r.actor.ended) r.replies in
       subst (λ actors. Each (λ (actor : Actor). Each (λ (reply : ℕ × Report). P actor.number reply.0 reply.1) (enumerate_from 1 actor.ended)) actors) (sym r.alone)
       (subst (λ n. Each (λ (reply : ℕ × Report). P n reply.0 reply.1) (enumerate_from 1 r.actor.ended)) (sym r.number) of_actor, tt)
 
@@ -307,4 +308,4 @@ pub no-deletion : (script : Script) (commands : List Command) (order : List Step
 no-deletion script commands order first_path =
     deletes_nothing script order
     (subst (λ phases. Each (Each IsPutOrGet) (flat_map (λ phase. phase) phases)) (sym first_path.alone)
-    (each_weaker IsFirst IsPutOrGet commands is-put-or-get first_path.each, tt))
+    (each_weaker IsFirst IsPutOrGet is-put-or-get commands first_path.each, tt))

@@ -36,9 +36,10 @@ use Rattle.qfs_laws_first.proofs.Chosen.{IsChosen, choose-first, barred-few}
 use Rattle.qfs_laws_first.proofs.Kept.{closed-elsewhere, file-kept, each_with, view-first}
 use Rattle.qfs_laws_first.proofs.MetaSteps.{AreFew, step-makes}
 use Rattle.qfs_laws_first.proofs.Reading.{IsShort, blocks_of-one}
-use Rattle.qfs_laws_first.proofs.Rows.{each_weaker}
 use Rattle.qfs_laws_first.proofs.States.{first_block, granted_once, IsGranted, IsRow, Target, target_row, Puts}
-use Rattle.qfs_laws_first.proofs.Tables.{slot_at-placed, slot_at-other, is_slot-other, is_slot-same, each_with_slot, grants-more}
+use Rattle.qfs_laws_first.proofs.Tables.{each_with_slot, grants-more, is_slot-other}
+use Rattle.qfs_base.specs.EachLaws.{each_weaker}
+use Rattle.qfs_laws_slots.specs.Slots.{is_slot-is, placed-other, placed-same}
 
 -- the grant of a slot on a server
 abbrev pub grant_on : Shape → ℕ → ℕ → ℕ → ℕ → Granted
@@ -125,10 +126,10 @@ module _ (script : Script) (servers : List Server) (m : MetaImage) (commands : �
 
   stays-other : (server file number : ℕ) → (t.file ≡ file → slot ≡ number → ⊥) → slot_at (new_slots server) (first_block file) number ≡ slot_at m.slots (first_block file) number
   stays-other server file number differ =
-      slot_at-other (first_block t.file) slot _ (first_block file) number m.slots (is_slot-other (first_block t.file) (first_block file) slot number _ differ)
+      placed-other (first_block t.file) (first_block file) slot number _ m.slots (is_slot-other (first_block t.file) (first_block file) slot number _ differ)
 
   pub granted-now : (server : ℕ) → 1 ≤ server → server ≤ script.servers → slot_at (new_slots server) (first_block t.file) slot ≡ granted_once server
-  granted-now server first last = slot_at-placed (first_block t.file) slot _ m.slots ∙ granted-record server first last
+  granted-now server first last = placed-same (first_block t.file) slot _ m.slots ∙ granted-record server first last
 
   row-kept : (server : ℕ) (row : TreeRow) → IsRow script servers m.slots m.next_file row → (has_file t.file row ≡ true → row ≡ target_row commands t)
       → IsRow script servers (new_slots server) m.next_file row
@@ -170,11 +171,11 @@ module _ (script : Script) (servers : List Server) (m : MetaImage) (commands : �
     where
       at : (b : Bool) → is_slot row.block row.slot (record { block = first_block t.file; slot = slot; state = granted_once server }) ≡ b → is_none (slot_at (new_slots server) row.block row.slot).grant ≡ false
       at true is =
-          let same = is_slot-same row.block row.slot (record { block = first_block t.file; slot = slot; state = granted_once server }) is in
-          let found : slot_at (new_slots server) row.block row.slot ≡ granted_once server = rw (same.0, same.1) (granted-now server first last) in
+          let same = is_slot-is row.block row.slot (record { block = first_block t.file; slot = slot; state = granted_once server }) is in
+          let found : slot_at (new_slots server) row.block row.slot ≡ granted_once server = rw (← same.0, ← same.1) (granted-now server first last) in
           ap (λ (r : SlotRecord). is_none r.grant) found
       at false is =
-          ap (λ (r : SlotRecord). is_none r.grant) (slot_at-other (first_block t.file) slot _ row.block row.slot m.slots is) ∙ old own
+          ap (λ (r : SlotRecord). is_none r.grant) (placed-other (first_block t.file) row.block slot row.slot _ m.slots is) ∙ old own
 
   new-has : (server : ℕ) → 1 ≤ server → server ≤ script.servers → lacks_grant (new_slots server) (record { block = first_block t.file; slot = slot }) ≡ false
   unfolding lacks_grant
@@ -198,7 +199,7 @@ module _ (script : Script) (servers : List Server) (m : MetaImage) (commands : �
     grants = λ number within. grant-one server number first last within;
     ungranted = λ number above. stays-other server t.file number (λ same one. omega (arith, one, above)) ∙ p.ungranted number (omega (arith, above));
     all_granted = each_with_slot (λ (row : SlotRow). is_of_file t.file row ≡ true → lacks_grant (new_slots server) (slot_id row) ≡ false) (first_block t.file) slot _ m.slots
-        (λ own. new-has server first last) (each_weaker _ _ m.slots (lacks-none server first last) p.all_granted);
+        (λ own. new-has server first last) (each_weaker _ _ (lacks-none server first last) m.slots p.all_granted);
     few_grants = omega (arith, grants-more (first_block t.file) (first_block t.file) slot (granted_slot server (server_at m.servers server).life 1 0 (slot_at m.slots (first_block t.file) slot)) m.slots, p.few_grants);
     unstored = p.unstored;
   }

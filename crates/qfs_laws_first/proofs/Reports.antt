@@ -7,7 +7,7 @@ use Rattle.std.proofs.lemmas.List.Folds.{list_any-append}
 use Rattle.std.specs.Prelude.{IsTrue, IfSome}
 use Rattle.std.specs.List.{list_any, enumerate_from}
 use Rattle.std.proofs.lemmas.Bool.{or_left, or_right, eq-eqb}
-use Rattle.qfs_base.specs.EachLaws.{each_append}
+use Rattle.qfs_base.specs.EachLaws.{each_append, each_weaker}
 use Rattle.qfs_base.specs.FileReplies.{reply_at}
 use Rattle.qfs_base.specs.ListLaws.{slice_get-more, slice_get-last}
 use Rattle.qfs_base.specs.Table.{Each}
@@ -30,7 +30,6 @@ use Rattle.qfs_model_world.specs.Puts.{command_of, puts_of}
 use Rattle.qfs_model_world.specs.World.{World, numbered}
 use Rattle.qfs_model_world.proofs.OneActor.{done_step}
 use Rattle.qfs_laws_first.proofs.Histories.{reply_at-more}
-use Rattle.qfs_laws_first.proofs.Rows.{each_weaker}
 
 -- ---- replies
 
@@ -141,10 +140,10 @@ last-number xs x = rw (add-one (length xs)) (slice_get-last xs x)
 -- one reply more
 pub openings-more : (told : List Report) (report : Report) (steps : List Event) → Each (ReadsWhereOpened told) steps → Each (ReadsWhereOpened (told ++ report ∷ [])) steps
 openings-more told report steps each =
-    each_weaker (ReadsWhereOpened told) (ReadsWhereOpened (told ++ report ∷ [])) steps
-    (λ event reads o opened.
+    each_weaker (ReadsWhereOpened told) (ReadsWhereOpened (told ++ report ∷ [])) (λ event reads o opened.
     let r = reads o opened in
     record { by = r.by; place = r.place; bytes = r.bytes; reply = numbered-more told (report ∷ []) event.command _ r.reply })
+    steps
     each
 
 -- one step more, which opens nothing

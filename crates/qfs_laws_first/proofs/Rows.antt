@@ -1,4 +1,4 @@
--- What holds of each item of a list.
+-- What holds of each item of a list, by its place or its number.
 use Rattle.std.proofs.Common.{◌≡◌, ℕ, zero, suc, List, [], ◌∷◌, Some, subst}
 use Rattle.std.specs.Prelude.{slice_get, slice_set}
 use Rattle.qfs_base.specs.Table.{Each}
@@ -9,10 +9,6 @@ module _ {X : Type 0} where
   each_at P [] k x each at = absurd (cc)
   each_at P (y ∷ ys) zero x each at = let same : y ≡ x = cc in subst P same each.0
   each_at P (y ∷ ys) (suc k) x each at = each_at P ys k x each.1 at
-
-  pub each_weaker : (P Q : X → Type 0) (xs : List X) → ((x : X) → P x → Q x) → Each P xs → Each Q xs
-  each_weaker P Q [] weaker each = tt
-  each_weaker P Q (x ∷ xs) weaker each = (weaker x each.0, each_weaker P Q xs weaker each.1)
 
   pub each_set : (P : X → Type 0) (xs : List X) (k : ℕ) (x : X) → Each P xs → P x → Each P (slice_set xs k x)
   each_set P [] k x each here = tt
