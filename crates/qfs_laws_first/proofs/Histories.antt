@@ -1,5 +1,6 @@
 -- A file history with one entry more: it stays legal, and what is said of its places stays so.
-use Rattle.std.proofs.Common.{◌≡◌, ℕ, ◌+◌, ◌≤◌, ◌==◌, true, false, List, [], ◌∷◌, ◌++◌, length, map, Option, Some, None, refl, sym, ap, subst, ◌∙◌, arith}
+use Rattle.std.proofs.Common.{◌≡◌, ℕ, ◌+◌, ◌≤◌, ◌==◌, true, false, List, [], ◌∷◌, ◌++◌, length, map}
+use Rattle.std.proofs.Common.{Option, Some, None, refl, sym, ap, subst, ◌∙◌, arith}
 use Rattle.std.proofs.lemmas.Bool.{and_right, eq-eqb}
 use Rattle.std.proofs.lemmas.Bool.Decides.{nat_tests}
 use Rattle.std.proofs.lemmas.List.{append-nil, take-append-le}
@@ -7,7 +8,8 @@ use Rattle.std.proofs.lemmas.List.Elements.{filter_map-append}
 use Rattle.std.specs.List.{IsDistinct}
 use Rattle.qfs_base.specs.EachLaws.{each_append, each_weaker}
 use Rattle.qfs_base.specs.FileReplies.{file_reply, reply_at}
-use Rattle.qfs_base.specs.Files.{Puts, FollowFrom, files_of, created_count, closing_command, closing_commands, same_pair}
+use Rattle.qfs_base.specs.Files.{Puts, FollowFrom, files_of, created_count, closing_command}
+use Rattle.qfs_base.specs.Files.{closing_commands, same_pair}
 use Rattle.qfs_base.specs.NameTree.{PathNames, add_refusal}
 use Rattle.qfs_base.specs.Table.{Each, first_of}
 use Rattle.qfs_base.specs.declared.command.FileCommand.{FileCommand}
@@ -19,44 +21,56 @@ use Rattle.qfs_base.specs.declared.script.Script.{Script}
 use Rattle.qfs_model_meta.specs.Apply.{apply, add_file, write_entry, with_slots}
 use Rattle.qfs_model_meta.specs.Sound.{TreeIsHistory, file_entry}
 use Rattle.qfs_model_meta.specs.TreeRows.{standing, file_row, add_row, close_file}
-use Rattle.qfs_model_world.specs.FileHistory.{path_if, created_in, created_path, IsOwnPut, IsHistoryOf}
+use Rattle.qfs_model_world.specs.FileHistory.{path_if, created_in, created_path, IsOwnPut}
+use Rattle.qfs_model_world.specs.FileHistory.{IsHistoryOf}
 use Rattle.qfs_model_world.specs.Puts.{put_path}
 use Rattle.qfs_laws_tables.specs.Distinct.{distinct-push}
 use Rattle.qfs_laws_tree.specs.History.{IsUnclosedFile, history-closed, history-file}
 
 -- ---- one entry more
 
-first_of-more : {X Y : Type 0} (answer : X → Option Y) (xs ys : List X) (y : Y) → first_of answer xs ≡ Some y → first_of answer (xs ++ ys) ≡ Some y
+first_of-more : {X Y : Type 0} (answer : X → Option Y) (xs ys : List X) (y : Y)
+    → first_of answer xs ≡ Some y → first_of answer (xs ++ ys) ≡ Some y
 first_of-more answer [] ys y found = absurd (cc)
 first_of-more answer (x ∷ xs) ys y found = one (answer x) refl (first_of-more answer xs ys y)
   where
-    one : (o : _) → answer x ≡ o → (first_of answer xs ≡ Some y → first_of answer (xs ++ ys) ≡ Some y) → first_of answer (x ∷ xs ++ ys) ≡ Some y
+    one : (o : _) → answer x ≡ o
+        → (first_of answer xs ≡ Some y → first_of answer (xs ++ ys) ≡ Some y)
+        → first_of answer (x ∷ xs ++ ys) ≡ Some y
     one None is rest = rw is (rest (rw is at found))
     one (Some z) is rest = rw is (rw is at found)
 
-first_of-none : {X Y : Type 0} (answer : X → Option Y) (xs : List X) (x : X) → first_of answer xs ≡ None → answer x ≡ None → first_of answer (xs ++ x ∷ []) ≡ None
+first_of-none : {X Y : Type 0} (answer : X → Option Y) (xs : List X) (x : X)
+    → first_of answer xs ≡ None → answer x ≡ None → first_of answer (xs ++ x ∷ []) ≡ None
 first_of-none answer [] x none last = rw last refl
 first_of-none answer (y ∷ ys) x none last = one (answer y) refl (first_of-none answer ys x)
   where
-    one : (o : _) → answer y ≡ o → (first_of answer ys ≡ None → answer x ≡ None → first_of answer (ys ++ x ∷ []) ≡ None) → first_of answer (y ∷ ys ++ x ∷ []) ≡ None
+    one : (o : _) → answer y ≡ o
+        → (first_of answer ys ≡ None → answer x ≡ None → first_of answer (ys ++ x ∷ []) ≡ None)
+        → first_of answer (y ∷ ys ++ x ∷ []) ≡ None
     one None is rest = rw is (rest (rw is at none) last)
     one (Some z) is rest = let some : Some z ≡ None = rw is at none in absurd (cc)
 
-first_of-last : {X Y : Type 0} (answer : X → Option Y) (xs : List X) (x : X) (y : Y) → first_of answer xs ≡ None → answer x ≡ Some y → first_of answer (xs ++ x ∷ []) ≡ Some y
+first_of-last : {X Y : Type 0} (answer : X → Option Y) (xs : List X) (x : X) (y : Y)
+    → first_of answer xs ≡ None → answer x ≡ Some y → first_of answer (xs ++ x ∷ []) ≡ Some y
 first_of-last answer [] x y none last = rw last refl
 first_of-last answer (z ∷ zs) x y none last = one (answer z) refl (first_of-last answer zs x y)
   where
-    one : (o : _) → answer z ≡ o → (first_of answer zs ≡ None → answer x ≡ Some y → first_of answer (zs ++ x ∷ []) ≡ Some y) → first_of answer (z ∷ zs ++ x ∷ []) ≡ Some y
+    one : (o : _) → answer z ≡ o
+        → (first_of answer zs ≡ None → answer x ≡ Some y → first_of answer (zs ++ x ∷ []) ≡ Some y)
+        → first_of answer (z ∷ zs ++ x ∷ []) ≡ Some y
     one None is rest = rw is (rest (rw is at none) last)
     one (Some other) is rest = let some : Some other ≡ None = rw is at none in absurd (cc)
 
 -- ---- what a reply with a place says
 
 -- a reply at a place of a history is its reply there when there is more
-pub reply_at-more : (puts : Puts) (history more : List Entry) (place : ℕ) (command : FileCommand) → place ≤ length history
+pub reply_at-more : (puts : Puts) (history more : List Entry) (place : ℕ) (command : FileCommand)
+    → place ≤ length history
     → reply_at puts (history ++ more) place command ≡ reply_at puts history place command
 unfolding reply_at
-reply_at-more puts history more place command within = ap (λ h. file_reply (files_of puts h) command) (take-append-le place history more within)
+reply_at-more puts history more place command within =
+    ap (λ h. file_reply (files_of puts h) command) (take-append-le place history more within)
 
 -- ---- the history of a run
 
@@ -87,10 +101,16 @@ is-history : (script : Script) (m : MetaImage) (commands : ℕ)
 is-history script m commands w =
     record { files = w.files; legal = w.legal; numbers = w.count }
 
-own-more : (script : Script) (history : List Entry) (new entry : Entry) → IsOwnPut script history entry → IsOwnPut script (history ++ new ∷ []) entry
+own-more : (script : Script) (history : List Entry) (new entry : Entry)
+    → IsOwnPut script history entry → IsOwnPut script (history ++ new ∷ []) entry
 unfolding created_path
 own-more script history new (Wrote.Closed file actor command) own =
-    record { path = own.path; created = first_of-more (created_in file) history (new ∷ []) own.path own.created; put = own.put }
+    record {
+      path = own.path;
+      created =
+          first_of-more (created_in file) history (new ∷ []) own.path own.created;
+      put = own.put;
+    }
 own-more script history new (Wrote.Mkdir path) own = tt
 own-more script history new (Wrote.Rmdir path) own = tt
 own-more script history new (Wrote.Created file path) own = tt
@@ -98,9 +118,11 @@ own-more script history new (Wrote.Aborted file) own = tt
 own-more script history new (Wrote.Removed path) own = tt
 own-more script history new (Wrote.Renamed from to) own = tt
 
-owns-more : (script : Script) (history : List Entry) (new : Entry) (entries : List Entry) → Each (IsOwnPut script history) entries → Each (IsOwnPut script (history ++ new ∷ [])) entries
+owns-more : (script : Script) (history : List Entry) (new : Entry) (entries : List Entry)
+    → Each (IsOwnPut script history) entries → Each (IsOwnPut script (history ++ new ∷ [])) entries
 owns-more script history new [] own = tt
-owns-more script history new (entry ∷ entries) own = (own-more script history new entry own.0, owns-more script history new entries own.1)
+owns-more script history new (entry ∷ entries) own =
+    (own-more script history new entry own.0, owns-more script history new entries own.1)
 
 -- a file is created
 pub written-created : (script : Script) (m : MetaImage) (commands command len : ℕ)
@@ -109,7 +131,8 @@ pub written-created : (script : Script) (m : MetaImage) (commands command len : 
     → add_refusal (standing m.tree) path ≡ None
     → Written script (m.history ++ Wrote.Created m.next_file path ∷ [])
     (add_row (file_row path m.next_file 1 command len) m.tree) (m.next_file + 1) commands
-unfolding apply add_file write_entry closing_commands closing_command created_path created_in path_if
+unfolding apply add_file write_entry closing_commands closing_command created_path created_in
+    path_if
 written-created script m commands command len path w free =
     let entry : Entry = Wrote.Created m.next_file path in
     let after = history-file m path 1 command len (omega (arith, w.count)) free
@@ -166,12 +189,14 @@ written-closed script m commands file path w unclosed made created put =
           (distinct-push same_pair closed (1, commands + 1) w.once
           (each_weaker _ _ (apart commands) closed w.closers));
       own_puts = each_append _ m.history (entry ∷ [])
-          (owns-more script m.history entry m.history w.own_puts)
-          (record {
-            path = path;
-            created = first_of-more (created_in file) m.history (entry ∷ []) path created;
-            put = put;
-          }, tt);
+          (owns-more script m.history entry m.history w.own_puts) (
+            record {
+              path = path;
+              created = first_of-more (created_in file) m.history (entry ∷ []) path created;
+              put = put;
+            },
+            tt,
+          );
       closers = subst (Each (IsCloser (commands + 1))) (sym closing)
           (each_append _ closed ((1, commands + 1) ∷ [])
           (each_weaker _ _ (later commands) closed w.closers) ((refl, omega arith), tt));
@@ -180,7 +205,9 @@ written-closed script m commands file path w unclosed made created put =
     }
 
 -- the file that was just created
-pub created-now : (file : ℕ) (path : PathNames) (history : List Entry) → created_path file history ≡ None → created_path file (history ++ Wrote.Created file path ∷ []) ≡ Some path
+pub created-now : (file : ℕ) (path : PathNames) (history : List Entry)
+    → created_path file history ≡ None → created_path file (history ++ Wrote.Created file path ∷ [])
+    ≡ Some path
 unfolding created_path created_in path_if
 created-now file path history none =
     let own : (file == file) ≡ true = eq-eqb file file refl in

@@ -1,6 +1,7 @@
 -- What placing a slot and closing a file leave of the records of slots, and how many grants a block
 -- has: cited by the steps of a put.
-use Rattle.std.proofs.Common.{◌≡◌, ℕ, ◌+◌, ◌==◌, ◌≤◌, Bool, true, false, List, [], ◌∷◌, length, Option, Some, None, refl, sym, ap, ◌∙◌, arith}
+use Rattle.std.proofs.Common.{◌≡◌, ℕ, ◌+◌, ◌==◌, ◌≤◌, Bool, true, false, List, [], ◌∷◌, length}
+use Rattle.std.proofs.Common.{Option, Some, None, refl, sym, ap, ◌∙◌, arith}
 use Rattle.std.proofs.lemmas.Bool.{eq-eqb, false_from_ne_true, true≢false}
 use Rattle.qfs_base.specs.EachLaws.{each_weaker}
 use Rattle.qfs_base.specs.Table.{Each, place}
@@ -9,7 +10,8 @@ use Rattle.qfs_base.specs.declared.image.Grant.{Grant}
 use Rattle.qfs_base.specs.declared.image.SlotRecord.{SlotRecord}
 use Rattle.qfs_base.specs.declared.image.SlotRow.{SlotRow}
 use Rattle.qfs_model_meta.specs.Slots.{never_granted, slot_cmp, is_slot, is_of_block, slot_at}
-use Rattle.qfs_model_meta.specs.Slots.{granted_copy, grants_of_block, sealed_slot, with_slot, seal_file}
+use Rattle.qfs_model_meta.specs.Slots.{granted_copy, grants_of_block, sealed_slot, with_slot}
+use Rattle.qfs_model_meta.specs.Slots.{seal_file}
 use Rattle.qfs_laws_slots.specs.Slots.{is_slot-is, sealed-cases}
 use Rattle.qfs_laws_tables.specs.EachRow.{each_place}
 use Rattle.qfs_laws_tables.specs.Placed.{total-placed_le}

@@ -1,6 +1,7 @@
--- A closed file of the name tree: where the rules let it be opened it is found, with the bytes of the
--- put that closed it. Cited by the steps of a get.
-use Rattle.std.proofs.Common.{◌≡◌, ℕ, zero, suc, ◌≤◌, Bool, true, false, cond, List, [], ◌∷◌, map, find, Some, None, refl, ap, ◌∙◌}
+-- A closed file of the name tree: where the rules let it be opened it is found, with the bytes of
+-- the put that closed it. Cited by the steps of a get.
+use Rattle.std.proofs.Common.{◌≡◌, ℕ, zero, suc, ◌≤◌, Bool, true, false, cond, List, [], ◌∷◌, map}
+use Rattle.std.proofs.Common.{find, Some, None, refl, ap, ◌∙◌}
 use Rattle.std.specs.Option.{option_map, option_map_or}
 use Rattle.qfs_base.specs.FileReplies.{bytes_of_content, bytes_at}
 use Rattle.qfs_base.specs.Files.{Puts, FileEntry, entry_path}
@@ -32,16 +33,22 @@ closed-at tree path none =
     (look-closed (standing tree) path none) in
     record { row = at.0; found = at.1; closed = closed-kind at.0.file at.0.closed at.3 }
 
-find-map : {A B : Type 0} (f : A → B) (test : B → Bool) (xs : List A) → find test (map f xs) ≡ option_map f (find (λ x. test (f x)) xs)
+find-map : {A B : Type 0} (f : A → B) (test : B → Bool) (xs : List A)
+    → find test (map f xs) ≡ option_map f (find (λ x. test (f x)) xs)
 find-map f test [] = refl
 find-map f test (x ∷ xs) =
-    elim (test (f x)) as (λ b. cond b (Some (f x)) (find test (map f xs)) ≡ option_map f (cond b (Some x) (find (λ x. test (f x)) xs)))
+    elim (test (f x)) as (λ b. cond b (Some (f x)) (find test (map f xs)) ≡ option_map f
+    (cond b (Some x) (find (λ x. test (f x)) xs)))
     [ true ↦ refl | false ↦ find-map f test xs ]
 
 -- the bytes at a path are those of the put that closed its file
-pub bytes-found : (puts : Puts) (tree : List TreeRow) (path : PathNames) (row : TreeRow) → 1 ≤ row.file → find (stands_at row_path path) tree ≡ Some row → row.closed ≡ true
+pub bytes-found : (puts : Puts) (tree : List TreeRow) (path : PathNames) (row : TreeRow)
+    → 1 ≤ row.file → find (stands_at row_path path) tree ≡ Some row → row.closed ≡ true
     → bytes_at (map (file_entry puts) tree) path ≡ puts row.actor row.command
 unfolding bytes_at bytes_of_content file_entry content_of
 bytes-found puts tree path row above found closed =
-    ap (λ o. option_map_or (λ (entry : FileEntry). bytes_of_content entry.content) o []) (find-map (file_entry puts) (stands_at entry_path path) tree ∙ ap (option_map (file_entry puts)) found)
-    ∙ ap (λ kind. bytes_of_content (content_of puts row kind)) (ap (kind_of row.file) closed ∙ kind-closed row.file above)
+    ap (λ o. option_map_or (λ (entry : FileEntry). bytes_of_content entry.content) o [])
+    (find-map (file_entry puts) (stands_at entry_path path) tree
+    ∙ ap (option_map (file_entry puts)) found)
+    ∙ ap (λ kind. bytes_of_content (content_of puts row kind)) (ap (kind_of row.file) closed
+    ∙ kind-closed row.file above)

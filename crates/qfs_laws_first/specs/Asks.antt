@@ -31,4 +31,5 @@ IsOfFiles (To.Chunk server request) = IsChunkOfFiles request
 -- the work asks only requests of puts and gets, whatever the nodes answer
 abbrev pub AsksOfFiles : Work → Type 0
 AsksOfFiles (ends report) = ⊤
-AsksOfFiles (asks request next) = IsOfFiles request × ((reply : NodeReply) → AsksOfFiles (next reply))
+AsksOfFiles (asks request next) =
+    IsOfFiles request × ((reply : NodeReply) → AsksOfFiles (next reply))

@@ -1,6 +1,8 @@
 -- Which actors count as dropped behind a step: those that did before, and the one that the request
 -- drops. A dropped actor is told so, whatever it asks, and changes nothing.
-use Rattle.std.proofs.Common.{◌≡◌, ℕ, ◌⊎◌, inl, inr, ⊎_elim, ◌==◌, Bool, true, false, cond, List, [], ◌∷◌, ◌++◌, map, filter, length, Option, Some, None, refl, sym, ap, ◌∙◌, subst}
+use Rattle.std.proofs.Common.{◌≡◌, ℕ, ◌⊎◌, inl, inr, ⊎_elim, ◌==◌, Bool, true, false, cond, List}
+use Rattle.std.proofs.Common.{[], ◌∷◌, ◌++◌, map, filter, length, Option, Some, None, refl, sym, ap}
+use Rattle.std.proofs.Common.{◌∙◌, subst}
 use Rattle.std.proofs.lemmas.Bool.{eqb-true}
 use Rattle.std.specs.Cmp.{ranked}
 use Rattle.std.specs.Option.{option_map}
@@ -10,7 +12,9 @@ use Rattle.qfs_base.specs.EachLaws.{each_append}
 use Rattle.qfs_base.specs.NameTree.{PathNames}
 use Rattle.qfs_base.specs.Table.{Each, has_key, place}
 use Rattle.qfs_base.specs.declared.change.Change.{Change}
-use Rattle.qfs_base.specs.declared.change.Change.TheVariants.{AddDirectory, FailGrant, GiveUp, ConfirmSlot, EmptySlot, EndLease, CondemnStray, DropActor}
+use Rattle.qfs_base.specs.declared.change.Change.TheVariants.{AddDirectory, FailGrant, GiveUp}
+use Rattle.qfs_base.specs.declared.change.Change.TheVariants.{ConfirmSlot, EmptySlot, EndLease}
+use Rattle.qfs_base.specs.declared.change.Change.TheVariants.{CondemnStray, DropActor}
 use Rattle.qfs_base.specs.declared.chunk.BlockId.{BlockId}
 use Rattle.qfs_base.specs.declared.history.Outcome.{Outcome}
 use Rattle.qfs_base.specs.declared.history.Outcome.TheVariants as Ended
@@ -24,26 +28,39 @@ use Rattle.qfs_base.specs.declared.reply.TreeRefusal.{TreeRefusal}
 use Rattle.qfs_base.specs.declared.request.MetaRequest.{MetaRequest}
 use Rattle.qfs_base.specs.declared.request.MetaRequest.TheVariants as Ask
 use Rattle.qfs_base.specs.declared.rules.Rules.{Rules}
-use Rattle.qfs_model_meta.specs.Apply.{apply, apply_all, write_entry, add_file, with_slots, grant_slot, finish_lease, bring_up}
+use Rattle.qfs_model_meta.specs.Apply.{apply, apply_all, write_entry, add_file, with_slots}
+use Rattle.qfs_model_meta.specs.Apply.{grant_slot, finish_lease, bring_up}
 use Rattle.qfs_model_meta.specs.Counters.{counters_fit}
 use Rattle.qfs_model_meta.specs.Decide.{decide, decide_request}
-use Rattle.qfs_model_meta.specs.Decision.{Decision, Tells, UsesDisks, Makes, refuse, unless, need, refuse_file, refuse_path}
-use Rattle.qfs_model_meta.specs.DropRequest.{decide_drop, changes_unless_dropped, drop_changes, recovery_changes, unclosed_changes, is_recovery_of}
+use Rattle.qfs_model_meta.specs.Decision.{Decision, Tells, UsesDisks, Makes, refuse, unless, need}
+use Rattle.qfs_model_meta.specs.Decision.{refuse_file, refuse_path}
+use Rattle.qfs_model_meta.specs.DropRequest.{decide_drop, changes_unless_dropped, drop_changes}
+use Rattle.qfs_model_meta.specs.DropRequest.{recovery_changes, unclosed_changes, is_recovery_of}
 use Rattle.qfs_model_meta.specs.Dropped.{dropped_order, dropped_cmp, dropped_at, add_dropped}
 use Rattle.qfs_model_meta.specs.GetRequests.{decide_open, decide_release}
-use Rattle.qfs_model_meta.specs.LeasedGrants.{lease_and_grant, grant_leased, grant_chosen, grant_recovery}
+use Rattle.qfs_model_meta.specs.LeasedGrants.{lease_and_grant, grant_leased, grant_chosen}
+use Rattle.qfs_model_meta.specs.LeasedGrants.{grant_recovery}
 use Rattle.qfs_model_meta.specs.Leases.{leases_of, leases_over, is_live_lease, holds_lease}
 use Rattle.qfs_model_meta.specs.Lists.{NineCopies}
-use Rattle.qfs_model_meta.specs.MoveRequests.{decide_move, move_copy, decide_evacuate, evacuate_slot, decide_balance, give_to_lightest, even_out, move_slot}
-use Rattle.qfs_model_meta.specs.PutRequests.{decide_create, decide_grant, grant_in, grant_for_put, failed_grant, decide_close, close_complete, decide_abort, abort_unclosed, abort_changes}
+use Rattle.qfs_model_meta.specs.MoveRequests.{decide_move, move_copy, decide_evacuate}
+use Rattle.qfs_model_meta.specs.MoveRequests.{evacuate_slot, decide_balance, give_to_lightest}
+use Rattle.qfs_model_meta.specs.MoveRequests.{even_out, move_slot}
+use Rattle.qfs_model_meta.specs.PutRequests.{decide_create, decide_grant, grant_in, grant_for_put}
+use Rattle.qfs_model_meta.specs.PutRequests.{failed_grant, decide_close, close_complete}
+use Rattle.qfs_model_meta.specs.PutRequests.{decide_abort, abort_unclosed, abort_changes}
 use Rattle.qfs_model_meta.specs.Range.{in_range}
 use Rattle.qfs_model_meta.specs.RepairRequests.{decide_recover, decide_heal, heal_slot}
-use Rattle.qfs_model_meta.specs.ServerRequests.{decide_hello, decide_bye, decide_leave, decide_hibernate, decide_tick, decide_left_on}
-use Rattle.qfs_model_meta.specs.SettleRequests.{decide_confirm, confirm_grant, end_own_lease, end_live_lease, decide_abandon, abandon_changes, give_up_own, is_own_grant}
+use Rattle.qfs_model_meta.specs.ServerRequests.{decide_hello, decide_bye, decide_leave}
+use Rattle.qfs_model_meta.specs.ServerRequests.{decide_hibernate, decide_tick, decide_left_on}
+use Rattle.qfs_model_meta.specs.SettleRequests.{decide_confirm, confirm_grant, end_own_lease}
+use Rattle.qfs_model_meta.specs.SettleRequests.{end_live_lease, decide_abandon, abandon_changes}
+use Rattle.qfs_model_meta.specs.SettleRequests.{give_up_own, is_own_grant}
 use Rattle.qfs_model_meta.specs.Slots.{slots_of, slot_at}
-use Rattle.qfs_model_meta.specs.Step.{stays, take_step, next_turn, carry_out, fail_disks, end_step, serve_unless_dropped, meta_step}
+use Rattle.qfs_model_meta.specs.Step.{stays, take_step, next_turn, carry_out, fail_disks, end_step}
+use Rattle.qfs_model_meta.specs.Step.{serve_unless_dropped, meta_step}
 use Rattle.qfs_model_meta.specs.SweepRequests.{decide_order, order_row, decide_swept}
-use Rattle.qfs_model_meta.specs.TreeRequests.{decide_mkdir, decide_rmdir, decide_remove, remove_changes, decide_rename, decide_list}
+use Rattle.qfs_model_meta.specs.TreeRequests.{decide_mkdir, decide_rmdir, decide_remove}
+use Rattle.qfs_model_meta.specs.TreeRequests.{remove_changes, decide_rename, decide_list}
 use Rattle.qfs_model_meta.specs.TreeRows.{file_stands, unclosed_files, row_at}
 use Rattle.qfs_laws_tables.specs.Keys.{key-is}
 use Rattle.qfs_laws_slots.specs.Losing.{losing-frame, stray-frame}
@@ -221,7 +238,12 @@ IsNoDrop request = ⊤
 
 request-spares : (rules : Rules) (actor : ℕ) (m : MetaImage) (request : MetaRequest)
     → IsNoDrop request → Spares (decide_request rules actor m request)
-unfolding decide_request decide_mkdir decide_rmdir decide_remove decide_rename decide_create decide_grant grant_in decide_close close_complete decide_abort abort_unclosed decide_open decide_release decide_recover grant_recovery decide_heal heal_slot decide_move move_copy decide_evacuate evacuate_slot decide_balance give_to_lightest even_out move_slot decide_confirm decide_abandon decide_order order_row decide_swept decide_hello decide_bye decide_leave decide_hibernate decide_tick decide_list decide_left_on
+unfolding decide_request decide_mkdir decide_rmdir decide_remove decide_rename decide_create
+    decide_grant grant_in decide_close close_complete decide_abort abort_unclosed decide_open
+    decide_release decide_recover grant_recovery decide_heal heal_slot decide_move move_copy
+    decide_evacuate evacuate_slot decide_balance give_to_lightest even_out move_slot decide_confirm
+    decide_abandon decide_order order_row decide_swept decide_hello decide_bye decide_leave
+    decide_hibernate decide_tick decide_list decide_left_on
 request-spares rules actor m (Ask.Mkdir path) is = file-spares _ _ _ (tt, tt)
 request-spares rules actor m (Ask.Rmdir path) is = file-spares _ _ _ (tt, tt)
 request-spares rules actor m (Ask.Remove path) is =
@@ -405,7 +427,11 @@ drop-stays rules actor dropped outcome m who =
     (Told.Done (length m.history))) outcome (dropped_at actor m.dropped)
     (dropping-leaves dropped who m (Told.Done (length m.history)) (dropped_at dropped m.dropped)
     refl) in
-    record { stays = b.0; fresh = λ none. ⊎_elim (λ same. inl same) (λ e. inr (ap Ask.Drop e)) (b.1 none) }
+    record {
+      stays = b.0;
+      fresh = λ none. ⊎_elim (λ same. inl same) (λ e. inr (ap Ask.Drop e))
+          (b.1 none);
+    }
 
 which : (request : MetaRequest) → IsNoDrop request ⊎ ((dropped : ℕ) × (request ≡ Ask.Drop dropped))
 which (Ask.Drop dropped) = inr (dropped, refl)

@@ -1,10 +1,12 @@
 -- Decisions that answer as a request may be answered, and whose changes tell no more of the state
 -- behind them.
-use Rattle.std.proofs.Common.{◌≡◌, ℕ, ◌⊎◌, inl, inr, Bool, true, false, cond, List, [], ◌∷◌, map, Option, Some, None, refl}
+use Rattle.std.proofs.Common.{◌≡◌, ℕ, ◌⊎◌, inl, inr, Bool, true, false, cond, List, [], ◌∷◌, map}
+use Rattle.std.proofs.Common.{Option, Some, None, refl}
 use Rattle.std.specs.Prelude.{⊤, flat_map}
 use Rattle.qfs_base.specs.Table.{Each}
 use Rattle.qfs_base.specs.declared.change.Change.{Change}
-use Rattle.qfs_base.specs.declared.change.Change.TheVariants.{AddDirectory, CloseFile, GrantSlot, ConfirmSlot, GiveLease}
+use Rattle.qfs_base.specs.declared.change.Change.TheVariants.{AddDirectory, CloseFile, GrantSlot}
+use Rattle.qfs_base.specs.declared.change.Change.TheVariants.{ConfirmSlot, GiveLease}
 use Rattle.qfs_base.specs.declared.chunk.BlockId.{BlockId}
 use Rattle.qfs_base.specs.declared.chunk.Copy.{Copy}
 use Rattle.qfs_base.specs.declared.history.Outcome.{Outcome}
@@ -19,10 +21,12 @@ use Rattle.qfs_base.specs.declared.request.MetaRequest.TheVariants as Ask
 use Rattle.qfs_base.specs.declared.rules.Rules.{Rules}
 use Rattle.qfs_model_meta.specs.Apply.{apply, apply_all}
 use Rattle.qfs_model_meta.specs.Counters.{counters_fit}
-use Rattle.qfs_model_meta.specs.Decision.{Decision, Tells, UsesDisks, Makes, refuse, unless, need, refuse_file, refuse_path}
+use Rattle.qfs_model_meta.specs.Decision.{Decision, Tells, UsesDisks, Makes, refuse, unless, need}
+use Rattle.qfs_model_meta.specs.Decision.{refuse_file, refuse_path}
 use Rattle.qfs_model_meta.specs.Dropped.{dropped_at}
 use Rattle.qfs_model_meta.specs.Past.{Past, granted_slot_copy}
-use Rattle.qfs_model_meta.specs.Step.{Served, stays, take_step, next_turn, carry_out, fail_disks, end_step, serve_unless_dropped}
+use Rattle.qfs_model_meta.specs.Step.{Served, stays, take_step, next_turn, carry_out, fail_disks}
+use Rattle.qfs_model_meta.specs.Step.{end_step, serve_unless_dropped}
 use Rattle.qfs_base.specs.EachLaws.{each_append}
 use Rattle.qfs_laws_slots.specs.Changes.{MayMake, told}
 use Rattle.qfs_laws_meta.specs.ChangeTells.{Seals, Gives, Lends, change-tells}
@@ -171,7 +175,8 @@ module _ (rules : Rules) (actor : ℕ) (past : Past) (m : MetaImage) (request : 
 -- ---- the step
 
 -- what a step answers, and what it tells of the state behind it
-pub record IsAnswered (rules : Rules) (actor : ℕ) (outcome : Outcome) (m : MetaImage) (request : MetaRequest) (served : Served) : Type 0 where
+pub record IsAnswered (rules : Rules) (actor : ℕ) (outcome : Outcome) (m : MetaImage)
+    (request : MetaRequest) (served : Served) : Type 0 where
   pub answer : MayTell rules actor m served.reply request ⊎ AnyMayGet actor outcome m served.reply
   pub tells : StepTells request served.reply m served.meta
 
@@ -189,7 +194,8 @@ turned-tells request reply m n t =
       history = t.history;
     }
 
-module _ (rules : Rules) (actor : ℕ) (outcome : Outcome) (past : Past) (m : MetaImage) (request : MetaRequest) where
+module _ (rules : Rules) (actor : ℕ) (outcome : Outcome) (past : Past) (m : MetaImage)
+    (request : MetaRequest) where
   same-state : (reply : MetaReply)
       → MayTell rules actor m reply request ⊎ AnyMayGet actor outcome m reply
       → IsAnswered rules actor outcome m request (stays m reply)

@@ -1,14 +1,18 @@
 -- What the requests of file commands write into the file history, and that their answers are
 -- borne out at their places in it.
-use Rattle.std.proofs.Common.{◌≡◌, ℕ, Bool, true, false, cond, List, [], ◌∷◌, ◌++◌, map, length, find, Option, Some, None, unwrap_or, refl, sym, ap, ◌∙◌}
+use Rattle.std.proofs.Common.{◌≡◌, ℕ, Bool, true, false, cond, List, [], ◌∷◌, ◌++◌, map, length}
+use Rattle.std.proofs.Common.{find, Option, Some, None, unwrap_or, refl, sym, ap, ◌∙◌}
 use Rattle.std.proofs.lemmas.List.{take_at}
 use Rattle.std.specs.Option.{option_map, option_map_or}
 use Rattle.std.specs.Prelude.{⊤}
-use Rattle.qfs_base.specs.FileReplies.{refused_or, bytes_of_content, bytes_at, wanted_bytes, file_reply, reply_at}
+use Rattle.qfs_base.specs.FileReplies.{refused_or, bytes_of_content, bytes_at, wanted_bytes}
+use Rattle.qfs_base.specs.FileReplies.{file_reply, reply_at}
 use Rattle.qfs_base.specs.Files.{Puts, FileEntry, entry_path, files_of}
-use Rattle.qfs_base.specs.NameTree.{PathNames, stands_at, path_eq, add_refusal, rmdir_refusal, look_refusal, rename_refusal, directory_refusal, names_below}
+use Rattle.qfs_base.specs.NameTree.{PathNames, stands_at, path_eq, add_refusal, rmdir_refusal}
+use Rattle.qfs_base.specs.NameTree.{look_refusal, rename_refusal, directory_refusal, names_below}
 use Rattle.qfs_base.specs.declared.change.Change.{Change}
-use Rattle.qfs_base.specs.declared.change.Change.TheVariants.{AbortFile, RemoveFile, GiveUp, EmptySlot}
+use Rattle.qfs_base.specs.declared.change.Change.TheVariants.{AbortFile, RemoveFile, GiveUp}
+use Rattle.qfs_base.specs.declared.change.Change.TheVariants.{EmptySlot}
 use Rattle.qfs_base.specs.declared.command.FileCommand.{FileCommand}
 use Rattle.qfs_base.specs.declared.command.FileCommand.TheVariants as To
 use Rattle.qfs_base.specs.declared.command.Range.{Range}
@@ -32,15 +36,21 @@ use Rattle.qfs_base.specs.declared.rules.Rules.{Rules}
 use Rattle.qfs_model_meta.specs.Apply.{apply, apply_all, write_entry, add_file, with_slots}
 use Rattle.qfs_model_meta.specs.Counters.{counters_fit}
 use Rattle.qfs_model_meta.specs.Decide.{decide, decide_request}
-use Rattle.qfs_model_meta.specs.Decision.{Decision, Tells, UsesDisks, Makes, refuse, unless, need, refuse_file}
+use Rattle.qfs_model_meta.specs.Decision.{Decision, Tells, UsesDisks, Makes, refuse, unless, need}
+use Rattle.qfs_model_meta.specs.Decision.{refuse_file}
 use Rattle.qfs_model_meta.specs.Dropped.{dropped_at}
 use Rattle.qfs_model_meta.specs.GetRequests.{decide_open}
-use Rattle.qfs_model_meta.specs.PutRequests.{decide_create, decide_close, close_complete, incomplete, decide_abort, abort_unclosed, abort_changes}
+use Rattle.qfs_model_meta.specs.PutRequests.{decide_create, decide_close, close_complete}
+use Rattle.qfs_model_meta.specs.PutRequests.{incomplete, decide_abort, abort_unclosed}
+use Rattle.qfs_model_meta.specs.PutRequests.{abort_changes}
 use Rattle.qfs_model_meta.specs.Slots.{slots_of}
 use Rattle.qfs_model_meta.specs.Sound.{content_of, file_entry, TreeIsHistory}
-use Rattle.qfs_model_meta.specs.Step.{stays, take_step, next_turn, carry_out, fail_disks, end_step, serve_unless_dropped, meta_step}
-use Rattle.qfs_model_meta.specs.TreeRequests.{decide_mkdir, decide_rmdir, decide_remove, remove_changes, decide_rename, decide_list}
-use Rattle.qfs_model_meta.specs.TreeRows.{kind_of, standing, row_path, row_at, directory_row, unclosed_file}
+use Rattle.qfs_model_meta.specs.Step.{stays, take_step, next_turn, carry_out, fail_disks, end_step}
+use Rattle.qfs_model_meta.specs.Step.{serve_unless_dropped, meta_step}
+use Rattle.qfs_model_meta.specs.TreeRequests.{decide_mkdir, decide_rmdir, decide_remove}
+use Rattle.qfs_model_meta.specs.TreeRequests.{remove_changes, decide_rename, decide_list}
+use Rattle.qfs_model_meta.specs.TreeRows.{kind_of, standing, row_path, row_at, directory_row}
+use Rattle.qfs_model_meta.specs.TreeRows.{unclosed_file}
 use Rattle.qfs_laws_slots.specs.Losing.{IsLosing, losing-frame}
 use Rattle.qfs_laws_tree.specs.Files.{closed-root}
 use Rattle.qfs_laws_tree.specs.History.{standing-files}
@@ -288,7 +298,9 @@ aborting m file =
     m)
 
 pub file-requests-write : FileRequestsWrite
-unfolding meta_step decide decide_request decide_mkdir decide_rmdir decide_remove decide_rename decide_list decide_create decide_abort abort_unclosed decide_open apply_all apply write_entry add_file
+unfolding meta_step decide decide_request decide_mkdir decide_rmdir decide_remove decide_rename
+    decide_list decide_create decide_abort abort_unclosed decide_open apply_all apply write_entry
+    add_file
 file-requests-write rules actor (Ask.Mkdir path) outcome m is =
     let w = entry_if_done (Wrote.Mkdir path) in ranged-writes m w (done-silent _) _ _ outcome
     (dropped_at actor m.dropped) (file-writes m w (done-silent _) _ _ _ refl)

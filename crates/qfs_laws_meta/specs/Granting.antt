@@ -13,10 +13,13 @@ use Rattle.qfs_model_meta.specs.Apply.{apply}
 use Rattle.qfs_model_meta.specs.Grammar.{IsServer}
 use Rattle.qfs_model_meta.specs.Placing.{barred_for_block, barred_for_put, with_live_servers}
 use Rattle.qfs_model_meta.specs.Servers.{is_live}
-use Rattle.qfs_model_meta.specs.Slots.{copies_of_block, granted_copy, grants_of_block, is_of_block, never_granted, slot_at}
+use Rattle.qfs_model_meta.specs.Slots.{copies_of_block, granted_copy, grants_of_block, is_of_block}
+use Rattle.qfs_model_meta.specs.Slots.{never_granted, slot_at}
 use Rattle.qfs_model_meta.specs.Sound.{live_servers}
 use Rattle.qfs_model_meta.specs.TreeRows.{closed_file}
-use Rattle.std.proofs.Common.{List, None, Option, Some, [], ap, arith, cond, false, filter, length, nat_eq, refl, subst, sym, true, ℕ, ◌++◌, ◌+◌, ◌<◌, ◌||◌, ◌∙◌, ◌∷◌, ◌≡◌}
+use Rattle.std.proofs.Common.{List, None, Option, Some, [], ap, arith, cond, false, filter, length}
+use Rattle.std.proofs.Common.{nat_eq, refl, subst, sym, true, ℕ, ◌++◌, ◌+◌, ◌<◌, ◌||◌, ◌∙◌, ◌∷◌}
+use Rattle.std.proofs.Common.{◌≡◌}
 use Rattle.std.proofs.lemmas.Bool.{or_parts, true≢false}
 use Rattle.std.specs.BTreeSet.{insert_key}
 use Rattle.std.specs.Cmp.{ranked}

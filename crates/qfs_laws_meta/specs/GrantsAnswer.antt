@@ -15,7 +15,7 @@ use Rattle.qfs_base.specs.declared.request.MetaRequest.TheVariants as Ask
 use Rattle.qfs_base.specs.declared.request.SlotId.{SlotId}
 use Rattle.qfs_base.specs.declared.rules.Rules.{Rules}
 use Rattle.qfs_model_meta.specs.Apply.{apply, apply_all}
-use Rattle.qfs_laws_slots.specs.FreedLaws.{decides_as_freed}
+use Rattle.qfs_model_meta.specs.FreedLaws.{decides_as_freed}
 use Rattle.qfs_model_meta.specs.GetRequests.{decide_open, opened}
 use Rattle.qfs_model_meta.specs.GrantedAgain.{freed}
 use Rattle.qfs_model_meta.specs.LeasedGrants.{pending_refusal, closed_len, lease_and_grant, grant_leased, grant_chosen, grant_recovery, move_source}

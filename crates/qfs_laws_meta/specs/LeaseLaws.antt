@@ -1,21 +1,33 @@
 -- Leases hold: every change keeps it.
 use Rattle.qfs_base.specs.Table.{Each}
 use Rattle.qfs_base.specs.declared.change.Change.{Change}
-use Rattle.qfs_base.specs.declared.change.Change.TheVariants.{AbortFile, AddDirectory, CloseFile, CondemnStray, ConfirmSlot, EmptySlot, EndLease, FailGrant, GiveLease, GiveUp, GrantSlot, MarkOrdered, RemoveFile, ServerDown, ServerLeaves, ServerSleeps, ServerUp, TakeCondemned}
+use Rattle.qfs_base.specs.declared.change.Change.TheVariants.{AbortFile, AddDirectory, CloseFile}
+use Rattle.qfs_base.specs.declared.change.Change.TheVariants.{CondemnStray, ConfirmSlot, EmptySlot}
+use Rattle.qfs_base.specs.declared.change.Change.TheVariants.{EndLease, FailGrant, GiveLease}
+use Rattle.qfs_base.specs.declared.change.Change.TheVariants.{GiveUp, GrantSlot, MarkOrdered}
+use Rattle.qfs_base.specs.declared.change.Change.TheVariants.{RemoveFile, ServerDown, ServerLeaves}
+use Rattle.qfs_base.specs.declared.change.Change.TheVariants.{ServerSleeps, ServerUp, TakeCondemned}
 use Rattle.qfs_base.specs.declared.chunk.BlockId.{BlockId}
 use Rattle.qfs_base.specs.declared.image.Lease.{Lease}
 use Rattle.qfs_base.specs.declared.image.MetaImage.{MetaImage}
-use Rattle.qfs_model_meta.specs.Apply.{add_file, apply, bring_up, condemn_stray, finish_lease, grant_slot, with_slots, write_entry}
+use Rattle.qfs_model_meta.specs.Apply.{add_file, apply, bring_up, condemn_stray, finish_lease}
+use Rattle.qfs_model_meta.specs.Apply.{grant_slot, with_slots, write_entry}
 use Rattle.qfs_model_meta.specs.Leases.{end_lease, give_lease, is_lease}
 use Rattle.qfs_model_meta.specs.Past.{GivenLease, ListedCopy, Past, SlotCopy, with_copy}
 use Rattle.qfs_model_meta.specs.Servers.{server_asleep, server_at, server_down, server_leaving}
-use Rattle.qfs_model_meta.specs.Sound.{KeepsListed, LeasesHold, LivesRise, is_lease_of, same_lease, same_lease_number}
-use Rattle.std.proofs.Common.{[], ap, arith, false, not, refl, subst, sym, true, ℕ, ◌+◌, ◌<◌, ◌==◌, ◌∷◌, ◌≡◌, ◌≤◌}
+use Rattle.qfs_model_meta.specs.Sound.{KeepsListed, LeasesHold, LivesRise, is_lease_of, same_lease}
+use Rattle.qfs_model_meta.specs.Sound.{same_lease_number}
+use Rattle.std.proofs.Common.{[], ap, arith, false, not, refl, subst, sym, true, ℕ, ◌+◌, ◌<◌, ◌==◌}
+use Rattle.std.proofs.Common.{◌∷◌, ◌≡◌, ◌≤◌}
 use Rattle.std.proofs.lemmas.Bool.{and_parts, eqb-true}
 use Rattle.std.proofs.lemmas.Bool.Decides.{nat_tests}
 use Rattle.std.specs.List.{list_any}
 use Rattle.std.specs.Prelude.{IsTrue, ⊤}
-use Rattle.qfs_laws_meta.specs.LeaseChanges.{OnFile, keeps-confirmed, keeps-emptied, keeps-failed, keeps-forgotten, keeps-given, keeps-given_up, keeps-granted, keeps-marked, keeps-risen, keeps-sealed, keeps-server, keeps-stray, keeps-swept, keeps-unblocked, on_file, was_given}
+use Rattle.qfs_laws_meta.specs.LeaseChanges.{OnFile, keeps-confirmed, keeps-emptied, keeps-failed}
+use Rattle.qfs_laws_meta.specs.LeaseChanges.{keeps-forgotten, keeps-given, keeps-given_up}
+use Rattle.qfs_laws_meta.specs.LeaseChanges.{keeps-granted, keeps-marked, keeps-risen, keeps-sealed}
+use Rattle.qfs_laws_meta.specs.LeaseChanges.{keeps-server, keeps-stray, keeps-swept}
+use Rattle.qfs_laws_meta.specs.LeaseChanges.{keeps-unblocked, on_file, was_given}
 use Rattle.qfs_laws_slots.specs.Changes.{MayMake, told}
 use Rattle.qfs_laws_slots.specs.Granted.{Granted, granted-has}
 use Rattle.qfs_laws_slots.specs.Losing.{losing-frame, stray-frame}
@@ -127,7 +139,8 @@ pub kept-leases : (past : Past) (m : MetaImage) (change : Change) → MayMake pa
     → Each (λ (l : ListedCopy). Granted past l.of_slot.block l.of_slot.slot l.of_slot.copy)
     past.listed
     → LeasesHold past m → LeasesHold (told change m past) (apply m change)
-unfolding apply write_entry add_file with_slots with_copy server_down server_leaving server_asleep finish_lease bring_up
+unfolding apply write_entry add_file with_slots with_copy server_down server_leaving server_asleep
+    finish_lease bring_up
 kept-leases past m (GiveLease actor file until) may bare lives known h =
     given-holds past actor file until m h
 kept-leases past m (EndLease lease) may bare lives known h =

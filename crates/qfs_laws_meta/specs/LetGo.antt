@@ -1,20 +1,26 @@
 -- Copies that were ordered deleted stay let go: every change keeps it.
 use Rattle.qfs_base.specs.Table.{Each}
 use Rattle.qfs_base.specs.declared.change.Change.{Change}
-use Rattle.qfs_base.specs.declared.change.Change.TheVariants.{AbortFile, AddDirectory, CloseFile, CondemnStray, ConfirmSlot, EmptySlot, EndLease, FailGrant, GiveLease, GiveUp, GrantSlot, RemoveFile}
+use Rattle.qfs_base.specs.declared.change.Change.TheVariants.{AbortFile, AddDirectory, CloseFile}
+use Rattle.qfs_base.specs.declared.change.Change.TheVariants.{CondemnStray, ConfirmSlot, EmptySlot}
+use Rattle.qfs_base.specs.declared.change.Change.TheVariants.{EndLease, FailGrant, GiveLease}
+use Rattle.qfs_base.specs.declared.change.Change.TheVariants.{GiveUp, GrantSlot, RemoveFile}
 use Rattle.qfs_base.specs.declared.chunk.BlockId.{BlockId}
 use Rattle.qfs_base.specs.declared.chunk.Copy.{Copy}
 use Rattle.qfs_base.specs.declared.image.MetaImage.{MetaImage}
 use Rattle.qfs_base.specs.declared.image.SlotRecord.{SlotRecord}
 use Rattle.qfs_base.specs.declared.image.SlotRow.{SlotRow}
 use Rattle.qfs_base.specs.declared.reply.Condemned.{Condemned}
-use Rattle.qfs_model_meta.specs.Apply.{add_file, apply, bring_up, finish_lease, grant_slot, with_slots, write_entry}
+use Rattle.qfs_model_meta.specs.Apply.{add_file, apply, bring_up, finish_lease, grant_slot}
+use Rattle.qfs_model_meta.specs.Apply.{with_slots, write_entry}
 use Rattle.qfs_model_meta.specs.Leases.{end_lease, give_lease, is_lease, is_live_lease}
 use Rattle.qfs_model_meta.specs.Past.{ListedCopy, Past, is_copy, with_copy}
-use Rattle.qfs_model_meta.specs.Slots.{change_slot, forget_file, granted_copy, granted_slot, never_granted, seal_file, sealed_slot, slot_at}
+use Rattle.qfs_model_meta.specs.Slots.{change_slot, forget_file, granted_copy, granted_slot}
+use Rattle.qfs_model_meta.specs.Slots.{never_granted, seal_file, sealed_slot, slot_at}
 use Rattle.qfs_model_meta.specs.Sound.{IsBehind, IsLetGo}
 use Rattle.qfs_model_meta.specs.TreeRows.{file_stands}
-use Rattle.std.proofs.Common.{List, None, Option, Some, ap, arith, not, refl, subst, sym, true, ℕ, ◌<◌, ◌≡◌, ◌≢◌}
+use Rattle.std.proofs.Common.{List, None, Option, Some, ap, arith, not, refl, subst, sym, true, ℕ}
+use Rattle.std.proofs.Common.{◌<◌, ◌≡◌, ◌≢◌}
 use Rattle.std.specs.Option.{option_to_list}
 use Rattle.std.specs.Prelude.{IsTrue}
 use Rattle.qfs_laws_slots.specs.Changes.{MayGrant, MayMake, told}

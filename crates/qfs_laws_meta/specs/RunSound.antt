@@ -8,10 +8,12 @@ use Rattle.qfs_base.specs.declared.request.MetaRequest.{MetaRequest}
 use Rattle.qfs_base.specs.declared.rules.Rules.{Rules}
 use Rattle.qfs_model_meta.specs.Asked.{MayAsk}
 use Rattle.qfs_model_meta.specs.Grammar.{IsActor}
-use Rattle.qfs_model_meta.specs.Past.{Past, SlotCopy, is_of_put, remember, with_copy, with_grant, with_lease}
+use Rattle.qfs_model_meta.specs.Past.{Past, SlotCopy, is_of_put, remember, with_copy, with_grant}
+use Rattle.qfs_model_meta.specs.Past.{with_lease}
 use Rattle.qfs_model_meta.specs.Sound.{IsSound}
 use Rattle.qfs_model_meta.specs.Step.{Served, meta_step}
-use Rattle.std.proofs.Common.{Bool, List, [], arith, false, length, length-append, true, ℕ, ◌+◌, ◌<◌, ◌∷◌, ◌≤◌}
+use Rattle.std.proofs.Common.{Bool, List, [], arith, false, length, length-append, true, ℕ, ◌+◌}
+use Rattle.std.proofs.Common.{◌<◌, ◌∷◌, ◌≤◌}
 use Rattle.std.specs.Prelude.{⊤}
 use Rattle.qfs_base.specs.declared.reply.MetaReply.TheVariants as Told
 use Rattle.qfs_laws_meta.specs.StaysSound.{stays-sound}

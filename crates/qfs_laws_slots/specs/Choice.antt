@@ -6,8 +6,11 @@ use Rattle.qfs_base.specs.declared.image.Load.{Load}
 use Rattle.qfs_base.specs.declared.image.ServerView.{ServerView}
 use Rattle.qfs_base.specs.declared.image.SlotRow.{SlotRow}
 use Rattle.qfs_model_meta.specs.Grammar.{IsServer}
-use Rattle.qfs_model_meta.specs.Placing.{Numbered, census, choose, is_open, lighter, load_of, open_servers}
-use Rattle.std.proofs.Common.{Bool, List, Some, [], ap, arith, cond, false, filter, length, map, nat_lt, not, refl, subst, suc, sym, true, ℕ, ◌&&◌, ◌+◌, ◌<◌, ◌∙◌, ◌∷◌, ◌≡◌, ◌≤◌}
+use Rattle.qfs_model_meta.specs.Placing.{Numbered, census, choose, is_open, lighter, load_of}
+use Rattle.qfs_model_meta.specs.Placing.{open_servers}
+use Rattle.std.proofs.Common.{Bool, List, Some, [], ap, arith, cond, false, filter, length, map}
+use Rattle.std.proofs.Common.{nat_lt, not, refl, subst, suc, sym, true, ℕ, ◌&&◌, ◌+◌, ◌<◌, ◌∙◌, ◌∷◌}
+use Rattle.std.proofs.Common.{◌≡◌, ◌≤◌}
 use Rattle.std.proofs.lemmas.Bool.{and_parts, not-true}
 use Rattle.std.specs.List.{enumerate_from, reduce}
 use Rattle.std.specs.Option.{option_map}

@@ -6,10 +6,14 @@ use Rattle.qfs_base.specs.declared.chunk.Copy.{Copy}
 use Rattle.qfs_base.specs.declared.image.CondemnedRow.{CondemnedRow}
 use Rattle.qfs_base.specs.declared.image.Lease.{Lease}
 use Rattle.qfs_base.specs.declared.image.MetaImage.{MetaImage}
-use Rattle.qfs_model_meta.specs.Condemned.{condemn_any, condemned_cmp, condemned_row, is_numbered, mark_ordered, unblock, unblock_all}
-use Rattle.qfs_model_meta.specs.Grammar.{HasBlockers, IsActor, IsCondemnedList, IsLeaseList, IsServer}
+use Rattle.qfs_model_meta.specs.Condemned.{condemn_any, condemned_cmp, condemned_row, is_numbered}
+use Rattle.qfs_model_meta.specs.Condemned.{mark_ordered, unblock, unblock_all}
+use Rattle.qfs_model_meta.specs.Grammar.{HasBlockers, IsActor, IsCondemnedList, IsLeaseList}
+use Rattle.qfs_model_meta.specs.Grammar.{IsServer}
 use Rattle.qfs_model_meta.specs.Leases.{end_lease, give_lease, is_lease, lease_cmp, leases_on}
-use Rattle.std.proofs.Common.{Bool, List, None, Option, Some, [], ap, arith, cond, false, filter, length, map, nat_lt, not, refl, subst, sym, true, ℕ, ◌++◌, ◌+◌, ◌<◌, ◌==◌, ◌||◌, ◌∙◌, ◌∷◌, ◌≡◌, ◌≤◌}
+use Rattle.std.proofs.Common.{Bool, List, None, Option, Some, [], ap, arith, cond, false, filter}
+use Rattle.std.proofs.Common.{length, map, nat_lt, not, refl, subst, sym, true, ℕ, ◌++◌, ◌+◌, ◌<◌}
+use Rattle.std.proofs.Common.{◌==◌, ◌||◌, ◌∙◌, ◌∷◌, ◌≡◌, ◌≤◌}
 use Rattle.std.proofs.lemmas.Bool.Decides.{nat_tests}
 use Rattle.std.specs.Cmp.{nat_cmp_is}
 use Rattle.std.specs.Option.{option_to_list}

@@ -2,7 +2,9 @@
 -- placed. Cited by the laws of slots, of the tree and of the metaserver.
 use Rattle.qfs_base.specs.EachLaws.{each_append, each_weaker}
 use Rattle.qfs_base.specs.Table.{Each, change_row, change_where, place, place_before}
-use Rattle.std.proofs.Common.{Bool, List, None, Option, Some, [], ap, arith, cond, false, filter, find, map, refl, subst, suc, sym, true, zero, ℕ, ⊎_elim, ◌++◌, ◌+◌, ◌<◌, ◌||◌, ◌∷◌, ◌≡◌, ◌≤◌, ◌⊎◌}
+use Rattle.std.proofs.Common.{Bool, List, None, Option, Some, [], ap, arith, cond, false, filter}
+use Rattle.std.proofs.Common.{find, map, refl, subst, suc, sym, true, zero, ℕ, ⊎_elim, ◌++◌, ◌+◌}
+use Rattle.std.proofs.Common.{◌<◌, ◌||◌, ◌∷◌, ◌≡◌, ◌≤◌, ◌⊎◌}
 use Rattle.std.proofs.lemmas.Bool.{and_parts, or_right, true≢false}
 use Rattle.std.specs.List.{list_all, list_any, range_with_len}
 use Rattle.std.specs.Prelude.{flat_map, is_none}

@@ -1,7 +1,9 @@
 -- Rows that are placed where none has their key, and maps of tables that are placed, kept by a
 -- test or changed. Cited by the laws of slots, of the tree and of the metaserver.
-use Rattle.qfs_base.specs.Table.{Each, IsRising, change_row, change_where, place, place_all, place_before}
-use Rattle.std.proofs.Common.{Bool, List, None, Some, [], ap, arith, cond, false, filter, find, map, refl, subst, sym, true, ℕ, ◌+◌, ◌||◌, ◌∙◌, ◌∷◌, ◌≡◌, ◌≤◌}
+use Rattle.qfs_base.specs.Table.{Each, IsRising, change_row, change_where, place, place_all}
+use Rattle.qfs_base.specs.Table.{place_before}
+use Rattle.std.proofs.Common.{Bool, List, None, Some, [], ap, arith, cond, false, filter, find, map}
+use Rattle.std.proofs.Common.{refl, subst, sym, true, ℕ, ◌+◌, ◌||◌, ◌∙◌, ◌∷◌, ◌≡◌, ◌≤◌}
 use Rattle.std.specs.Cmp.{IsTotalOrder}
 use Rattle.std.specs.List.{list_any}
 use Rattle.std.specs.Ordering.{ordering_reverse}

@@ -1,12 +1,19 @@
 -- What stands in the tree after a change stood before it, and the other way round. Cited by the
 -- laws of the metaserver.
-use Rattle.qfs_base.specs.NameTree.{PathNames, add_refusal, kind_at, look_refusal, path_eq, rmdir_refusal, row_cmp, stands_at, taken}
+use Rattle.qfs_base.specs.NameTree.{PathNames, add_refusal, kind_at, look_refusal, path_eq}
+use Rattle.qfs_base.specs.NameTree.{rmdir_refusal, row_cmp, stands_at, taken}
 use Rattle.qfs_base.specs.Table.{Each, IsRising, change_where}
 use Rattle.qfs_base.specs.declared.image.TreeRow.{TreeRow}
 use Rattle.qfs_base.specs.declared.lists.NameKind.{NameKind}
-use Rattle.qfs_model_meta.specs.TreeRows.{add_row, close_file, close_row, closed_file, directory_row, file_row, file_stands, has_file, is_closed, is_closed_row, is_unclosed, is_unclosed_row, kind_of, row_at, row_path, standing, take_file, take_path}
-use Rattle.std.proofs.Common.{Bool, List, None, Some, [], ap, arith, false, filter, find, not, refl, subst, suc, sym, true, zero, ℕ, ⊎_elim, ◌&&◌, ◌<◌, ◌==◌, ◌||◌, ◌∙◌, ◌∷◌, ◌≡◌}
-use Rattle.std.proofs.lemmas.Bool.{and_from, and_parts, and_right, cases_lt, eqb-true, not-true, or_left, or_right, true≢false}
+use Rattle.qfs_model_meta.specs.TreeRows.{add_row, close_file, close_row, closed_file}
+use Rattle.qfs_model_meta.specs.TreeRows.{directory_row, file_row, file_stands, has_file, is_closed}
+use Rattle.qfs_model_meta.specs.TreeRows.{is_closed_row, is_unclosed, is_unclosed_row, kind_of}
+use Rattle.qfs_model_meta.specs.TreeRows.{row_at, row_path, standing, take_file, take_path}
+use Rattle.std.proofs.Common.{Bool, List, None, Some, [], ap, arith, false, filter, find, not, refl}
+use Rattle.std.proofs.Common.{subst, suc, sym, true, zero, ℕ, ⊎_elim, ◌&&◌, ◌<◌, ◌==◌, ◌||◌, ◌∙◌}
+use Rattle.std.proofs.Common.{◌∷◌, ◌≡◌}
+use Rattle.std.proofs.lemmas.Bool.{and_from, and_parts, and_right, cases_lt, eqb-true, not-true}
+use Rattle.std.proofs.lemmas.Bool.{or_left, or_right, true≢false}
 use Rattle.std.proofs.lemmas.Bool.Decides.{nat_tests}
 use Rattle.std.specs.List.{list_any}
 use Rattle.std.specs.Prelude.{IsTrue, is_some, unwrap_or}
@@ -15,9 +22,11 @@ use Rattle.qfs_laws_slots.specs.RowKeys.{has_file-is, own-file}
 use Rattle.qfs_laws_slots.specs.SlotTable.{Onward}
 use Rattle.qfs_base.specs.EachLaws.{each_filter, each_weaker}
 use Rattle.qfs_laws_tables.specs.EachRow.{each_of_all, each_both, each_passes}
-use Rattle.qfs_laws_tables.specs.SomeRow.{any_change, any_each, any_filter, any_filter_given, any_of_change, any_of_filter, none_any}
+use Rattle.qfs_laws_tables.specs.SomeRow.{any_change, any_each, any_filter, any_filter_given}
+use Rattle.qfs_laws_tables.specs.SomeRow.{any_of_change, any_of_filter, none_any}
 use Rattle.qfs_laws_tree.specs.Tree.{HasTree, file-one, rising-find}
-use Rattle.qfs_laws_tree.specs.TreeChanges.{any-added, closed-any, closed_test, stands-any, stands-some, stands_test}
+use Rattle.qfs_laws_tree.specs.TreeChanges.{any-added, closed-any, closed_test, stands-any}
+use Rattle.qfs_laws_tree.specs.TreeChanges.{stands-some, stands_test}
 use Rattle.qfs_laws_tree.specs.TreeFacts.{kind-row, kind_in, look-closed, path-self, rmdir-empty}
 
 -- from tests on rows to what stands
