@@ -1,4 +1,4 @@
--- What the pieces of puts and gets ask.
+-- What the pieces of puts and gets ask. For the law that puts and gets delete nothing.
 use Rattle.std.proofs.Common.{ℕ, Bool, true, false, List, [], ◌∷◌}
 use Rattle.qfs_base.specs.declared.chunk.BlockId.{BlockId}
 use Rattle.qfs_base.specs.declared.chunk.Copy.{Copy}

@@ -1,4 +1,4 @@
--- A get asks only requests of gets.
+-- A get asks only requests of gets. For the law that puts and gets delete nothing.
 use Rattle.std.proofs.Common.{ℕ, zero, suc, ◌-◌, ◌++◌, Bool, true, false, List, [], ◌∷◌, Option}
 use Rattle.std.proofs.Common.{Some, None, Ok, Err, slice_get, slice_set}
 use Rattle.qfs_base.specs.Shape.{Shape}

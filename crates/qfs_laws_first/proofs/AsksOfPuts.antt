@@ -1,4 +1,4 @@
--- A put asks only requests of puts.
+-- A put asks only requests of puts. For the law that puts and gets delete nothing.
 use Rattle.std.proofs.Common.{ℕ, zero, suc, Bool, true, false, List}
 use Rattle.qfs_base.specs.Shape.{Shape}
 use Rattle.qfs_base.specs.declared.reply.Granted.{Granted}

@@ -1,4 +1,5 @@
--- Some server is chosen where there are more servers, all of them up, than are barred.
+-- Some server is chosen where there are more servers, all of them up, than are barred. Cited by the
+-- grants of a put.
 use Rattle.std.proofs.Common.{◌≡◌, ℕ, zero, suc, ◌+◌, ◌<◌, ◌≤◌, nat_eq, Bool, true, false, cond}
 use Rattle.std.proofs.Common.{not, ◌&&◌, List, [], ◌∷◌, length, map, filter, fold, replicate}
 use Rattle.std.proofs.Common.{Option, Some, refl, sym, subst, ◌∙◌, arith}

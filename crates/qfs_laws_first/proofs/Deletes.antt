@@ -1,4 +1,4 @@
--- Puts and gets delete nothing, and restart nothing.
+-- Puts and gets delete nothing, and restart nothing. The law `puts_and_gets_delete_nothing`.
 use Rattle.std.proofs.Common.{◌≡◌, ℕ, ◌+◌, Bool, true, false, cond, List, [], ◌∷◌, length, Option}
 use Rattle.std.proofs.Common.{Some, None, refl, sym, subst}
 use Rattle.std.specs.List.{cons_option}

@@ -1,5 +1,5 @@
 -- An order that fits a script of the first path, and whose steps came out done, is one of actor 1
--- alone.
+-- alone. The law `fitting_orders_are_of_one_actor`.
 use Rattle.std.proofs.Common.{◌≡◌, ℕ, ◌==◌, Bool, true, false, cond, List, [], ◌∷◌, ◌++◌, refl, sym}
 use Rattle.std.proofs.Common.{ap, ◌∙◌, arith, inl, inr}
 use Rattle.std.proofs.lemmas.Bool.Decides.{nat_tests}

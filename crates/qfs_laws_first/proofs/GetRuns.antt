@@ -1,4 +1,4 @@
--- The steps of a get, from its first one to its last.
+-- The steps of a get, from its first one to its last. For the law of the first path.
 use Rattle.std.proofs.Common.{◌≡◌, ℕ, ◌+◌, ◌*◌, ◌<◌, ◌≤◌, Bool, true, false, List, [], ◌∷◌, ◌++◌}
 use Rattle.std.proofs.Common.{length, replicate, Option, Some, None, refl, sym, ap, subst, ◌∙◌}
 use Rattle.std.proofs.Common.{arith, inl, inr}
@@ -57,7 +57,7 @@ use Rattle.qfs_laws_first.proofs.Gets.{get-released}
 use Rattle.qfs_laws_first.proofs.Moves.{work_left-heard, work_left-next, meta_goes_on, meta_ends}
 use Rattle.qfs_laws_first.proofs.Moves.{chunk_goes_on}
 use Rattle.qfs_laws_first.proofs.PutRuns.{short-file}
-use Rattle.qfs_laws_first.proofs.Reading.{IsShort, slot_long}
+use Rattle.qfs_laws_first.proofs.Reading.{IsOfOneRow, slot_long}
 use Rattle.qfs_laws_first.proofs.Reports.{HasPlace, borne-more, place-more, opened_in}
 use Rattle.qfs_laws_first.proofs.Reports.{ReadsWhereOpened, opening-here, place-here}
 use Rattle.qfs_laws_first.proofs.Runs.{CanFetch, Fetching, Run, Next, goes-on-with, goes-on-to}
@@ -125,12 +125,12 @@ module _ (script : Script) (commands : List Command) (steps : List Event) (w : W
           bytes
       file-here = closed-file script w.servers w.meta c (2 * c + 1) b path at
 
-      short-bytes : IsShort script.layout (length bytes)
+      short-bytes : IsOfOneRow script.layout (length bytes)
       short-bytes = short-file script commands (length bytes) first_path file-here.some
           file-here.most
 
-      short-len : IsShort script.layout at.row.len
-      short-len = subst (IsShort script.layout) (sym file-here.length_is) short-bytes
+      short-len : IsOfOneRow script.layout at.row.len
+      short-len = subst (IsOfOneRow script.layout) (sym file-here.length_is) short-bytes
 
       lists : (slot : ℕ) (h : slot < 9)
           → slice_get (listed_in o 0) slot
@@ -167,7 +167,7 @@ module _ (script : Script) (commands : List Command) (steps : List Event) (w : W
           let few_bytes : o.len ≤ 32 = omega (arith, len, file-here.length_is, file-here.most) in
           let again : Report → Work = anew script.layout (tries_of script) path in
           let more = get-goes_on script.layout (tries_of script) path o bytes
-          (subst (IsShort script.layout) (sym len) short-len) few_bytes
+          (subst (IsOfOneRow script.layout) (sym len) short-len) few_bytes
           (blocks-one script w.servers w.meta c b script.layout at.row short-len) lists-slots in
           let start = fetchable 0 (omega arith) in
           let told : List Report = r.actor.ended ++ Says.Read o.place bytes ∷ [] in

@@ -1,13 +1,11 @@
--- A get opens its file, fetches its slots and releases its lease.
-use Rattle.std.proofs.Common.{List, None, Some, [], ap, arith, false, length, map, refl, sym, take}
+-- A get opens its file, fetches its slots and releases its lease. For the law of the first path.
+use Rattle.std.proofs.Common.{List, None, Some, [], ap, arith, false, length, refl}
 use Rattle.std.proofs.Common.{true, ℕ, ◌*◌, ◌+◌, ◌<◌, ◌∙◌, ◌∷◌, ◌≡◌, ◌≤◌}
-use Rattle.std.proofs.Math.Seq.{take-length}
 use Rattle.std.proofs.lemmas.List.FromFn.{length-map-range_with_len}
 use Rattle.std.proofs.lemmas.Option.{slice_get-map}
 use Rattle.std.specs.Prelude.{slice_get}
 use Rattle.std.specs.List.{range_with_len}
-use Rattle.qfs_base.specs.FileReplies.{refused_or, wanted_bytes, bytes_at, file_reply, reply_at}
-use Rattle.qfs_base.specs.Files.{files_of, files_standing}
+use Rattle.qfs_base.specs.FileReplies.{refused_or, wanted_bytes, reply_at}
 use Rattle.qfs_base.specs.NameTree.{PathNames, stands_at, add_refusal, look_refusal}
 use Rattle.qfs_base.specs.Rules.{rules_of}
 use Rattle.qfs_base.specs.Shape.{Shape}
@@ -34,56 +32,58 @@ use Rattle.qfs_model_meta.specs.Lists.{listed_nine, listed_blocks, block_count}
 use Rattle.qfs_model_meta.specs.Range.{in_range}
 use Rattle.qfs_model_meta.specs.Servers.{server_at, is_live, is_listed, listed_copy}
 use Rattle.qfs_model_meta.specs.Slots.{slot_at}
-use Rattle.qfs_model_meta.specs.Sound.{file_entry}
 use Rattle.qfs_model_meta.specs.Step.{first_server, next_turn, meta_step}
 use Rattle.qfs_model_meta.specs.TreeRows.{standing, row_path, row_at}
 use Rattle.qfs_model_server.specs.Server.{Server}
 use Rattle.qfs_model_world.specs.Puts.{puts_of}
 use Rattle.qfs_model_world.specs.World.{renumbered}
-use Rattle.qfs_laws_first.proofs.Histories.{written-later}
+use Rattle.qfs_laws_first.proofs.Histories.{is-history, written-later}
 use Rattle.qfs_laws_first.proofs.Kept.{file-kept, view-first}
 use Rattle.qfs_laws_first.proofs.MetaSteps.{refused-file, accepted-file, AreFew, few-more}
 use Rattle.qfs_laws_first.proofs.MetaSteps.{step-makes, step-tells}
-use Rattle.qfs_laws_first.proofs.Reading.{IsShort, blocks_of-one}
+use Rattle.qfs_laws_first.proofs.Reading.{IsOfOneRow, blocks_of-one}
 use Rattle.qfs_laws_first.proofs.Servers.{IsUp, stored_at, stored-same, are_up-changed}
 use Rattle.qfs_laws_first.proofs.States.{first_block, first_key, first_copy, IsFile, IsRow, Steady}
 use Rattle.qfs_laws_first.proofs.States.{Between, Within}
 use Rattle.qfs_laws_first.proofs.Works.{place-of}
-use Rattle.qfs_laws_first.proofs.Trees.{ClosedAt, bytes-found}
+use Rattle.qfs_laws_first.proofs.Trees.{ClosedAt, row-found}
 use Rattle.qfs_base.specs.EachLaws.{each_weaker}
-use Rattle.qfs_laws_tree.specs.History.{standing-files}
 use Rattle.qfs_laws_tables.specs.EachRow.{found_has}
+use Rattle.qfs_laws_tree.specs.TreeReplies.{reply-at-end, tree_reply}
+use Rattle.qfs_base.specs.declared.command.FileCommand.{FileCommand}
+use Rattle.qfs_base.specs.declared.history.FileReply.{FileReply}
 
 -- ---- replies at the end of the history
 
 module _ (script : Script) (servers : List Server) (m : MetaImage) (commands most : ℕ)
     (s : Steady script servers m commands most) where
-  files-now : files_of (puts_of script) (take (length m.history) m.history)
-      ≡ map (file_entry (puts_of script)) m.tree
-  files-now = ap (files_of (puts_of script)) (take-length m.history)
-      ∙ sym (s.written.files (puts_of script))
-
-  standing-now : files_standing (files_of (puts_of script) (take (length m.history) m.history))
-      ≡ standing m.tree
-  standing-now = ap files_standing files-now ∙ standing-files (puts_of script) m.tree
+  replies-there : (command : FileCommand)
+      → reply_at (puts_of script) m.history (length m.history) command
+      ≡ tree_reply (puts_of script) m.tree command
+  replies-there command =
+      reply-at-end (puts_of script) m command (is-history script m commands s.written)
 
   -- what a refused put and a refused get answer there
   pub put-refused-there : (path : PathNames) (recipe : Form) (why : TreeRefusal)
       → add_refusal (standing m.tree) path ≡ Some why
       → reply_at (puts_of script) m.history (length m.history) (File.Put path recipe)
       ≡ Says.Refused why
-  unfolding reply_at file_reply refused_or
+  unfolding refused_or
   put-refused-there path recipe why refused =
-      ap (λ tree. refused_or Says.Accepted (add_refusal tree path)) standing-now
-      ∙ ap (refused_or Says.Accepted) refused
+      replies-there (File.Put path recipe) ∙ ap (refused_or Says.Accepted) refused
+
+  -- the bytes of the put that made the row at a path
+  abbrev read_there : PathNames → FileReply
+  read_there path = Says.Read (wanted_bytes
+      (puts_of script (row_at m.tree path).actor (row_at m.tree path).command) None)
 
   pub get-refused-there : (path : PathNames) (why : TreeRefusal)
       → look_refusal (standing m.tree) path ≡ Some why
       → reply_at (puts_of script) m.history (length m.history) (File.Get path None)
       ≡ Says.Refused why
-  unfolding reply_at file_reply refused_or
+  unfolding refused_or
   get-refused-there path why refused =
-      rw (standing-now, refused) refl
+      replies-there (File.Get path None) ∙ ap (refused_or (read_there path)) refused
 
   row-here : (path : PathNames) (c : ClosedAt m.tree path)
       → IsRow script servers m.slots m.next_file c.row
@@ -95,14 +95,11 @@ module _ (script : Script) (servers : List Server) (m : MetaImage) (commands mos
       → look_refusal (standing m.tree) path ≡ None
       → reply_at (puts_of script) m.history (length m.history) (File.Get path None)
       ≡ Says.Read (puts_of script c.row.actor c.row.command)
-  unfolding reply_at file_reply refused_or wanted_bytes
+  unfolding refused_or wanted_bytes
   get-read-there path c free =
-      let bytes : bytes_at (files_of (puts_of script) (take (length m.history) m.history)) path
-      ≡ puts_of script c.row.actor c.row.command =
-      ap (λ files. bytes_at files path) files-now
-      ∙ bytes-found (puts_of script) m.tree path c.row (row-here path c).above c.found
-      c.closed in
-      rw (standing-now, free, bytes) refl
+      replies-there (File.Get path None) ∙ ap (refused_or (read_there path)) free
+      ∙ ap (λ (row : TreeRow). Says.Read (puts_of script row.actor row.command))
+      (row-found m.tree path c)
 
   -- the closed file is whole
   pub closed-file : (path : PathNames) (c : ClosedAt m.tree path)
@@ -141,10 +138,6 @@ module _ (script : Script) (servers : List Server) (m : MetaImage) (commands : �
       step-tells rules m (Ask.OpenFile path) b.none_dropped (Told.Refused why (length m.history))
       (refused-file (length m.history) _ why _ refused)
 
-  row-found : (path : PathNames) (c : ClosedAt m.tree path) → row_at m.tree path ≡ c.row
-  unfolding row_at
-  row-found path c = rw c.found refl
-
   open-few : (file : ℕ)
       → AreFew (2 * commands + 2)
       (apply_all (GiveLease 1 file (lease_end script.term m.clock) ∷ []) m)
@@ -172,7 +165,7 @@ module _ (script : Script) (servers : List Server) (m : MetaImage) (commands : �
       (Told.Opened (opened script.layout c.row m)) (2 * commands + 2)
       (accepted-file (length m.history) (look_refusal (standing m.tree) path) _ free
       ∙ ap (λ (row : TreeRow). Makes (GiveLease 1 row.file (lease_end script.term m.clock) ∷ [])
-      (Told.Opened (opened script.layout row m))) (row-found path c))
+      (Told.Opened (opened script.layout row m))) (row-found m.tree path c))
       (open-few c.row.file) (omega (arith, few))
 
   -- the get has its lease
@@ -211,13 +204,13 @@ module _ (script : Script) (servers : List Server) (m : MetaImage) (commands : �
       ∙ rw (place-of slot below) (ap (λ found. Some (listed_copy m.servers found)) current
       ∙ ap Some (listed-first server first last))
 
-  pub blocks-one : (layout : Shape) (row : TreeRow) → IsShort layout row.len
+  pub blocks-one : (layout : Shape) (row : TreeRow) → IsOfOneRow layout row.len
       → length (opened layout row m).blocks ≡ 1
   unfolding opened listed_blocks
   blocks-one layout row short = length-map-range_with_len _ 0 (block_count layout row.len)
       ∙ blocks_of-one layout row.len short
 
-  pub listed-nine : (layout : Shape) (row : TreeRow) → IsShort layout row.len
+  pub listed-nine : (layout : Shape) (row : TreeRow) → IsOfOneRow layout row.len
       → listed_in (opened layout row m) 0 ≡ listed_nine m.servers m.slots (first_block row.file)
   unfolding opened listed_blocks
   listed-nine layout row short = rw (blocks_of-one layout row.len short) refl

@@ -1,4 +1,5 @@
 -- A file history with one entry more: it stays legal, and what is said of its places stays so.
+-- Cited by the steps of puts and gets.
 use Rattle.std.proofs.Common.{◌≡◌, ℕ, ◌+◌, ◌≤◌, ◌==◌, true, false, List, [], ◌∷◌, ◌++◌, length, map}
 use Rattle.std.proofs.Common.{Option, Some, None, refl, sym, ap, subst, ◌∙◌, arith}
 use Rattle.std.proofs.lemmas.Bool.{and_right, eq-eqb}
@@ -96,7 +97,7 @@ pub history-legal : (script : Script) (history : List Entry) (tree : List TreeRo
 history-legal script history tree next_file commands w =
     record { legal = record { in_order = w.legal _; once = w.once }; own_puts = w.own_puts }
 
-is-history : (script : Script) (m : MetaImage) (commands : ℕ)
+pub is-history : (script : Script) (m : MetaImage) (commands : ℕ)
     → Written script m.history m.tree m.next_file commands → TreeIsHistory m
 is-history script m commands w =
     record { files = w.files; legal = w.legal; numbers = w.count }

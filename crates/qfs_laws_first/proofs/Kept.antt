@@ -1,4 +1,5 @@
--- What a change of other files leaves of a file, and what the servers are to the metaserver.
+-- What a change of other files leaves of a file, and what the servers are to the metaserver. Cited
+-- by the steps of puts and gets.
 use Rattle.std.proofs.Common.{◌≡◌, ℕ, zero, suc, ◌<◌, ◌≤◌, true, false, List, [], ◌∷◌, replicate}
 use Rattle.std.proofs.Common.{ap, ◌∙◌, arith}
 use Rattle.std.proofs.lemmas.List.{get_or-replicate}

@@ -1,4 +1,5 @@
--- The laws of the first path, from how its world stands after each step.
+-- The laws of the first path, from how its world stands after each step. The law
+-- `first_path_keeps_its_promises`.
 use Rattle.std.proofs.Common.{◌≡◌, ℕ, zero, suc, ◌+◌, ◌<◌, ◌≤◌, true, List, [], ◌∷◌, ◌++◌, length}
 use Rattle.std.proofs.Common.{replicate, Option, Some, None, refl, sym, ap, subst, ◌∙◌, arith, inl}
 use Rattle.std.proofs.Common.{inr, append_assoc}
@@ -42,7 +43,7 @@ use Rattle.qfs_model_world.specs.Reports.{report_of, EachReport, IsPlaced, OneFi
 use Rattle.qfs_model_world.specs.World.{World, numbered_actors, start, numbered, move, after}
 use Rattle.qfs_model_world.proofs.OneActor.{done_step}
 use Rattle.qfs_laws_first.specs.FirstPath.{IsPutOrGet, IsFirst, IsFirstPath, AllDone}
-use Rattle.qfs_laws_first.specs.Replies.{IsPlain, PlainReplies}
+use Rattle.qfs_laws_first.specs.Replies.{IsPlainReply, PlainReplies}
 use Rattle.qfs_laws_first.proofs.Deletes.{deletes_nothing}
 use Rattle.qfs_laws_first.proofs.GetRuns.{get-starts, get-goes}
 use Rattle.qfs_laws_first.proofs.Histories.{history-legal, written-none}
@@ -262,7 +263,7 @@ module _ (script : Script) (commands : List Command) (steps : List Event) (w : W
       )
 
   plain-of : (number : ℕ) (command : FileCommand) (report : Report)
-      → IsBorneOut script w.meta.history number command report → IsPlain report
+      → IsBorneOut script w.meta.history number command report → IsPlainReply report
   plain-of number command (Says.Stored place len) h = tt
   plain-of number command (Says.Read place bytes) h = tt
   plain-of number command (Says.Refused place refusal) h = tt
@@ -287,7 +288,7 @@ pub plain-replies : (script : Script) (commands : List Command) (order : List St
 plain-replies script commands order first_path done =
     let r = run-after script commands order first_path done in
     each-reply script commands (events script order) (after script order) r
-    (λ actor number report. IsPlain report)
+    (λ actor number report. IsPlainReply report)
     (λ number report good. plain-of script commands (events script order) (after script order) r
     number good.command report good.says)
 

@@ -1,4 +1,5 @@
--- A step of the metaserver that came out done, by what was decided.
+-- A step of the metaserver that came out done, by what was decided. Cited by the steps of puts and
+-- gets.
 use Rattle.std.proofs.Common.{◌≡◌, ℕ, ◌<◌, ◌≤◌, nat_lt, true, List, [], length, Option, Some, None}
 use Rattle.std.proofs.Common.{refl, ap, ◌∙◌, arith}
 use Rattle.std.proofs.lemmas.Bool.Decides.{nat_tests}

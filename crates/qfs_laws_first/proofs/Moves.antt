@@ -1,4 +1,5 @@
--- One step of a world with one actor: the actor's work goes on, or has ended.
+-- One step of a world with one actor: the actor's work goes on, or has ended. Cited by the steps of
+-- puts and gets.
 use Rattle.std.proofs.Common.{◌≡◌, ℕ, List, [], ◌∷◌, ◌++◌, Option, Some, None, refl, sym, ap, ◌∙◌}
 use Rattle.std.specs.Prelude.{slice_get}
 use Rattle.std.specs.Option.{option_and_then}
@@ -82,7 +83,7 @@ goes-on actor reply work request left asked = at (goes_on work reply) refl
     at (asks next more) is = after_reply-asks actor reply work next more left is
 
 -- a step that was taken: its request, its answer, and the world behind it
-pub record Moved (w : World) (actor : Actor) (request : NodeRequest) (servers : List Server)
+pub record StepTaken (w : World) (actor : Actor) (request : NodeRequest) (servers : List Server)
     (m : MetaImage) (reply : NodeReply) (next : Actor) : Type 0 where
   pub listed : event_in w done_step ≡ Some (event_asking w done_step actor request)
   pub replied : (event_asking w done_step actor request).reply ≡ reply
@@ -104,7 +105,7 @@ module _ (w : World) (actor : Actor) (work : Work) (alone : w.actors ≡ actor �
       → request_in work ≡ Some (To.Meta request)
       → meta_step w.rules 1 request Ended.Done w.meta ≡ record { meta = meta; reply = reply }
       → after_reply actor (From.Meta reply) ≡ next
-      → Moved w actor (To.Meta request) w.servers meta (From.Meta reply) next
+      → StepTaken w actor (To.Meta request) w.servers meta (From.Meta reply) next
   unfolding event_asking
   meta_moves request meta reply next asked served took = record {
     listed = event-here (To.Meta request) asked;
@@ -119,7 +120,7 @@ module _ (w : World) (actor : Actor) (work : Work) (alone : w.actors ≡ actor �
       (next : NodeRequest) → request_in work ≡ Some (To.Meta request)
       → meta_step w.rules 1 request Ended.Done w.meta ≡ record { meta = meta; reply = reply }
       → request_in (goes_on work (From.Meta reply)) ≡ Some next
-      → Moved w actor (To.Meta request) w.servers meta (From.Meta reply)
+      → StepTaken w actor (To.Meta request) w.servers meta (From.Meta reply)
       (heard_more actor (From.Meta reply))
   meta_goes_on request meta reply next asked served more =
       meta_moves request meta reply _ asked served
@@ -130,7 +131,7 @@ module _ (w : World) (actor : Actor) (work : Work) (alone : w.actors ≡ actor �
       → request_in work ≡ Some (To.Meta request)
       → meta_step w.rules 1 request Ended.Done w.meta ≡ record { meta = meta; reply = reply }
       → goes_on work (From.Meta reply) ≡ ends report
-      → Moved w actor (To.Meta request) w.servers meta (From.Meta reply) (ended_so actor report)
+      → StepTaken w actor (To.Meta request) w.servers meta (From.Meta reply) (ended_so actor report)
   meta_ends request meta reply report asked served end =
       meta_moves request meta reply _ asked served
       (after_reply-ends actor (From.Meta reply) work report left end)
@@ -141,7 +142,7 @@ module _ (w : World) (actor : Actor) (work : Work) (alone : w.actors ≡ actor �
       → request_in work ≡ Some (To.Chunk number request) → numbered w.servers number ≡ Some before
       → server_step request Ended.Done before ≡ record { server = after; reply = reply }
       → request_in (goes_on work (From.Chunk reply)) ≡ Some next
-      → Moved w actor (To.Chunk number request) (renumbered w.servers number after) w.meta
+      → StepTaken w actor (To.Chunk number request) (renumbered w.servers number after) w.meta
       (From.Chunk reply) (heard_more actor (From.Chunk reply))
   unfolding event_asking
   chunk_goes_on number request before after reply next asked there served more = record {

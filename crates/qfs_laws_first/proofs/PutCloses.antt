@@ -1,4 +1,4 @@
--- A put whose nine slots are stored closes its file.
+-- A put whose nine slots are stored closes its file. For the law of the first path.
 use Rattle.std.proofs.Common.{◌≡◌, ℕ, ◌+◌, ◌*◌, ◌<◌, ◌≤◌, ◌&&◌, true, false, List, [], ◌∷◌, ◌++◌}
 use Rattle.std.proofs.Common.{length, map, filter, Some, None, refl, sym, ap, subst, ◌∙◌, arith}
 use Rattle.std.proofs.lemmas.List.{length-append}
@@ -37,9 +37,9 @@ use Rattle.qfs_model_world.specs.Puts.{puts_of}
 use Rattle.qfs_laws_first.proofs.Histories.{written-closed}
 use Rattle.qfs_laws_first.proofs.Kept.{file-kept}
 use Rattle.qfs_laws_first.proofs.MetaSteps.{AreFew, step-makes}
-use Rattle.qfs_laws_first.proofs.Reading.{IsShort, blocks_of-one}
+use Rattle.qfs_laws_first.proofs.Reading.{IsOfOneRow, blocks_of-one}
 use Rattle.qfs_laws_first.proofs.States.{first_block, first_copy, granted_once, HasCurrent, IsFile}
-use Rattle.qfs_laws_first.proofs.States.{IsRow, Between, Target, target_row, Puts}
+use Rattle.qfs_laws_first.proofs.States.{IsRow, Between, Target, target_row, InPut}
 use Rattle.qfs_laws_first.proofs.Tables.{slot_at-sealed, slot_at-unsealed}
 use Rattle.qfs_laws_tables.specs.EachRow.{each-range, each_both, each_change, each_map, each_passes}
 use Rattle.qfs_laws_tables.specs.EachRow.{find_none}
@@ -52,13 +52,13 @@ abbrev pub closed_state : MetaImage → ℕ → ℕ → MetaImage
 closed_state m file command = next_turn (apply_all (CloseFile file 1 command ∷ []) m)
 
 module _ (script : Script) (servers : List Server) (m : MetaImage) (commands : ℕ) (t : Target)
-    (p : Puts script servers m commands t 9 9) where
+    (p : InPut script servers m commands t 9 9) where
   lacks-at : (slot : ℕ) → slot < 9
       → lacks_grant m.slots (record { block = first_block t.file; slot = slot }) ≡ false
   unfolding lacks_grant
   lacks-at slot below = ap (λ (r : SlotRecord). is_none r.grant) (p.grants slot below).granted
 
-  all-granted : IsShort script.layout (length t.bytes)
+  all-granted : IsOfOneRow script.layout (length t.bytes)
       → first_ungranted t.file (block_count script.layout (length t.bytes)) m.slots ≡ None
   unfolding first_ungranted file_slots block_slots slots_of
   all-granted short =
@@ -81,7 +81,7 @@ module _ (script : Script) (servers : List Server) (m : MetaImage) (commands : �
       (find_none (lacks_grant m.slots) ((ids ++ []) ++ more)
       (each_append Granted (ids ++ []) more (each_append Granted ids [] in_block tt) in_table))
 
-  close-decided : IsShort script.layout (length t.bytes)
+  close-decided : IsOfOneRow script.layout (length t.bytes)
       → decide (rules_of script) 1 m (Ask.Close t.file)
       ≡ Makes (CloseFile t.file 1 (commands + 1) ∷ []) (Told.Done (length m.history))
   unfolding rules_of decide in_range unless decide_request decide_close need close_complete refuse
@@ -105,7 +105,7 @@ module _ (script : Script) (servers : List Server) (m : MetaImage) (commands : �
         entries = omega (arith, few.entries, long);
       }
 
-  pub close-served : IsShort script.layout (length t.bytes) → commands ≤ 4096
+  pub close-served : IsOfOneRow script.layout (length t.bytes) → commands ≤ 4096
       → meta_step (rules_of script) 1 (Ask.Close t.file) Ended.Done m
       ≡ record { meta = closed_state m t.file (commands + 1); reply = Told.Done (length m.history) }
   close-served short few =

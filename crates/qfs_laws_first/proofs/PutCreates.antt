@@ -1,4 +1,4 @@
--- A put creates its file.
+-- A put creates its file. For the law of the first path.
 use Rattle.std.proofs.Common.{◌≡◌, ℕ, zero, suc, ◌+◌, ◌*◌, ◌<◌, ◌≤◌, nat_le, ◌&&◌, true, false}
 use Rattle.std.proofs.Common.{List, [], ◌∷◌, length, Some, None, refl, ap, ◌∙◌, arith}
 use Rattle.std.proofs.lemmas.Bool.Decides.{nat_tests}
@@ -35,7 +35,7 @@ use Rattle.qfs_model_world.specs.Puts.{put_path, puts_of}
 use Rattle.qfs_laws_first.proofs.Histories.{written-created, created-now}
 use Rattle.qfs_laws_first.proofs.MetaSteps.{refused-file, accepted-file, AreFew, step-makes}
 use Rattle.qfs_laws_first.proofs.MetaSteps.{step-tells}
-use Rattle.qfs_laws_first.proofs.States.{first_block, IsRow, Between, Puts}
+use Rattle.qfs_laws_first.proofs.States.{first_block, IsRow, Between, InPut}
 use Rattle.qfs_laws_first.proofs.Tables.{grants-none}
 use Rattle.qfs_laws_first.proofs.Tests.{own-key, same-key, apart-key}
 use Rattle.qfs_base.specs.EachLaws.{each_weaker}
@@ -134,7 +134,7 @@ module _ (script : Script) (servers : List Server) (m : MetaImage) (commands : �
   pub put-created : add_refusal (standing m.tree) path ≡ None
       → put_path script 1 (commands + 1) ≡ Some path → puts_of script 1 (commands + 1) ≡ bytes
       → 1 ≤ length bytes → length bytes ≤ 32
-      → Puts script servers (created_state m path (commands + 1) (length bytes)) commands
+      → InPut script servers (created_state m path (commands + 1) (length bytes)) commands
       (record { file = m.next_file; path = path; bytes = bytes }) 0 0
   unfolding next_turn apply_all apply add_file write_entry add_row added unclosed_file file_row
       has_file is_of_file

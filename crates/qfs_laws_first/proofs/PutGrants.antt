@@ -1,4 +1,4 @@
--- A put is granted a server for a slot.
+-- A put is granted a server for a slot. For the law of the first path.
 use Rattle.std.proofs.Common.{◌≡◌, ℕ, ◌+◌, ◌*◌, ◌<◌, ◌≤◌, nat_lt, Bool, true, false, List, [], ◌∷◌}
 use Rattle.std.proofs.Common.{length, Some, None, refl, sym, ap, subst, ◌∙◌, arith, inl, inr}
 use Rattle.std.proofs.lemmas.Bool.{cases_lt}
@@ -39,9 +39,9 @@ use Rattle.qfs_model_slot.specs.Slot.{slot_of}
 use Rattle.qfs_laws_first.proofs.Chosen.{IsChosen, choose-first, barred-few}
 use Rattle.qfs_laws_first.proofs.Kept.{closed-elsewhere, file-kept, each_with, view-first}
 use Rattle.qfs_laws_first.proofs.MetaSteps.{AreFew, step-makes}
-use Rattle.qfs_laws_first.proofs.Reading.{IsShort, blocks_of-one}
+use Rattle.qfs_laws_first.proofs.Reading.{IsOfOneRow, blocks_of-one}
 use Rattle.qfs_laws_first.proofs.States.{first_block, granted_once, IsGranted, IsRow, Target}
-use Rattle.qfs_laws_first.proofs.States.{target_row, Puts}
+use Rattle.qfs_laws_first.proofs.States.{target_row, InPut}
 use Rattle.qfs_laws_first.proofs.Tables.{each_with_slot, grants-more, is_slot-other}
 use Rattle.qfs_base.specs.EachLaws.{each_weaker}
 use Rattle.qfs_laws_slots.specs.Slots.{is_slot-is, placed-other, placed-same}
@@ -66,7 +66,7 @@ granted_state m file slot server =
 
 module _ (script : Script) (servers : List Server) (m : MetaImage) (commands : ℕ) (t : Target)
     (slot : ℕ)
-    (p : Puts script servers m commands t slot slot) (below : slot < 9) where
+    (p : InPut script servers m commands t slot slot) (below : slot < 9) where
   never : slot_at m.slots (first_block t.file) slot ≡ never_granted
   never = p.ungranted slot (omega arith)
 
@@ -109,7 +109,7 @@ module _ (script : Script) (servers : List Server) (m : MetaImage) (commands : �
   unfolding new_grant never_granted
   told server first last = rw (known-life server first last, never) refl
 
-  grant-decided : (server : ℕ) → IsShort script.layout (length t.bytes) → 1 ≤ server
+  grant-decided : (server : ℕ) → IsOfOneRow script.layout (length t.bytes) → 1 ≤ server
       → server ≤ script.servers
       → chosen_for_put (first_block t.file) slot m.servers m.slots never_granted ≡ Some server
       → decide (rules_of script) 1 m (Ask.Grant t.file 0 slot false)
@@ -142,7 +142,7 @@ module _ (script : Script) (servers : List Server) (m : MetaImage) (commands : �
   unfolding apply_all apply grant_slot with_slots
   grant-few server = p.steady.few
 
-  pub grant-served : (server : ℕ) → IsShort script.layout (length t.bytes) → commands ≤ 4096
+  pub grant-served : (server : ℕ) → IsOfOneRow script.layout (length t.bytes) → commands ≤ 4096
       → 1 ≤ server → server ≤ script.servers
       → chosen_for_put (first_block t.file) slot m.servers m.slots never_granted ≡ Some server
       → meta_step (rules_of script) 1 (Ask.Grant t.file 0 slot false) Ended.Done m
@@ -247,7 +247,7 @@ module _ (script : Script) (servers : List Server) (m : MetaImage) (commands : �
 
   -- the put has one slot more
   pub put-granted : (server : ℕ) → 1 ≤ server → server ≤ script.servers
-      → Puts script servers (granted_state m t.file slot server) commands t (slot + 1) slot
+      → InPut script servers (granted_state m t.file slot server) commands t (slot + 1) slot
   unfolding next_turn apply_all apply grant_slot with_slots slot_id
   put-granted server first last = record {
     steady = record {

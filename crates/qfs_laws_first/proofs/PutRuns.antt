@@ -1,4 +1,4 @@
--- The steps of a put, from its first one to its last.
+-- The steps of a put, from its first one to its last. For the law of the first path.
 use Rattle.std.proofs.Common.{◌≡◌, ℕ, ◌+◌, ◌*◌, ◌<◌, ◌≤◌, false, List, [], ◌∷◌, ◌++◌, length}
 use Rattle.std.proofs.Common.{Option, Some, None, refl, sym, ap, subst, ◌∙◌, arith, inl, inr}
 use Rattle.std.proofs.Common.{add-one}
@@ -56,12 +56,12 @@ use Rattle.qfs_laws_first.proofs.PutCreates.{put-created}
 use Rattle.qfs_laws_first.proofs.PutGrants.{grant_on, granted_state, grant-served, grant-chosen}
 use Rattle.qfs_laws_first.proofs.PutGrants.{granted-now, put-granted}
 use Rattle.qfs_laws_first.proofs.PutStores.{none-stored, put-stored}
-use Rattle.qfs_laws_first.proofs.Reading.{IsShort}
+use Rattle.qfs_laws_first.proofs.Reading.{IsOfOneRow}
 use Rattle.qfs_laws_first.proofs.Reports.{place-here}
 use Rattle.qfs_laws_first.proofs.Runs.{Granting, Storing, Run, Next, goes-on-to, ends-with}
 use Rattle.qfs_laws_first.proofs.Runs.{told-then, refused-so}
 use Rattle.qfs_laws_first.proofs.Servers.{IsUp, with_copy, put-stores}
-use Rattle.qfs_laws_first.proofs.States.{first_block, first_key, granted_once, Between, Puts}
+use Rattle.qfs_laws_first.proofs.States.{first_block, first_key, granted_once, Between, InPut}
 use Rattle.qfs_laws_first.proofs.Works.{at_slot, at_store, put-asks, put-refused, put-goes_on}
 use Rattle.qfs_laws_first.proofs.Works.{slot-asks, slot-goes_on, store-asks, store-goes_on}
 use Rattle.qfs_laws_first.proofs.Works.{close-asks, close-ends}
@@ -91,7 +91,7 @@ module _ (script : Script) (number : ℕ) (path : PathNames) (bytes : List ℕ)
 
 -- a file of 1 to 32 bytes has one row
 pub short-file : (script : Script) (commands : List Command) (len : ℕ) → IsFirstPath script commands
-    → 1 ≤ len → len ≤ 32 → IsShort script.layout len
+    → 1 ≤ len → len ≤ 32 → IsOfOneRow script.layout len
 short-file script commands len first some most = record {
   some = omega (arith, some);
   most = omega (arith, most, first.stripe.0);
@@ -323,7 +323,7 @@ module _ (script : Script) (commands : List Command) (steps : List Event) (w : W
   -- ---- Close
 
   module _ (told_is : r.told ≡ r.actor.ended) (g : Granting script w.servers w.meta r.actor)
-      (p : Puts script w.servers w.meta c g.t 9 9)
+      (p : InPut script w.servers w.meta c g.t 9 9)
       (left : work_left r.actor ≡ Some (at_slot script.layout g.t.bytes g.t.file 9)) where
     abbrev close_request : NodeRequest
     close_request = To.Meta (Ask.Close g.t.file)
@@ -377,7 +377,7 @@ module _ (script : Script) (commands : List Command) (steps : List Event) (w : W
         | inl below ↦ put-grants told_is g below
         | inr above ↦
             let end : g.slot ≡ 9 = omega (arith, above, g.within) in
-            put-closes told_is g (subst (λ n. Puts script w.servers w.meta c g.t n n) end g.puts)
+            put-closes told_is g (subst (λ n. InPut script w.servers w.meta c g.t n n) end g.puts)
             (subst (λ n. work_left r.actor ≡ Some (at_slot script.layout g.t.bytes g.t.file n)) end
             g.left)
       ]

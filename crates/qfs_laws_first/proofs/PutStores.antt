@@ -1,4 +1,4 @@
--- A put stores a slot on the server of its grant.
+-- A put stores a slot on the server of its grant. For the law of the first path.
 use Rattle.std.proofs.Common.{◌≡◌, ℕ, ◌+◌, ◌<◌, ◌≤◌, true, List, None, refl, ap, subst, ◌∙◌, arith}
 use Rattle.std.proofs.Common.{inl, inr}
 use Rattle.std.proofs.lemmas.Bool.{cases_lt}
@@ -17,7 +17,7 @@ use Rattle.qfs_laws_first.proofs.Kept.{closed-elsewhere, file-kept, each_with}
 use Rattle.qfs_laws_first.proofs.Servers.{IsUp, with_copy, stored_at, stored-here, stored-own}
 use Rattle.qfs_laws_first.proofs.Servers.{stored-other, are_up-changed}
 use Rattle.qfs_laws_first.proofs.States.{first_block, first_key, granted_once, IsGranted, IsRow}
-use Rattle.qfs_laws_first.proofs.States.{Target, target_row, Puts}
+use Rattle.qfs_laws_first.proofs.States.{Target, target_row, InPut}
 
 -- keys of different files, or of different slots
 apart_files : (key : ChunkKey) (file slot : ℕ) → (key.block.file ≡ file → ⊥)
@@ -30,7 +30,7 @@ apart_slots file slot number differ same = differ (ap (λ (k : ChunkKey). k.slot
 
 module _ (script : Script) (servers : List Server) (m : MetaImage) (commands : ℕ) (t : Target)
     (slot : ℕ)
-    (p : Puts script servers m commands t (slot + 1) slot) (server : ℕ) (first : 1 ≤ server)
+    (p : InPut script servers m commands t (slot + 1) slot) (server : ℕ) (first : 1 ≤ server)
     (last : server ≤ script.servers)
     (granted : slot_at m.slots (first_block t.file) slot ≡ granted_once server)
     (u : IsUp servers server) where
@@ -95,7 +95,7 @@ module _ (script : Script) (servers : List Server) (m : MetaImage) (commands : �
       ]
 
   -- the slot is stored
-  pub put-stored : Puts script new_servers m commands t (slot + 1) (slot + 1)
+  pub put-stored : InPut script new_servers m commands t (slot + 1) (slot + 1)
   put-stored = record {
     steady = record {
       as_first = p.steady.as_first;

@@ -1,4 +1,5 @@
 -- The row of a get of a file of at most one row: its six stripes, and the bytes that they give.
+-- Cited by the steps of a get.
 use Rattle.std.proofs.Common.{inl, inr, ◌≡◌, ◌∙◌, sym, ap, subst, refl, arith, ℕ, zero, suc, ◌+◌}
 use Rattle.std.proofs.Common.{◌*◌, ◌/◌, ◌%◌, ◌<◌, ◌≤◌, nat_lt, min, true, List, [], ◌∷◌, ◌++◌}
 use Rattle.std.proofs.Common.{length, take, drop, map, slice_index}
@@ -38,7 +39,7 @@ div_ceil-one n m some most =
     ]
 
 -- a file of at most one row
-pub record IsShort (layout : Shape) (len : ℕ) : Type 0 where
+pub record IsOfOneRow (layout : Shape) (len : ℕ) : Type 0 where
   pub some : 0 < len
   pub most : len ≤ 6 * layout.s
   pub rows : 1 ≤ layout.r
@@ -46,13 +47,13 @@ pub record IsShort (layout : Shape) (len : ℕ) : Type 0 where
 inside_block : (s r len : ℕ) → len ≤ 6 * s → 1 ≤ r → len ≤ 6 * s * r
 inside_block s r len most rows = grind arith
 
-pub blocks_of-one : (layout : Shape) (len : ℕ) → IsShort layout len
+pub blocks_of-one : (layout : Shape) (len : ℕ) → IsOfOneRow layout len
     → blocks_of layout.s layout.r len ≡ 1
 blocks_of-one layout len short =
     div_ceil-one len (block_bytes layout.s layout.r) short.some
     (inside_block layout.s layout.r len short.most short.rows)
 
-pub rows_of-one : (layout : Shape) (len : ℕ) → IsShort layout len
+pub rows_of-one : (layout : Shape) (len : ℕ) → IsOfOneRow layout len
     → rows_of layout.s layout.r len 0 ≡ 1
 rows_of-one layout len short =
     let none : 0 * block_bytes layout.s layout.r ≡ 0 = zero-mul (block_bytes layout.s layout.r) in
@@ -61,7 +62,7 @@ rows_of-one layout len short =
     let all : min len (block_bytes layout.s layout.r) ≡ len = omega arith in
     rw (none, sub-zero len, all) (div_ceil-one len (row_bytes layout.s) short.some short.most)
 
-pub blocks_touched-one : (layout : Shape) (len : ℕ) → IsShort layout len
+pub blocks_touched-one : (layout : Shape) (len : ℕ) → IsOfOneRow layout len
     → blocks_touched layout.s layout.r 0 len ≡ 0 ∷ []
 blocks_touched-one layout len short =
     rw (zero-div (block_bytes layout.s layout.r), blocks_of-one layout len short) refl
@@ -70,7 +71,7 @@ blocks_touched-one layout len short =
 abbrev pub first_row : Window
 first_row = record { index = 0; first_row = 0; rows = 1 }
 
-pub windows_touched-one : (layout : Shape) (len : ℕ) → IsShort layout len
+pub windows_touched-one : (layout : Shape) (len : ℕ) → IsOfOneRow layout len
     → windows_touched layout.s layout.r 0 len 0 ≡ first_row ∷ []
 windows_touched-one layout len short =
     let none : 0 * block_bytes layout.s layout.r ≡ 0 = zero-mul (block_bytes layout.s layout.r) in
@@ -117,7 +118,7 @@ stripe_byte layout bytes j i below_six inside =
     ap (byte_at bytes) sum)
 
 -- a data slot is a stripe of the file
-stripe-is : (layout : Shape) (bytes : List ℕ) (j : ℕ) → j < 6 → IsShort layout (length bytes)
+stripe-is : (layout : Shape) (bytes : List ℕ) (j : ℕ) → j < 6 → IsOfOneRow layout (length bytes)
     → slot_of layout bytes 0 j ≡ map (byte_at bytes) (range_with_len (j * layout.s) layout.s)
 unfolding slot_of
 stripe-is layout bytes j below_six short =
@@ -126,7 +127,7 @@ stripe-is layout bytes j below_six short =
     rw one (map-shifted (slot_byte layout bytes 0 j) (byte_at bytes) 0 (j * layout.s) layout.s
     (λ i below. stripe_byte layout bytes j i below_six below))
 
-pub slot_long : (layout : Shape) (bytes : List ℕ) (j : ℕ) → IsShort layout (length bytes)
+pub slot_long : (layout : Shape) (bytes : List ℕ) (j : ℕ) → IsOfOneRow layout (length bytes)
     → length (slot_of layout bytes 0 j) ≡ layout.s
 unfolding slot_of
 slot_long layout bytes j short =
@@ -177,7 +178,7 @@ told_by xs =
     omega (arith, inside, length-map-range_with_len (byte_at xs) 0 (length xs)) in
     get_or-map-range_with_len (byte_at xs) 0 (length xs) k k 0 below (omega arith))
 
-stripes-are : (layout : Shape) (bytes : List ℕ) → IsShort layout (length bytes)
+stripes-are : (layout : Shape) (bytes : List ℕ) → IsOfOneRow layout (length bytes)
     → flat_map (λ piece. piece) (stripes_of layout bytes) ≡ map (byte_at bytes)
     (range_with_len 0 (6 * layout.s))
 stripes-are layout bytes short =
@@ -190,7 +191,7 @@ stripes-are layout bytes short =
     rw (s0, s1, s2, s3, s4, s5) (stripes-joined (byte_at bytes) layout.s)
 
 -- the file's bytes are those of its stripes, up to its end
-pub bytes-joined : (layout : Shape) (bytes : List ℕ) → IsShort layout (length bytes)
+pub bytes-joined : (layout : Shape) (bytes : List ℕ) → IsOfOneRow layout (length bytes)
     → take (length bytes) (flat_map (λ piece. piece) (stripes_of layout bytes)) ≡ bytes
 bytes-joined layout bytes short =
     ap (take (length bytes)) (stripes-are layout bytes short)
@@ -238,7 +239,7 @@ row_of-stripes s (piece ∷ pieces) each =
     let first : take s (drop (0 * s) piece) ≡ piece = rw none whole in
     rw (first, more) refl
 
-stripes-long : (layout : Shape) (bytes : List ℕ) → IsShort layout (length bytes) → (js : List ℕ)
+stripes-long : (layout : Shape) (bytes : List ℕ) → IsOfOneRow layout (length bytes) → (js : List ℕ)
     → All (λ piece. length piece ≡ layout.s) (map (λ j. slot_of layout bytes 0 j) js)
 stripes-long layout bytes short [] k d inside = absurd (omega arith)
 stripes-long layout bytes short (j ∷ js) zero d inside = slot_long layout bytes j short
@@ -246,7 +247,7 @@ stripes-long layout bytes short (j ∷ js) (suc k) d inside =
     stripes-long layout bytes short js k d (omega arith)
 
 -- the row of six stripes gives the file's bytes
-pub row-kept : (layout : Shape) (bytes : List ℕ) → IsShort layout (length bytes)
+pub row-kept : (layout : Shape) (bytes : List ℕ) → IsOfOneRow layout (length bytes)
     → cut_to_range 0 (length bytes) (window_offset layout first_row)
     (rows_of_file layout.s 1 (data_of (pieces_to layout bytes 6))) ≡ bytes
 unfolding cut_to_range window_offset rows_of_file

@@ -1,5 +1,5 @@
 -- The replies of an actor so far: what each of them says of the history, that it was placed in a
--- step of its command, and that each file that was opened is read.
+-- step of its command, and that each file that was opened is read. For the law of the first path.
 use Rattle.std.proofs.Common.{◌≡◌, ℕ, zero, suc, ◌+◌, ◌≤◌, ◌==◌, Bool, true, List, [], ◌∷◌, ◌++◌}
 use Rattle.std.proofs.Common.{length, filter, Option, Some, None, refl, sym, ap, subst, ◌∙◌, arith}
 use Rattle.std.proofs.Common.{add-one}

@@ -1,4 +1,5 @@
--- What holds of each item of a list, by its place or its number.
+-- What holds of each item of a list, by its place or its number. Cited where a world changes one
+-- server or actor.
 use Rattle.std.proofs.Common.{◌≡◌, ℕ, zero, suc, List, [], ◌∷◌, Some, subst}
 use Rattle.std.specs.Prelude.{slice_get, slice_set}
 use Rattle.qfs_base.specs.Table.{Each}

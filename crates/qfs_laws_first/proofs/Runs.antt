@@ -1,4 +1,5 @@
--- The world of the first path at each step: where its actor is, and what holds there.
+-- The world of the first path at each step: where its actor is, and what holds there. For the law
+-- of the first path.
 use Rattle.std.proofs.Common.{◌≡◌, ◌⊎◌, ℕ, ◌+◌, ◌*◌, ◌<◌, ◌≤◌, List, [], ◌∷◌, ◌++◌, length, Some}
 use Rattle.std.proofs.Common.{None, Ok, refl, sym, ap, subst, ◌∙◌, arith, inl, inr}
 use Rattle.std.proofs.lemmas.List.{append-nil, length-append}
@@ -37,14 +38,14 @@ use Rattle.qfs_model_world.specs.Puts.{command_of, puts_of}
 use Rattle.qfs_model_world.specs.World.{World, numbered, move_asking, move_actor, move}
 use Rattle.qfs_model_world.proofs.OneActor.{done_step}
 use Rattle.qfs_laws_first.proofs.Gets.{later}
-use Rattle.qfs_laws_first.proofs.Moves.{heard_more, ended_so, Moved}
-use Rattle.qfs_laws_first.proofs.Reading.{IsShort}
+use Rattle.qfs_laws_first.proofs.Moves.{heard_more, ended_so, StepTaken}
+use Rattle.qfs_laws_first.proofs.Reading.{IsOfOneRow}
 use Rattle.qfs_laws_first.proofs.Reports.{HasPlace, IsGood, GoodAt, borne-more, goods-more}
 use Rattle.qfs_laws_first.proofs.Reports.{each_enumerated, opened_in, ReadsWhereOpened}
 use Rattle.qfs_laws_first.proofs.Reports.{openings-more, no-opening, place-here}
 use Rattle.qfs_laws_first.proofs.Servers.{first_chunk, stored_at}
 use Rattle.qfs_laws_first.proofs.States.{first_block, first_key, first_copy, granted_once, Between}
-use Rattle.qfs_laws_first.proofs.States.{Within, Target, Puts}
+use Rattle.qfs_laws_first.proofs.States.{Within, Target, InPut}
 use Rattle.qfs_laws_first.proofs.Works.{at_slot, at_store, at_fetch}
 
 -- ---- where the actor is
@@ -62,7 +63,7 @@ pub record Granting (script : Script) (servers : List Server) (m : MetaImage) (a
   pub slot : ℕ
   pub within : slot ≤ 9
   pub left : work_left actor ≡ Some (at_slot script.layout t.bytes t.file slot)
-  pub puts : Puts script servers m (length actor.ended) t slot slot
+  pub puts : InPut script servers m (length actor.ended) t slot slot
   pub few : length actor.ended ≤ 4096
   pub command : FileCommand
   pub is : command_of script 1 (length actor.ended + 1) ≡ Some (Does.File command)
@@ -78,7 +79,7 @@ pub record Storing (script : Script) (servers : List Server) (m : MetaImage) (ac
   pub last : server ≤ script.servers
   pub granted : slot_at m.slots (first_block t.file) slot ≡ granted_once server
   pub left : work_left actor ≡ Some (at_store script.layout t.bytes t.file slot server)
-  pub puts : Puts script servers m (length actor.ended) t (slot + 1) slot
+  pub puts : InPut script servers m (length actor.ended) t (slot + 1) slot
   pub few : length actor.ended ≤ 4096
   pub command : FileCommand
   pub is : command_of script 1 (length actor.ended + 1) ≡ Some (Does.File command)
@@ -106,7 +107,7 @@ pub record Fetching (script : Script) (steps : List Event) (servers : List Serve
   pub reads : Within script servers m (length actor.ended)
   pub few : length actor.ended ≤ 4096
   pub len : o.len ≡ length bytes
-  pub short : IsShort script.layout (length bytes)
+  pub short : IsOfOneRow script.layout (length bytes)
   pub copies : (slot : ℕ) → slot < 6 → CanFetch script servers sources o.file bytes slot
   pub path : PathNames
   pub is : command_of script 1 (length actor.ended + 1) ≡ Some (Does.File (File.Get path None))
@@ -171,7 +172,7 @@ module _ (script : Script) (commands : List Command) (steps : List Event) (w : W
   steps_then = steps ++ event_asking w done_step r.actor request ∷ []
 
   -- the command goes on
-  pub goes-on-with : Moved w r.actor request servers m reply (heard_more r.actor reply)
+  pub goes-on-with : StepTaken w r.actor request servers m reply (heard_more r.actor reply)
       → Each (ReadsWhereOpened told) steps_then
       → Stage script steps_then servers m (heard_more r.actor reply) told
       → Next script commands steps w
@@ -197,7 +198,7 @@ module _ (script : Script) (commands : List Command) (steps : List Event) (w : W
       )
 
   -- the same where the step opens no file
-  pub goes-on-to : Moved w r.actor request servers m reply (heard_more r.actor reply)
+  pub goes-on-to : StepTaken w r.actor request servers m reply (heard_more r.actor reply)
       → opened_in reply ≡ None → Each (ReadsWhereOpened told) steps
       → Stage script steps_then servers m (heard_more r.actor reply) told
       → Next script commands steps w
@@ -206,7 +207,8 @@ module _ (script : Script) (commands : List Command) (steps : List Event) (w : W
 
   -- the command has ended
   pub ends-with : (report : Report)
-      → Moved w r.actor request servers m reply (ended_so r.actor report) → opened_in reply ≡ None
+      → StepTaken w r.actor request servers m reply (ended_so r.actor report)
+      → opened_in reply ≡ None
       → told ≡ r.actor.ended ++ report ∷ [] → Each (ReadsWhereOpened told) steps
       → IsGood script steps_then (w.meta.history ++ more) (length r.actor.ended + 1) report
       → Between script servers m (length r.actor.ended + 1) → Next script commands steps w
@@ -252,7 +254,7 @@ module _ (script : Script) (commands : List Command) (steps : List Event) (w : W
   -- the name tree refused the command
   pub refused-so : (request : NodeRequest) (why : TreeRefusal) (command : FileCommand)
       → r.told ≡ r.actor.ended
-      → Moved w r.actor request w.servers w.meta
+      → StepTaken w r.actor request w.servers w.meta
       (From.Meta (Said.Refused why (length w.meta.history)))
       (ended_so r.actor (Says.Refused (length w.meta.history) why))
       → command_of script 1 (length r.actor.ended + 1) ≡ Some (Does.File command)

@@ -1,4 +1,5 @@
--- The chunk servers of a world by number: what a Put or a Fetch leaves on each of them.
+-- The chunk servers of a world by number: what a Put or a Fetch leaves on each of them. Cited by
+-- the steps of puts and gets.
 use Rattle.std.proofs.Common.{◌≡◌, ℕ, ◌+◌, ◌≤◌, ◌==◌, nat_le, Bool, true, false, cond, List, []}
 use Rattle.std.proofs.Common.{length, take, drop, replicate, Option, Some, None, refl, sym, ap}
 use Rattle.std.proofs.Common.{subst, ◌∙◌, arith}

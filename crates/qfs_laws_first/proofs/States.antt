@@ -1,4 +1,5 @@
--- How the world of one actor stands: between two commands, in a put and in a get.
+-- How the world of one actor stands: between two commands, in a put and in a get. Cited by the
+-- steps of puts and gets.
 use Rattle.std.proofs.Common.{◌≡◌, ℕ, ◌+◌, ◌*◌, ◌<◌, ◌≤◌, true, false, List, [], length, replicate}
 use Rattle.std.proofs.Common.{Some, None}
 use Rattle.qfs_base.specs.NameTree.{PathNames}
@@ -147,7 +148,7 @@ pub record IsTarget (script : Script) (next_file : ℕ) (history : List Entry) (
   pub unclosed : unclosed_file 1 t.file tree ≡ Some (target_row commands t)
 
 -- in a put of a file: so many slots are granted, and so many are stored
-pub record Puts (script : Script) (servers : List Server) (m : MetaImage) (commands : ℕ)
+pub record InPut (script : Script) (servers : List Server) (m : MetaImage) (commands : ℕ)
     (t : Target) (granted stored : ℕ) : Type 0 where
   pub steady : Within script servers m commands
   pub target : IsTarget script m.next_file m.history m.tree commands t

@@ -1,4 +1,5 @@
--- What is left of a put and of a get at their stages, and what they ask there.
+-- What is left of a put and of a get at their stages, and what they ask there. Cited by the steps
+-- of puts and gets.
 use Rattle.std.proofs.Common.{◌≡◌, ◌∙◌, refl, sym, ap, arith, ℕ, suc, ◌+◌, ◌-◌, ◌*◌, ◌<◌, ◌≤◌, ◌==◌}
 use Rattle.std.proofs.Common.{nat_lt, nat_le, min, true, false, Option, Some, None, Ok, Err, List}
 use Rattle.std.proofs.Common.{[], ◌∷◌, ◌++◌, length, replicate}
@@ -41,7 +42,7 @@ use Rattle.qfs_model_actor.specs.Read.{read_windows, read_block}
 use Rattle.qfs_model_actor.specs.Tree.{refused}
 use Rattle.qfs_model_actor.specs.Work.{Report, Work, ends, goes_on, request_in, for_each}
 use Rattle.qfs_laws_first.proofs.PutGrants.{grant_on}
-use Rattle.qfs_laws_first.proofs.Reading.{IsShort, blocks_of-one, blocks_touched-one}
+use Rattle.qfs_laws_first.proofs.Reading.{IsOfOneRow, blocks_of-one, blocks_touched-one}
 use Rattle.qfs_laws_first.proofs.Reading.{windows_touched-one, first_row, pieces_to, pieces_to-more}
 use Rattle.qfs_laws_first.proofs.Reading.{row-kept}
 use Rattle.qfs_laws_first.proofs.States.{first_key, first_copy}
@@ -72,7 +73,7 @@ module _ (layout : Shape) (number : ℕ) (path : PathNames) (bytes : List ℕ) w
   unfolding put_work ask ask_or goes_on on_meta on_answer created refused
   put-refused why place = refl
 
-  pub put-goes_on : (file place : ℕ) → IsShort layout (length bytes)
+  pub put-goes_on : (file place : ℕ) → IsOfOneRow layout (length bytes)
       → goes_on (put_work layout number path bytes) (From.Meta (Said.Created file place))
       ≡ at_slot layout bytes file 0
   unfolding put_work ask ask_or goes_on on_meta on_answer created put_blocks_from store_blocks
@@ -196,7 +197,8 @@ source-at nine slot server within listed =
     slice_get-map (λ slot. source_of_listed (slice_get nine slot)) (range_with_len 0 9) slot
     ∙ rw (place-of slot (omega arith)) (ap (λ listed. Some (source_of_listed listed)) listed)
 
-whole-file : (layout : Shape) (o : Opened) → IsShort layout o.len → o.len ≤ 32 → length o.blocks ≡ 1
+whole-file : (layout : Shape) (o : Opened) → IsOfOneRow layout o.len → o.len ≤ 32
+    → length o.blocks ≡ 1
     → is_whole layout o ≡ true
 unfolding is_whole
 whole-file layout o short few one =
@@ -204,7 +206,7 @@ whole-file layout o short few one =
     rw (small, one, blocks_of-one layout o.len short) refl
 
 pub get-goes_on : (layout : Shape) (tries : ℕ) (path : PathNames) (o : Opened) (bytes : List ℕ)
-    → IsShort layout o.len → o.len ≤ 32 → length o.blocks ≡ 1 → ListsSlots (listed_in o 0)
+    → IsOfOneRow layout o.len → o.len ≤ 32 → length o.blocks ≡ 1 → ListsSlots (listed_in o 0)
     → goes_on (get_work layout tries path None) (From.Meta (Said.Opened o)) ≡ at_fetch layout
     (anew layout tries path) o (sources_of (listed_in o 0)) bytes 0
 unfolding get_work attempt ask ask_or goes_on on_meta on_answer was_opened read_if_whole range_of
@@ -271,7 +273,7 @@ module _ (layout : Shape) (again : Report → Work) (o : Opened) (sources : List
       (pieces_to-more layout bytes slot)
 
 module _ (layout : Shape) (again : Report → Work) (o : Opened) (sources : List Source)
-    (bytes : List ℕ) (short : IsShort layout (length bytes)) (len : o.len ≡ length bytes) where
+    (bytes : List ℕ) (short : IsOfOneRow layout (length bytes)) (len : o.len ≡ length bytes) where
   row-is : (reading_of layout again o 0 o.len 0).kept first_row (pieces_to layout bytes 6) ≡ bytes
   unfolding reading_of
   row-is = rw len (row-kept layout bytes short)

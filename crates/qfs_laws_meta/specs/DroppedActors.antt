@@ -1,5 +1,6 @@
 -- Which actors count as dropped behind a step: those that did before, and the one that the request
--- drops. A dropped actor is told so, whatever it asks, and changes nothing.
+-- drops. A dropped actor is told so, whatever it asks, and changes nothing. The law
+-- `dropped_actors_stay`.
 use Rattle.std.proofs.Common.{◌≡◌, ℕ, ◌⊎◌, inl, inr, ⊎_elim, ◌==◌, Bool, true, false, cond, List}
 use Rattle.std.proofs.Common.{[], ◌∷◌, ◌++◌, map, filter, length, Option, Some, None, refl, sym, ap}
 use Rattle.std.proofs.Common.{◌∙◌, subst}

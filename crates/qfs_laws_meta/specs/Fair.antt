@@ -1,5 +1,5 @@
 -- Decisions that answer as a request may be answered, and whose changes tell no more of the state
--- behind them.
+-- behind them. For the law `steps_answer`.
 use Rattle.std.proofs.Common.{◌≡◌, ℕ, ◌⊎◌, inl, inr, Bool, true, false, cond, List, [], ◌∷◌, map}
 use Rattle.std.proofs.Common.{Option, Some, None, refl}
 use Rattle.std.specs.Prelude.{⊤, flat_map}

@@ -1,4 +1,4 @@
--- The requests that open files and grant slots.
+-- The requests that open files and grant slots. For the law `stays_sound`.
 use Rattle.qfs_base.specs.NameTree.{PathNames, look_refusal, stands_at}
 use Rattle.qfs_base.specs.NumberSet.{has}
 use Rattle.qfs_base.specs.Shape.{Shape}

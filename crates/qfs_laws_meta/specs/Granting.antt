@@ -1,4 +1,4 @@
--- A server that is chosen, or that isn't barred, may get a grant.
+-- A server that is chosen, or that isn't barred, may get a grant. For the law `stays_sound`.
 use Rattle.qfs_base.specs.NumberSet.{has, with_member}
 use Rattle.qfs_base.specs.Sizes.{LAST_U32}
 use Rattle.qfs_base.specs.Table.{Each}

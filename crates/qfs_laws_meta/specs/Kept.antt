@@ -1,5 +1,5 @@
--- A state that keeps to its past, between two changes as behind them: every change that may be
--- made keeps it.
+-- A state that keeps to its past, between two changes as behind them: every change that may be made
+-- keeps it. For the law `stays_sound`.
 use Rattle.qfs_base.specs.Sizes.{LAST_U16, MOST_SERVERS}
 use Rattle.qfs_base.specs.Table.{Each, IsRising}
 use Rattle.qfs_base.specs.declared.change.Change.{Change}

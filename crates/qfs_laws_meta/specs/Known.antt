@@ -1,5 +1,5 @@
 -- Each version of a slot is granted once, and each copy that is known was granted: what losses of
--- copies keep of this.
+-- copies keep of this. For the law `stays_sound`.
 use Rattle.qfs_base.specs.Table.{Each}
 use Rattle.qfs_base.specs.declared.chunk.BlockId.{BlockId}
 use Rattle.qfs_base.specs.declared.chunk.Copy.{Copy}

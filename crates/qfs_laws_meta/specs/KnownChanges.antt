@@ -1,4 +1,4 @@
--- Each version of a slot is granted once: every change keeps it.
+-- Each version of a slot is granted once: every change keeps it. For the law `stays_sound`.
 use Rattle.qfs_base.specs.Sizes.{LAST_U32}
 use Rattle.qfs_base.specs.Table.{Each}
 use Rattle.qfs_base.specs.declared.change.Change.{Change}

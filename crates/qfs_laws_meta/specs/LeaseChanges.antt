@@ -1,4 +1,4 @@
--- Each lease keeps what it lists: every change keeps it.
+-- Each lease keeps what it lists: every change keeps it. For the law `stays_sound`.
 use Rattle.qfs_base.specs.Table.{Each, without}
 use Rattle.qfs_base.specs.declared.chunk.BlockId.{BlockId}
 use Rattle.qfs_base.specs.declared.chunk.ChunkKey.{ChunkKey}

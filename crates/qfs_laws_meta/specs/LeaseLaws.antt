@@ -1,4 +1,4 @@
--- Leases hold: every change keeps it.
+-- Leases hold: every change keeps it. For the law `stays_sound`.
 use Rattle.qfs_base.specs.Table.{Each}
 use Rattle.qfs_base.specs.declared.change.Change.{Change}
 use Rattle.qfs_base.specs.declared.change.Change.TheVariants.{AbortFile, AddDirectory, CloseFile}

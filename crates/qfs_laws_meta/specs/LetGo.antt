@@ -1,4 +1,4 @@
--- Copies that were ordered deleted stay let go: every change keeps it.
+-- Copies that were ordered deleted stay let go: every change keeps it. For the law `stays_sound`.
 use Rattle.qfs_base.specs.Table.{Each}
 use Rattle.qfs_base.specs.declared.change.Change.{Change}
 use Rattle.qfs_base.specs.declared.change.Change.TheVariants.{AbortFile, AddDirectory, CloseFile}

@@ -1,4 +1,4 @@
--- The copies that a lease lists are current.
+-- The copies that a lease lists are current. For the law `stays_sound`.
 use Rattle.qfs_base.specs.Table.{Each}
 use Rattle.qfs_base.specs.declared.chunk.BlockId.{BlockId}
 use Rattle.qfs_base.specs.declared.chunk.Copy.{Copy}

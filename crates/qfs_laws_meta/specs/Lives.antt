@@ -1,4 +1,5 @@
--- The life of a grant is at most the known life of its server: every change keeps it.
+-- The life of a grant is at most the known life of its server: every change keeps it. For the law
+-- `stays_sound`.
 use Rattle.qfs_base.specs.declared.change.Change.{Change}
 use Rattle.qfs_base.specs.declared.change.Change.TheVariants.{AddDirectory, CondemnStray}
 use Rattle.qfs_base.specs.declared.change.Change.TheVariants.{ConfirmSlot, EmptySlot, FailGrant}

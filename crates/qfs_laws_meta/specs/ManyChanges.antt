@@ -1,5 +1,5 @@
 -- The requests that make many changes: a file is removed or given up, an actor is dropped, a
--- deletion is ordered.
+-- deletion is ordered. For the law `stays_sound`.
 use Rattle.qfs_base.specs.NameTree.{PathNames, look_refusal}
 use Rattle.qfs_base.specs.Sizes.{LAST_U32}
 use Rattle.qfs_base.specs.Table.{Each, IsRising}

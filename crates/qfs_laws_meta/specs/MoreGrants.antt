@@ -1,4 +1,4 @@
--- The requests that grant what they find, and the grant of a put.
+-- The requests that grant what they find, and the grant of a put. For the law `stays_sound`.
 use Rattle.qfs_base.specs.Mask.{all_slots}
 use Rattle.qfs_base.specs.Shape.{Shape}
 use Rattle.qfs_base.specs.Sizes.{LAST_U32}

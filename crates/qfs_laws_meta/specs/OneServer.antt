@@ -1,4 +1,5 @@
--- The live copies and grants of a block stand on different servers: every change keeps it.
+-- The live copies and grants of a block stand on different servers: every change keeps it. For the
+-- law `stays_sound`.
 use Rattle.qfs_base.specs.Key.{block_cmp}
 use Rattle.qfs_base.specs.KeyLaws.{block_cmp-Equal}
 use Rattle.qfs_base.specs.Table.{Each, IsRising}

@@ -1,4 +1,5 @@
--- A request makes changes that may be made, and its reply tells what they tell.
+-- A request makes changes that may be made, and its reply tells what they tell. For the law
+-- `stays_sound`.
 use Rattle.qfs_base.specs.declared.change.Change.{Change}
 use Rattle.qfs_base.specs.declared.history.Outcome.{Outcome}
 use Rattle.qfs_base.specs.declared.image.MetaImage.{MetaImage}

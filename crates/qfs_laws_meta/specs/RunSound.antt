@@ -1,4 +1,5 @@
--- A metaserver that starts with nothing is sound after any run of requests that may be asked.
+-- A metaserver that starts with nothing is sound after any run of requests that may be asked. The
+-- law `runs_stay_sound`.
 use Rattle.qfs_base.specs.Sizes.{LAST_U32}
 use Rattle.qfs_base.specs.declared.history.Outcome.{Outcome}
 use Rattle.qfs_base.specs.declared.image.MetaImage.{MetaImage}

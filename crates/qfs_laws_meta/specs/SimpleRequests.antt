@@ -1,4 +1,4 @@
--- The requests that grant nothing.
+-- The requests that grant nothing. For the law `stays_sound`.
 use Rattle.qfs_base.specs.NameTree.{PathNames}
 use Rattle.qfs_base.specs.Path.{IsPath}
 use Rattle.qfs_base.specs.Shape.{Shape}

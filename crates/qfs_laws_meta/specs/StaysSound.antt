@@ -1,4 +1,4 @@
--- A sound metaserver that is asked what may be asked stays sound.
+-- A sound metaserver that is asked what may be asked stays sound. The law `stays_sound`.
 use Rattle.qfs_base.specs.Sizes.{LAST_U32}
 use Rattle.qfs_base.specs.Table.{Each}
 use Rattle.qfs_base.specs.declared.chunk.BlockId.{BlockId}

@@ -1,6 +1,6 @@
 -- Leases with a term: a tick ends just those whose time has come, an ended lease keeps nothing, a
--- live one keeps what it lists from deletion, and a grant is confirmed whether or not its lease
--- is still live.
+-- live one keeps what it lists from deletion, and a grant is confirmed whether or not its lease is
+-- still live. The laws `ticks_end_leases`, `live_leases_keep_copies` and `confirms_without_lease`.
 use Rattle.std.proofs.Common.{◌≡◌, ◌≢◌, ℕ, ◌+◌, ◌<◌, ◌≤◌, ◌==◌, nat_lt, nat_le, Bool, true, false}
 use Rattle.std.proofs.Common.{cond, not, ◌&&◌, ◌||◌, length, List, [], ◌∷◌, ◌++◌, map, filter}
 use Rattle.std.proofs.Common.{Option, Some, None, refl, sym, ap, ◌∙◌, subst, arith}

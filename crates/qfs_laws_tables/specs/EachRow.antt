@@ -1,5 +1,5 @@
 -- What holds of each row of a table, after rows are appended, mapped, kept by a test, changed or
--- placed. Cited by the laws of slots, of the tree and of the metaserver.
+-- placed. Cited by the laws of slots, of the tree, of the metaserver and of puts and gets.
 use Rattle.qfs_base.specs.EachLaws.{each_append, each_weaker}
 use Rattle.qfs_base.specs.Table.{Each, change_row, change_where, place, place_before}
 use Rattle.std.proofs.Common.{Bool, List, None, Option, Some, [], ap, arith, cond, false, filter}

@@ -1,5 +1,6 @@
--- Rows that are placed where none has their key, and maps of tables that are placed, kept by a
--- test or changed. Cited by the laws of slots, of the tree and of the metaserver.
+-- Rows that are placed: what is found then, what rows weigh that are placed where none has their
+-- key, and maps of tables that are placed, kept by a test or changed. Cited by the laws of slots,
+-- of the tree, of the metaserver and of puts and gets.
 use Rattle.qfs_base.specs.Table.{Each, IsRising, change_row, change_where, place, place_all}
 use Rattle.qfs_base.specs.Table.{place_before}
 use Rattle.std.proofs.Common.{Bool, List, None, Some, [], ap, arith, cond, false, filter, find, map}

@@ -1,5 +1,5 @@
 -- Whether some row of a table passes a test, after rows are appended, mapped, kept by a test or
--- changed. Cited by the laws of slots, of the tree and of the metaserver.
+-- changed. Cited by the laws of slots, of the tree, of the metaserver and of puts and gets.
 use Rattle.qfs_base.specs.Table.{Each, change_row, change_where}
 use Rattle.qfs_base.specs.declared.image.TreeRow.{TreeRow}
 use Rattle.std.proofs.Common.{Bool, List, None, Some, [], ap, cond, false, filter, find, map, refl}
