@@ -119,7 +119,7 @@ rows-bare : (servers next : ℕ) (tree : List TreeRow) (file : ℕ)
     → is_some (closed_file file tree) ≡ false → (rows : List SlotRow)
     → Each (RowFits servers next tree) rows
     → Each (λ (row : SlotRow). row.block.file ≡ file → row.state.current ≡ None) rows
-rows-bare servers next tree file open' rows each =
+rows-bare servers next tree file still_open rows each =
     each_weaker (RowFits servers next tree) _
     (λ row f own. none row.state.current
     (subst (λ k. Each (λ (copy : Copy). IsServer servers copy.server × IsTrue
@@ -131,17 +131,18 @@ rows-bare servers next tree file open' rows each =
         (is_some (closed_file file tree))) (option_to_list o)
         → o ≡ None
     none None each = refl
-    none (Some copy) each = absurd (true≢false (sym each.0.1 ∙ open'))
+    none (Some copy) each = absurd (true≢false (sym each.0.1 ∙ still_open))
 
 pub put-apart : (m : MetaImage) (block : BlockId) (failed : List ℕ) (server : ℕ) → Fits m
     → is_some (closed_file block.file m.tree) ≡ false
     → has (barred_for_put m.servers m.slots block failed) server ≡ false
     → copies server (live_servers block m.servers m.slots) ≡ 0
 unfolding barred_for_put
-put-apart m block failed server f open' off =
+put-apart m block failed server f still_open off =
     live-total block server m
     ∙ ap (total (stands_on m.servers server))
-    (bare-copies block m.slots (rows-bare (length m.servers) m.next_lease m.tree block.file open'
+    (bare-copies block m.slots
+    (rows-bare (length m.servers) m.next_lease m.tree block.file still_open
     m.slots f.table.rows))
     ∙ (live-free m.servers (grants_of_block block m.slots) failed server off).1
 

@@ -55,7 +55,7 @@ use Rattle.qfs_laws_meta.specs.OneServer.{KnownLife, OneEach, copies_of, kept-on
 use Rattle.qfs_laws_slots.specs.Changes.{MayAbort, MayClose, MayCondemn, MayGrant, MayMake, told}
 use Rattle.qfs_laws_slots.specs.Condemning.{condemn-cases, condemn_any-frame}
 use Rattle.qfs_laws_slots.specs.Granted.{Granted, granted-has}
-use Rattle.qfs_laws_slots.specs.Lists.{HasRows, IsSome_, leases-ended, leases-given, rows-condemned}
+use Rattle.qfs_laws_slots.specs.Lists.{HasRows, HasOne, leases-ended, leases-given, rows-condemned}
 use Rattle.qfs_laws_slots.specs.Lists.{rows-condemned_any, rows-ended, rows-filtered, rows-given}
 use Rattle.qfs_laws_slots.specs.Lists.{rows-marked}
 use Rattle.qfs_laws_slots.specs.Losing.{IsLosing, losing-frame, stray-frame}
@@ -168,7 +168,7 @@ rows-slots m n a b c d e h = record {
 }
 
 current-small : (m : MetaImage) (block : BlockId) (slot : ℕ) → Fits m → (o : Option Copy)
-    → (slot_at m.slots block slot).current ≡ o → IsSome_ o → slot < 9
+    → (slot_at m.slots block slot).current ≡ o → HasOne o → slot < 9
 unfolding never_granted
 current-small m block slot f None is some = absurd some
 current-small m block slot f (Some copy) is some =
@@ -176,7 +176,7 @@ current-small m block slot f (Some copy) is some =
     copy f.table is
 
 pending-small : (m : MetaImage) (block : BlockId) (slot : ℕ) → Fits m → (o : Option Copy)
-    → granted_copy (slot_at m.slots block slot).grant ≡ o → IsSome_ o → slot < 9
+    → granted_copy (slot_at m.slots block slot).grant ≡ o → HasOne o → slot < 9
 unfolding never_granted granted_copy
 pending-small m block slot f None is some = absurd some
 pending-small m block slot f (Some copy) is some =

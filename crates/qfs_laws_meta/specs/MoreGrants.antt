@@ -266,7 +266,7 @@ put-may actor n block slot server row f counters found small free left who chose
     let c = chosen-is n.servers n.slots
     (barred_for_put n.servers n.slots block (slot_at n.slots block slot).failed) server chosen
     in
-    let open' = not-closed block.file n.tree
+    let still_open = not-closed block.file n.tree
     (unclosed-rows n.next_file block.file _ n.tree row f.tree found u.2 u.1).0 in
     record {
       stands = subst IsTrue (sym (stands-any block.file n.tree))
@@ -275,7 +275,7 @@ put-may actor n block slot server row f counters found small free left who chose
       slot_number = small;
       server_number = c.0;
       free = free;
-      apart = put-apart n block (slot_at n.slots block slot).failed server f open' c.1;
+      apart = put-apart n block (slot_at n.slots block slot).failed server f still_open c.1;
       versions = left;
       is_actor = who;
       lease_given = f.first_lease;

@@ -31,15 +31,15 @@ served rules m a = meta_step rules a.actor a.request a.outcome m
 -- each may be asked when it is
 abbrev pub MayRun : Rules → Past → MetaImage → List Asking → Type 0
 MayRun rules past m [] = ⊤
-MayRun rules past m (a ∷ as') =
+MayRun rules past m (a ∷ rest) =
     IsActor a.actor × MayAsk past a.request × MayRun rules
-    (remember a.actor past (served rules m a).reply) (served rules m a).meta as'
+    (remember a.actor past (served rules m a).reply) (served rules m a).meta rest
 
 -- the state after them keeps to what was told
 abbrev pub EndsSound : Rules → Past → MetaImage → List Asking → Type 0
 EndsSound rules past m [] = IsSound past m
-EndsSound rules past m (a ∷ as') =
-    EndsSound rules (remember a.actor past (served rules m a).reply) (served rules m a).meta as'
+EndsSound rules past m (a ∷ rest) =
+    EndsSound rules (remember a.actor past (served rules m a).reply) (served rules m a).meta rest
 
 with-one : (copy : SlotCopy) (past : Past)
     → length (with_copy copy past).granted ≤ length past.granted + 1
@@ -72,8 +72,8 @@ RunsStaySound =
 
 pub run-sound : RunsStaySound
 run-sound rules past m [] sound short may = sound
-run-sound rules past m (a ∷ as') sound short may =
+run-sound rules past m (a ∷ rest) sound short may =
     let more = one-more a.actor past (served rules m a).reply in
-    run-sound rules (remember a.actor past (served rules m a).reply) (served rules m a).meta as'
+    run-sound rules (remember a.actor past (served rules m a).reply) (served rules m a).meta rest
     (stays-sound rules a.actor a.request a.outcome past m sound (omega arith) may.0 may.1)
     (omega arith) may.2

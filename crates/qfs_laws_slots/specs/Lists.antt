@@ -304,12 +304,12 @@ rows-condemned block slot copy m small is h =
     later : (a : ℕ) → a < m.next_condemned → a < m.next_condemned + 1
     later a l = omega arith
 
-abbrev pub IsSome_ : Option Copy → Type 0
-IsSome_ None = ⊥
-IsSome_ (Some copy) = ⊤
+abbrev pub HasOne : Option Copy → Type 0
+HasOne None = ⊥
+HasOne (Some copy) = ⊤
 
 pub rows-condemned_any : (block : BlockId) (slot : ℕ) (m : MetaImage) (found : Option Copy)
-    → (IsSome_ found → slot < 9)
+    → (HasOne found → slot < 9)
     → Each (λ (copy : Copy). IsServer (length m.servers) copy.server) (option_to_list found)
     → HasRows m → HasRows (condemn_any block slot m found)
 rows-condemned_any block slot m found small is h =
@@ -318,4 +318,4 @@ rows-condemned_any block slot m found small is h =
     (option_to_list (Some copy)) = subst
     (λ o. Each (λ (copy : Copy). IsServer (length m.servers) copy.server) (option_to_list o)) at is
     in
-    rows-condemned block slot copy m (small (subst IsSome_ (sym at) tt)) s.0 h)
+    rows-condemned block slot copy m (small (subst HasOne (sym at) tt)) s.0 h)

@@ -428,7 +428,7 @@ table-forgotten servers next file tree more slots on h = record {
 -- a file that isn't closed has no current copies
 pub bare-of : (m : MetaImage) (file : ℕ) → HasTable (length m.servers) m.next_lease m.tree m.slots
     → is_some (closed_file file m.tree) ≡ false → Bare m file
-bare-of m file h open' block slot own =
+bare-of m file h still_open block slot own =
     none _ (slot-fits (length m.servers) m.next_lease m.tree m.slots block slot h).current
   where
     none : (o : Option Copy)
@@ -437,4 +437,5 @@ bare-of m file h open' block slot own =
         → o ≡ None
     none None each = refl
     none (Some copy) each =
-        absurd (true≢false (sym each.0.1 ∙ ap (λ f. is_some (closed_file f m.tree)) own ∙ open'))
+        absurd (true≢false (sym each.0.1 ∙ ap (λ f. is_some (closed_file f m.tree)) own
+        ∙ still_open))

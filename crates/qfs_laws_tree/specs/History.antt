@@ -215,12 +215,13 @@ unclosed-content : (puts : Puts) (file : ℕ) (row : TreeRow) → 0 < file
     → is_unclosed_content file (content_of puts row (kind_of row.file row.closed)) ≡ (row.file ==
     file)
 unfolding is_unclosed_content content_of
-unclosed-content puts file row some open' =
+unclosed-content puts file row some still_open =
     (elim (row.file == file) as (λ t. (row.file == file) ≡ t → is_unclosed_content file
     (content_of puts row (kind_of row.file row.closed)) ≡ t) [
       | true ↦ λ own.
           let e : row.file ≡ file = eqb-true row.file file own in
-          ap (λ b. is_unclosed_content file (content_of puts row (kind_of row.file b))) (open' e)
+          ap (λ b. is_unclosed_content file (content_of puts row (kind_of row.file b)))
+          (still_open e)
           ∙ ap (λ k. is_unclosed_content file (content_of puts row k))
           (kind-unclosed row.file (omega arith)) ∙ own
       | false ↦ λ off. any_kind (kind_of row.file row.closed) off
@@ -236,13 +237,13 @@ unclosed-same : (puts : Puts) (file : ℕ) (row : TreeRow) → 0 < file
     → (row.file ≡ file → row.closed ≡ false)
     → is_unclosed_entry file (file_entry puts row) ≡ has_file file row
 unfolding is_unclosed_entry file_entry
-unclosed-same puts file row some open' =
+unclosed-same puts file row some still_open =
     one row.file row.closed refl refl ∙ sym (has_file-is file row)
   where
     one : (n : ℕ) (b : Bool) → row.file ≡ n → row.closed ≡ b
         → is_unclosed_content file (content_of puts row
         (kind_of row.file row.closed)) ≡ (row.file == file)
-    one n b p q = unclosed-content puts file row some open'
+    one n b p q = unclosed-content puts file row some still_open
 
 any_entries : (puts : Puts) (file : ℕ) (rows : List TreeRow)
     → Each (λ (row : TreeRow). is_unclosed_entry file (file_entry puts row) ≡ has_file file row)

@@ -284,7 +284,7 @@ tree-closed next file tree some h = record {
       (has_file file) close_row
       (λ row _ lies n low high. still (take n row.path) (lies n low high))
       (λ row _ lies n low high. still (take n row.path) (lies n low high)) tree h.parents;
-  once = λ file'. let o = h.once file' in let e = same file' tree in omega arith;
+  once = λ other. let o = h.once other in let e = same other tree in omega arith;
 }
   where
     still : (parent : PathNames) → HasDirectory tree parent
