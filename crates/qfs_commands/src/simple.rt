@@ -38,15 +38,23 @@ impl SimpleCommand {
         ensures { IfOk result (λ request. request ≡ request_of_simple self.now) }
     {
         let request = match self {
-            SimpleCommand::Mkdir(path) => MetaRequest::Mkdir { path: path.clone()? },
-            SimpleCommand::Rmdir(path) => MetaRequest::Rmdir { path: path.clone()? },
-            SimpleCommand::Remove(path) => MetaRequest::Remove { path: path.clone()? },
+            SimpleCommand::Mkdir(path) => MetaRequest::Mkdir {
+                path: path.clone()?,
+            },
+            SimpleCommand::Rmdir(path) => MetaRequest::Rmdir {
+                path: path.clone()?,
+            },
+            SimpleCommand::Remove(path) => MetaRequest::Remove {
+                path: path.clone()?,
+            },
             SimpleCommand::Rename(from, to) => {
                 let from = from.clone()?;
                 let to = to.clone()?;
                 MetaRequest::Rename { from, to }
             }
-            SimpleCommand::List(path) => MetaRequest::List { path: path.clone()? },
+            SimpleCommand::List(path) => MetaRequest::List {
+                path: path.clone()?,
+            },
             SimpleCommand::Tick => MetaRequest::Tick,
             SimpleCommand::Drop(actor) => MetaRequest::Drop { actor: *actor },
             SimpleCommand::Checkpoint => MetaRequest::Checkpoint,

@@ -7,7 +7,7 @@ use Rattle.qfs_machine.specs.Endings.{ending_of_meta, ending_of_chunk, report_of
 use Rattle.qfs_machine.proofs.Endings.{on_answer-nothing, on_answer-none, on_served-some, on_served-none}
 use Rattle.qfs_machine.specs.declared.ending.Ending.{Ending}
 use Rattle.qfs_model_actor.specs.Ask.{ask, ask_server, on_chunk, on_served}
-use Rattle.qfs_model_actor.specs.Hold.{nothing, unnamed, ask_or, end_with, give_back, on_answer, on_meta}
+use Rattle.qfs_model_actor.specs.Hold.{nothing, ask_or, end_with, give_back, on_answer, on_meta}
 use Rattle.qfs_model_actor.specs.Servers.{stop_work, start_work, wipe_work, hibernate_work, upgrade_work, tell_copies}
 use Rattle.qfs_model_actor.specs.Work.{ends, goes_on, request_in}
 use Rattle.qfs_hiber.specs.Rest.{rest_of_change, report_of_change}
