@@ -1,6 +1,6 @@
 -- How much the actors of a script ask for, with an actor more and with a command more.
-use Rattle.std.proofs.Common.{◌≡◌, ◌⊎◌, ◌∙◌, inl, inr, sym, ap, refl, subst, arith, ℕ, ◌+◌, ◌*◌, ◌<◌, ◌≤◌, List, [], ◌∷◌, ◌++◌, length, Option, Some, None, append_assoc, append-nil, length-append}
-use Rattle.std.specs.Prelude.{flat_map, filter_map, sum_by, replicate, map}
+use Rattle.std.proofs.Common.{◌≡◌, ◌⊎◌, ◌∙◌, inl, inr, sym, ap, refl, subst, arith, ℕ, ◌+◌, ◌<◌, ◌≤◌, List, [], ◌∷◌, ◌++◌, length, Some, None, append_assoc, append-nil, length-append}
+use Rattle.std.specs.Prelude.{flat_map, filter_map, sum_by}
 use Rattle.std.specs.List.{range_with_len, cons_option}
 use Rattle.std.proofs.lemmas.List.{length-replicate}
 use Rattle.std.proofs.lemmas.List.Elements.{filter_map-append}
@@ -78,10 +78,10 @@ recipe_is (Told.Hex bytes) = refl
 recipe_is (Told.Fill byte len) = length-replicate len byte
 recipe_is (Told.Pattern start len) = length-map-range_with_len (pattern_byte start) 0 len
 
-abbrev PutsNothing : Command → Type 0
+abbrev pub PutsNothing : Command → Type 0
 PutsNothing command = (len_put command ≡ None) × (put_len command ≡ 0)
 
-put_told : (command : Command) → (len_put command ≡ Some (put_len command)) ⊎ PutsNothing command
+pub put_told : (command : Command) → (len_put command ≡ Some (put_len command)) ⊎ PutsNothing command
 unfolding len_put put_len
 put_told (Does.File (File.Put path recipe)) = inl (ap (λ (len : ℕ). Some len) (recipe_is recipe))
 put_told (Does.File command) = inr (refl, refl)
@@ -128,8 +128,8 @@ pub puts_more : (front : List (List Command)) (last : List Command) (command : C
 puts_more front last command =
     ap (filter_map len_put)
     (flat_push front (last ++ command ∷ [])
-        ∙ sym (append_assoc (flat_map (λ commands. commands) front) last (command ∷ []))
-        ∙ ap (λ all. all ++ command ∷ []) (sym (flat_push front last)))
+    ∙ sym (append_assoc (flat_map (λ commands. commands) front) last (command ∷ []))
+    ∙ ap (λ all. all ++ command ∷ []) (sym (flat_push front last)))
     ∙ filter_map-append len_put (flat_map (λ commands. commands) (front ++ last ∷ [])) (command ∷ [])
 
 module _ (layout : Shape) (servers : ℕ) (front : List (List Command)) (last : List Command) (command : Command) (count blocks bytes : ℕ) where

@@ -1,15 +1,15 @@
 -- The bytes of a file's chunks, told at once and block by block.
-use Rattle.std.proofs.Common.{◌≡◌, ◌∙◌, sym, ap, refl, arith, ℕ, zero, suc, ◌+◌, ◌-◌, ◌*◌, ◌/◌, ◌%◌, ◌<◌, ◌≤◌, min, List, [], ◌∷◌}
+use Rattle.std.proofs.Common.{◌≡◌, ◌∙◌, sym, ap, refl, arith, ℕ, zero, suc, ◌+◌, ◌-◌, ◌*◌, ◌/◌, ◌%◌, ◌<◌, ◌≤◌, min, []}
 use Rattle.std.proofs.Math.Nat.{mul_comm, mul-pos, mul-le-mul_right, mul-div-le, mul-div_cancel_left, mul-mod_right, zero-div, zero-mod, mod-eq-sub-div-mul, mod-lt}
 use Rattle.std.specs.Prelude.{sum_by}
 use Rattle.std.specs.Int.{div_ceil}
 use Rattle.std.specs.List.{range_with_len}
 use Rattle.std.proofs.lemmas.List.Sums.{sum_by-cons}
-use Rattle.qfs_base.specs.Layout.{row_bytes, block_bytes, bytes_in_block, rows_of}
+use Rattle.qfs_base.specs.Layout.{row_bytes, block_bytes}
 use Rattle.qfs_base.specs.Shape.{Shape}
 use Rattle.qfs_base.specs.Sizes.{SLOTS}
 use Rattle.qfs_model_script.specs.InScript.{blocks_in, chunk_bytes_in, chunk_bytes_of_block}
-use Rattle.qfs_model_grammar.specs.SoFar.{chunk_rows, chunk_bytes_of}
+use Rattle.qfs_model_grammar.specs.SoFar.{chunk_bytes_of}
 
 -- so many equal terms and one more
 sum_equal : (term : ℕ → ℕ) (each last : ℕ) (from count : ℕ) → ((k : ℕ) → from ≤ k → k < from + count → term k ≡ each) → term (from + count) ≡ last
@@ -90,7 +90,7 @@ module _ (layout : Shape) (len : ℕ) (stripe : 1 ≤ layout.s) (some : 1 ≤ la
       ∙ all_equal (chunk_bytes_of_block layout len) whole 0 (len / block) of_whole
       ∙ together (len / block) layout.r layout.s
       ∙ sym (ap (λ rest. SLOTS * ((len / block * layout.r + div_ceil rest row) * layout.s)) none
-          ∙ ap (λ rows. SLOTS * ((len / block * layout.r + rows) * layout.s)) (no_rows row))
+      ∙ ap (λ rows. SLOTS * ((len / block * layout.r + rows) * layout.s)) (no_rows row))
     where
       together : (q r s : ℕ) → q * (SLOTS * (r * s)) ≡ SLOTS * ((q * r + 0) * s)
       together q r s = grind arith

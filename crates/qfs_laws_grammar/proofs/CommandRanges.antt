@@ -1,16 +1,13 @@
 -- The ranges of what command lines say.
-use Rattle.std.proofs.Common.{◌≡◌, ℕ, ◌-◌, ◌≤◌, ◌<◌, arith, List, [], ◌∷◌, length, get_or, Some, None, Ok}
-use Rattle.std.specs.Prelude.{⊤, IfOk, slice_index, codes, if◌then◌else◌, cond, Bool, true, false}
+use Rattle.std.proofs.Common.{ℕ, ◌-◌, ◌≤◌, arith, List, [], ◌∷◌}
+use Rattle.std.specs.Prelude.{⊤, IfOk, slice_index, codes, if◌then◌else◌, Bool, true, false}
 use Rattle.std.specs.Str.{bytes_eq}
 use Rattle.qfs_base.specs.NameTree.{PathNames}
 use Rattle.qfs_base.specs.Path.{IsPath}
 use Rattle.qfs_base.specs.Sizes.{SLOTS, MOST_FILE_BYTES, LAST_U32}
-use Rattle.qfs_base.specs.Table.{Each}
 use Rattle.qfs_base.specs.declared.command.Command.{Command}
 use Rattle.qfs_base.specs.declared.command.Command.TheVariants as Does
 use Rattle.qfs_base.specs.declared.command.FileCommand.TheVariants as File
-use Rattle.qfs_base.specs.declared.recipe.Form.TheVariants as Told
-use Rattle.qfs_base.specs.declared.script.ScriptCause.TheVariants as Cause
 use Rattle.qfs_model_script.specs.InScript.{IsCommand, IsBudget, IsFromOne, IsIndex, IsSlot, IsByte, IsTicks, IsActorNumber}
 use Rattle.qfs_model_script.specs.Limits.{MOST_ACTORS, LAST_INDEX, MOST_BUDGET, MOST_TICKS}
 use Rattle.qfs_model_text.specs.Line.{Words}
@@ -85,7 +82,7 @@ module _ (servers : ℕ) where
   rename_commands words =
       words_then Is (two_words words) _
       (λ words. gives Path Is (path_in words.0) _ (path_gives words.0)
-          (λ from is_from. gives Path Is (path_in words.1) _ (path_gives words.1) (λ to is_to. (is_from, is_to))))
+      (λ from is_from. gives Path Is (path_in words.1) _ (path_gives words.1) (λ to is_to. (is_from, is_to))))
 
   whole_gets : (word : List ℕ) → IfOk (get_whole word) Is
   unfolding get_whole
@@ -96,8 +93,8 @@ module _ (servers : ℕ) where
   range_gets word from count =
       gives Path Is (path_in word) _ (path_gives word)
       (λ path is. gives (λ len. len ≤ MOST_FILE_BYTES) Is (len_in from) _ (len_gives from)
-          (λ first low. gives (λ len. len ≤ MOST_FILE_BYTES) Is (len_in count) _ (len_gives count)
-              (λ many few. (is, (low, few)))))
+      (λ first low. gives (λ len. len ≤ MOST_FILE_BYTES) Is (len_in count) _ (len_gives count)
+      (λ many few. (is, (low, few)))))
 
   get_commands : (words : Words) → IfOk (get_command words) Is
   unfolding get_command
@@ -112,8 +109,8 @@ module _ (servers : ℕ) where
   hex_puts path words =
       words_then Is (one_word words) _
       (λ digits. gives Path Is (path_in path) _ (path_gives path)
-          (λ names is. gives (AreBytes 1 32) Is (bytes_in 1 32 digits) _ (bytes_give 1 32 digits)
-              (λ bytes are. (is, (are.enough, are.few), are.each))))
+      (λ names is. gives (AreBytes 1 32) Is (bytes_in 1 32 digits) _ (bytes_give 1 32 digits)
+      (λ bytes are. (is, (are.enough, are.few), are.each))))
 
   first_byte : (bytes : List ℕ) → AreBytes 1 1 bytes → IsByte (slice_index bytes 0)
   first_byte [] are = absurd (omega (arith, are.enough))
@@ -124,18 +121,18 @@ module _ (servers : ℕ) where
   fill_puts path words =
       words_then Is (two_words words) _
       (λ words. gives Path Is (path_in path) _ (path_gives path)
-          (λ names is. gives (AreBytes 1 1) Is (bytes_in 1 1 words.0) _ (bytes_give 1 1 words.0)
-              (λ bytes are. gives (λ len. len ≤ MOST_FILE_BYTES) Is (len_in words.1) _ (len_gives words.1)
-                  (λ len few. (is, few, first_byte bytes are)))))
+      (λ names is. gives (AreBytes 1 1) Is (bytes_in 1 1 words.0) _ (bytes_give 1 1 words.0)
+      (λ bytes are. gives (λ len. len ≤ MOST_FILE_BYTES) Is (len_in words.1) _ (len_gives words.1)
+      (λ len few. (is, few, first_byte bytes are)))))
 
   pattern_puts : (path : List ℕ) (words : Words) → IfOk (pattern_put path words) Is
   unfolding pattern_put
   pattern_puts path words =
       words_then Is (two_words words) _
       (λ words. gives Path Is (path_in path) _ (path_gives path)
-          (λ names is. gives (IsIn 0 LAST_U32) Is (number_in 0 LAST_U32 words.0) _ (number_gives 0 LAST_U32 words.0)
-              (λ start fits. gives (λ len. len ≤ MOST_FILE_BYTES) Is (len_in words.1) _ (len_gives words.1)
-                  (λ len few. (is, few, omega (arith, fits.1))))))
+      (λ names is. gives (IsIn 0 LAST_U32) Is (number_in 0 LAST_U32 words.0) _ (number_gives 0 LAST_U32 words.0)
+      (λ start fits. gives (λ len. len ≤ MOST_FILE_BYTES) Is (len_in words.1) _ (len_gives words.1)
+      (λ len few. (is, few, omega (arith, fits.1))))))
 
   either : (test : Bool) (first second : Said Command) → IfOk first Is → IfOk second Is → IfOk (if test then first else second) Is
   either true first second of_first of_second = of_first
@@ -155,32 +152,32 @@ module _ (servers : ℕ) where
   recover_commands words =
       words_then Is (three_words words) _
       (λ words. gives Path Is (path_in words.0) _ (path_gives words.0)
-          (λ path is. gives IsIndex Is (index_in words.1) _ (index_gives words.1)
-              (λ index low. gives IsSlot Is (slot_in words.2) _ (slot_gives words.2) (λ slot few. (is, low, few)))))
+      (λ path is. gives IsIndex Is (index_in words.1) _ (index_gives words.1)
+      (λ index low. gives IsSlot Is (slot_in words.2) _ (slot_gives words.2) (λ slot few. (is, low, few)))))
 
   move_commands : (words : Words) → IfOk (move_command servers words) Is
   unfolding move_command
   move_commands words =
       words_then Is (four_words words) _
       (λ words. gives Path Is (path_in words.0) _ (path_gives words.0)
-          (λ path is. gives IsIndex Is (index_in words.1) _ (index_gives words.1)
-              (λ index low. gives IsSlot Is (slot_in words.2) _ (slot_gives words.2)
-                  (λ slot few. gives (IsFromOne servers) Is (server_in servers words.3) _ (server_gives servers words.3)
-                      (λ server there. (is, low, few, there))))))
+      (λ path is. gives IsIndex Is (index_in words.1) _ (index_gives words.1)
+      (λ index low. gives IsSlot Is (slot_in words.2) _ (slot_gives words.2)
+      (λ slot few. gives (IsFromOne servers) Is (server_in servers words.3) _ (server_gives servers words.3)
+      (λ server there. (is, low, few, there))))))
 
   evacuate_commands : (words : Words) → IfOk (evacuate_command servers words) Is
   unfolding evacuate_command
   evacuate_commands words =
       words_then Is (two_words words) _
       (λ words. gives (IsFromOne servers) Is (server_in servers words.0) _ (server_gives servers words.0)
-          (λ server there. gives IsBudget Is (budget_in words.1) _ (budget_gives words.1) (λ budget few. (there, few))))
+      (λ server there. gives IsBudget Is (budget_in words.1) _ (budget_gives words.1) (λ budget few. (there, few))))
 
   hibernate_commands : (words : Words) → IfOk (hibernate_command servers words) Is
   unfolding hibernate_command
   hibernate_commands words =
       words_then Is (two_words words) _
       (λ words. gives (IsFromOne servers) Is (server_in servers words.0) _ (server_gives servers words.0)
-          (λ server there. gives IsTicks Is (number_in 1 MOST_TICKS words.1) _ (number_gives 1 MOST_TICKS words.1) (λ ticks few. (there, few))))
+      (λ server there. gives IsTicks Is (number_in 1 MOST_TICKS words.1) _ (number_gives 1 MOST_TICKS words.1) (λ ticks few. (there, few))))
 
   drop_commands : (words : Words) → IfOk (drop_command words) Is
   unfolding drop_command

@@ -1,19 +1,17 @@
 -- What is read of a text is a script, for the law of qfs_model_grammar.
-use Rattle.std.proofs.Common.{◌≡◌, refl, ap, ℕ, ◌+◌, Bool, true, false, List, [], ◌∷◌, length, Option, Some, None, Result, Ok, Err}
+use Rattle.std.proofs.Common.{◌≡◌, refl, ℕ, ◌+◌, Bool, true, false, List, [], ◌∷◌, length, Option, Some, None, Ok, Err}
 use Rattle.std.specs.Prelude.{⊤, IfOk, IsSome, ok_or, nat_le, not, is_none, ◌&&◌, if◌then◌else◌}
-use Rattle.qfs_base.specs.declared.script.Script.{Script}
 use Rattle.qfs_base.specs.declared.script.ScriptCause.TheVariants as Cause
 use Rattle.qfs_base.specs.declared.history.Step.{Step}
 use Rattle.qfs_model_script.specs.Limits.{MOST_TEXT_BYTES, MOST_LINES}
 use Rattle.qfs_model_text.specs.Line.{Words}
-use Rattle.qfs_model_grammar.specs.FirstWord.{FirstWord}
 use Rattle.qfs_model_grammar.specs.FirstWords.{first_word, may_stand, may_be_last}
 use Rattle.qfs_model_grammar.specs.Laws.{IsRead, GivesScripts}
 use Rattle.qfs_model_grammar.specs.LinePlace.{LinePlace}
 use Rattle.qfs_model_grammar.specs.Lines.{text_lines, is_text, line_words, begins_remark}
-use Rattle.qfs_model_grammar.specs.ReadScript.{BadLine, at_line, first_in, first_and_more, read_words, read_line, read_lines, whole_script, script_of_lines, read_script}
+use Rattle.qfs_model_grammar.specs.ReadScript.{at_line, first_in, first_and_more, read_words, read_line, read_lines, whole_script, script_of_lines, read_script}
 use Rattle.qfs_model_grammar.specs.Said.{Said, ◌>>=◌, if_kept}
-use Rattle.qfs_model_grammar.specs.SoFar.{SoFar, nothing_yet, take_line}
+use Rattle.qfs_model_grammar.specs.SoFar.{SoFar, nothing_yet}
 use Rattle.qfs_laws_grammar.proofs.Sound.{Sound, sound_start, line_sound, script_of}
 use Rattle.qfs_laws_grammar.proofs.Steps.{gives, gives_kept, gives_any, given}
 
@@ -45,7 +43,7 @@ unfolding read_line
 read_sound so number line sound =
     gives (λ text. ⊤) Sound (if_kept (is_text line) Cause.NotText line) _ (gives_any (if_kept (is_text line) Cause.NotText line))
     (λ text known. gives Sound Sound (read_words so (line_words text)) _ (words_sound so (line_words text) sound)
-        (λ next holds. gives_kept Sound (nat_le number MOST_LINES) Cause.Limit next (λ few. holds)))
+    (λ next holds. gives_kept Sound (nat_le number MOST_LINES) Cause.Limit next (λ few. holds)))
 
 -- ---- all lines
 

@@ -9,3 +9,6 @@ pub mod GivesScripts
 pub mod PlainWords
 pub mod PrintedWords
 pub mod PrintedCommands
+pub mod PrintedOrder
+pub mod Through
+pub mod ReadsBack

@@ -1,8 +1,7 @@
 -- Facts on lists of lists, as a script has them.
-use Rattle.std.proofs.Common.{◌≡◌, ◌∙◌, sym, ap, refl, subst, arith, ℕ, ◌+◌, ◌≤◌, List, [], ◌∷◌, ◌++◌, length, append_assoc, append-nil}
+use Rattle.std.proofs.Common.{◌≡◌, ◌∙◌, ap, refl, arith, ◌≤◌, List, [], ◌∷◌, ◌++◌, length, append-nil}
 use Rattle.std.specs.Prelude.{flat_map}
 use Rattle.std.proofs.lemmas.List.Concat.{flat_map-append}
-use Rattle.qfs_base.specs.EachLaws.{each_append}
 use Rattle.qfs_base.specs.Table.{Each}
 use Rattle.qfs_model_grammar.specs.SoFar.{change_last}
 

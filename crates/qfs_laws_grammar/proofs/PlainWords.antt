@@ -1,12 +1,12 @@
 -- Lines of plain words: what a line says is its words, and a text of such lines is its lines.
-use Rattle.std.proofs.Common.{◌≡◌, ◌∙◌, sym, ap, refl, subst, arith, ℕ, ◌+◌, ◌<◌, ◌≤◌, Bool, true, false, ◌&&◌, not, cond, List, [], ◌∷◌, ◌++◌, length, append_assoc, append-nil, length-append}
+use Rattle.std.proofs.Common.{◌≡◌, ◌∙◌, ap, refl, arith, ℕ, ◌≤◌, Bool, true, false, ◌&&◌, not, cond, List, [], ◌∷◌, ◌++◌, length, append_assoc, append-nil}
 use Rattle.std.specs.Prelude.{All, nat_le, ◌==◌, filter, flat_map}
 use Rattle.std.specs.List.{slice_split, list_all}
-use Rattle.std.proofs.lemmas.Bool.{leb-true, le-leb, and_parts, and_from, ne_eqb, cond-true}
-use Rattle.std.proofs.lemmas.List.Splits.{slice_split_at, slice_split_none, length-slice_split}
+use Rattle.std.proofs.lemmas.Bool.{leb-true, le-leb, and_parts, and_from, ne_eqb}
+use Rattle.std.proofs.lemmas.List.Splits.{slice_split_at, slice_split_none}
 use Rattle.qfs_base.specs.EachLaws.{each_append, each_weaker, each_all}
 use Rattle.qfs_base.specs.Table.{Each}
-use Rattle.qfs_model_text.specs.Line.{Words, more_words, spaced, line}
+use Rattle.qfs_model_text.specs.Line.{Words, more_words}
 use Rattle.qfs_model_grammar.specs.Lines.{is_line_end, is_blank, is_text_byte, is_text, is_word, line_words, text_lines, without_empty_end}
 
 -- ---- words
@@ -99,7 +99,7 @@ pub line_has_no_end : (word : List ℕ) (words : Words) → IsPlain word → Eac
 line_has_no_end word words is are =
     each_all (λ byte. is_line_end byte ≡ false) (word ++ more_words words)
     (each_weaker IsLineByte (λ byte. is_line_end byte ≡ false) (λ byte in_line. ne_eqb byte 10 (λ same. omega (arith, same, in_line.0)))
-        (word ++ more_words words) (line_bytes word words is are))
+    (word ++ more_words words) (line_bytes word words is are))
 
 -- each of these lines with its end
 abbrev pub ended : List (List ℕ) → List ℕ

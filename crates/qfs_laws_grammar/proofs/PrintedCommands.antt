@@ -1,7 +1,6 @@
 -- The line of each command as it is printed, and that it is read back.
-use Rattle.std.proofs.Common.{◌≡◌, ◌∙◌, sym, ap, refl, subst, arith, ℕ, ◌-◌, ◌<◌, ◌≤◌, ◌^◌, Bool, true, false, List, [], ◌∷◌, ◌++◌, length, Option, Some, None, Result, Ok, Err}
-use Rattle.std.specs.Prelude.{decimal, codes, slice_index, if◌then◌else◌}
-use Rattle.std.specs.Str.{bytes_eq}
+use Rattle.std.proofs.Common.{◌≡◌, ◌∙◌, ap, refl, arith, ℕ, ◌-◌, ◌<◌, ◌≤◌, ◌^◌, false, List, [], ◌∷◌, Some, None, Ok}
+use Rattle.std.specs.Prelude.{decimal, codes, slice_index}
 use Rattle.hex.specs.Hex.{encode_lower}
 use Rattle.qfs_base.specs.NameTree.{PathNames}
 use Rattle.qfs_base.specs.Path.{IsPath, path_text}
@@ -15,8 +14,7 @@ use Rattle.qfs_base.specs.declared.command.FileCommand.TheVariants as File
 use Rattle.qfs_base.specs.declared.command.Range.{Range}
 use Rattle.qfs_base.specs.declared.recipe.Form.{Form}
 use Rattle.qfs_base.specs.declared.recipe.Form.TheVariants as Told
-use Rattle.qfs_base.specs.declared.script.ScriptCause.TheVariants as Cause
-use Rattle.qfs_model_script.specs.InScript.{IsCommand, IsFileCommand, IsRange, HasBytes, IsByte, IsIndex, IsSlot, IsFromOne, IsBudget, IsTicks, IsActorNumber}
+use Rattle.qfs_model_script.specs.InScript.{IsCommand, IsFileCommand, IsRange, HasBytes, IsIndex, IsSlot, IsFromOne, IsBudget, IsTicks, IsActorNumber}
 use Rattle.qfs_model_script.specs.Limits.{MOST_ACTORS, LAST_INDEX, MOST_BUDGET, MOST_TICKS}
 use Rattle.qfs_model_script.specs.ScriptText.{recipe_words, range_words, file_command_line, command_line}
 use Rattle.qfs_model_text.specs.Line.{Words, line}
@@ -192,49 +190,73 @@ spelled word first is found no_remark = record { plain = is; first = found; no_r
 file_told : (servers : ℕ) (command : FileCommand) → IsFileCommand command → Tells servers (Does.File command) (file_command_line command)
 unfolding file_command_line range_words command_of first_word begins_remark
 file_told servers (File.Mkdir path) is = record {
-  word = codes "mkdir"; words = path_text path ∷ []; kind = Word.Mkdir; is = refl;
+  word = codes "mkdir";
+  words = path_text path ∷ [];
+  kind = Word.Mkdir;
+  is = refl;
   spelled = spelled (codes "mkdir") (First.Command Word.Mkdir) (plain (codes "mkdir") refl) refl refl;
   plain = (plain_path path is, tt);
   says = path_says (λ path. Does.File (File.Mkdir path)) path is;
 }
 file_told servers (File.Rmdir path) is = record {
-  word = codes "rmdir"; words = path_text path ∷ []; kind = Word.Rmdir; is = refl;
+  word = codes "rmdir";
+  words = path_text path ∷ [];
+  kind = Word.Rmdir;
+  is = refl;
   spelled = spelled (codes "rmdir") (First.Command Word.Rmdir) (plain (codes "rmdir") refl) refl refl;
   plain = (plain_path path is, tt);
   says = path_says (λ path. Does.File (File.Rmdir path)) path is;
 }
 file_told servers (File.Remove path) is = record {
-  word = codes "remove"; words = path_text path ∷ []; kind = Word.Remove; is = refl;
+  word = codes "remove";
+  words = path_text path ∷ [];
+  kind = Word.Remove;
+  is = refl;
   spelled = spelled (codes "remove") (First.Command Word.Remove) (plain (codes "remove") refl) refl refl;
   plain = (plain_path path is, tt);
   says = path_says (λ path. Does.File (File.Remove path)) path is;
 }
 file_told servers (File.Rename from to) is = record {
-  word = codes "rename"; words = path_text from ∷ path_text to ∷ []; kind = Word.Rename; is = refl;
+  word = codes "rename";
+  words = path_text from ∷ path_text to ∷ [];
+  kind = Word.Rename;
+  is = refl;
   spelled = spelled (codes "rename") (First.Command Word.Rename) (plain (codes "rename") refl) refl refl;
   plain = (plain_path from is.0, (plain_path to is.1, tt));
   says = rename_says from to is.0 is.1;
 }
 file_told servers (File.List path) is = record {
-  word = codes "list"; words = path_text path ∷ []; kind = Word.List; is = refl;
+  word = codes "list";
+  words = path_text path ∷ [];
+  kind = Word.List;
+  is = refl;
   spelled = spelled (codes "list") (First.Command Word.List) (plain (codes "list") refl) refl refl;
   plain = (plain_path path is, tt);
   says = path_says (λ path. Does.File (File.List path)) path is;
 }
 file_told servers (File.Put path recipe) is = record {
-  word = codes "put"; words = path_text path ∷ recipe_words recipe; kind = Word.Put; is = refl;
+  word = codes "put";
+  words = path_text path ∷ recipe_words recipe;
+  kind = Word.Put;
+  is = refl;
   spelled = spelled (codes "put") (First.Command Word.Put) (plain (codes "put") refl) refl refl;
   plain = (plain_path path is.0, plain_recipe recipe is.1 is.2);
   says = put_says path recipe is.0 is.1 is.2;
 }
 file_told servers (File.Get path None) is = record {
-  word = codes "get"; words = path_text path ∷ []; kind = Word.Get; is = refl;
+  word = codes "get";
+  words = path_text path ∷ [];
+  kind = Word.Get;
+  is = refl;
   spelled = spelled (codes "get") (First.Command Word.Get) (plain (codes "get") refl) refl refl;
   plain = (plain_path path is.0, tt);
   says = whole_says path is.0;
 }
 file_told servers (File.Get path (Some range)) is = record {
-  word = codes "get"; words = path_text path ∷ decimal range.from ∷ decimal range.count ∷ []; kind = Word.Get; is = refl;
+  word = codes "get";
+  words = path_text path ∷ decimal range.from ∷ decimal range.count ∷ [];
+  kind = Word.Get;
+  is = refl;
   spelled = spelled (codes "get") (First.Command Word.Get) (plain (codes "get") refl) refl refl;
   plain = (plain_path path is.0, (plain_to MOST_FILE_BYTES range.from is.1.0 (omega arith), (plain_to MOST_FILE_BYTES range.count is.1.1 (omega arith), tt)));
   says = range_says path range is.0 is.1;
@@ -255,91 +277,136 @@ module _ (servers : ℕ) (fits : servers < 2 ^ 64) where
   unfolding command_line command_of first_word begins_remark
   command_told (Does.File command) is = file_told servers command is
   command_told (Does.Recover path index slot) is = record {
-    word = codes "recover"; words = path_text path ∷ decimal index ∷ decimal slot ∷ []; kind = Word.Recover; is = refl;
+    word = codes "recover";
+    words = path_text path ∷ decimal index ∷ decimal slot ∷ [];
+    kind = Word.Recover;
+    is = refl;
     spelled = spelled (codes "recover") (First.Command Word.Recover) (plain (codes "recover") refl) refl refl;
     plain = (plain_path path is.0, (plain_to LAST_INDEX index is.1 (omega arith), (plain_slot slot is.2, tt)));
     says = recover_says path index slot is.0 is.1 is.2;
   }
   command_told (Does.Move path index slot server) is = record {
-    word = codes "move"; words = path_text path ∷ decimal index ∷ decimal slot ∷ decimal server ∷ []; kind = Word.Move; is = refl;
+    word = codes "move";
+    words = path_text path ∷ decimal index ∷ decimal slot ∷ decimal server ∷ [];
+    kind = Word.Move;
+    is = refl;
     spelled = spelled (codes "move") (First.Command Word.Move) (plain (codes "move") refl) refl refl;
     plain = (plain_path path is.0, (plain_to LAST_INDEX index is.1 (omega arith), (plain_slot slot is.2, (plain_server server is.3, tt))));
     says = move_says servers path index slot server fits is.0 is.1 is.2 is.3;
   }
   command_told (Does.Heal budget) is = record {
-    word = codes "heal"; words = decimal budget ∷ []; kind = Word.Heal; is = refl;
+    word = codes "heal";
+    words = decimal budget ∷ [];
+    kind = Word.Heal;
+    is = refl;
     spelled = spelled (codes "heal") (First.Command Word.Heal) (plain (codes "heal") refl) refl refl;
     plain = (plain_budget budget is, tt);
     says = budget_says (λ budget. Does.Heal budget) budget is;
   }
   command_told (Does.Rebalance budget) is = record {
-    word = codes "rebalance"; words = decimal budget ∷ []; kind = Word.Rebalance; is = refl;
+    word = codes "rebalance";
+    words = decimal budget ∷ [];
+    kind = Word.Rebalance;
+    is = refl;
     spelled = spelled (codes "rebalance") (First.Command Word.Rebalance) (plain (codes "rebalance") refl) refl refl;
     plain = (plain_budget budget is, tt);
     says = budget_says (λ budget. Does.Rebalance budget) budget is;
   }
   command_told (Does.Evacuate server budget) is = record {
-    word = codes "evacuate"; words = decimal server ∷ decimal budget ∷ []; kind = Word.Evacuate; is = refl;
+    word = codes "evacuate";
+    words = decimal server ∷ decimal budget ∷ [];
+    kind = Word.Evacuate;
+    is = refl;
     spelled = spelled (codes "evacuate") (First.Command Word.Evacuate) (plain (codes "evacuate") refl) refl refl;
     plain = (plain_server server is.0, (plain_budget budget is.1, tt));
     says = evacuate_says servers server budget fits is.0 is.1;
   }
   command_told (Does.Sweep budget) is = record {
-    word = codes "sweep"; words = decimal budget ∷ []; kind = Word.Sweep; is = refl;
+    word = codes "sweep";
+    words = decimal budget ∷ [];
+    kind = Word.Sweep;
+    is = refl;
     spelled = spelled (codes "sweep") (First.Command Word.Sweep) (plain (codes "sweep") refl) refl refl;
     plain = (plain_budget budget is, tt);
     says = budget_says (λ budget. Does.Sweep budget) budget is;
   }
   command_told (Does.Stop server) is = record {
-    word = codes "stop"; words = decimal server ∷ []; kind = Word.Stop; is = refl;
+    word = codes "stop";
+    words = decimal server ∷ [];
+    kind = Word.Stop;
+    is = refl;
     spelled = spelled (codes "stop") (First.Command Word.Stop) (plain (codes "stop") refl) refl refl;
     plain = (plain_server server is, tt);
     says = server_says servers (λ server. Does.Stop server) server fits is;
   }
   command_told (Does.Start server) is = record {
-    word = codes "start"; words = decimal server ∷ []; kind = Word.Start; is = refl;
+    word = codes "start";
+    words = decimal server ∷ [];
+    kind = Word.Start;
+    is = refl;
     spelled = spelled (codes "start") (First.Command Word.Start) (plain (codes "start") refl) refl refl;
     plain = (plain_server server is, tt);
     says = server_says servers (λ server. Does.Start server) server fits is;
   }
   command_told (Does.Wipe server) is = record {
-    word = codes "wipe"; words = decimal server ∷ []; kind = Word.Wipe; is = refl;
+    word = codes "wipe";
+    words = decimal server ∷ [];
+    kind = Word.Wipe;
+    is = refl;
     spelled = spelled (codes "wipe") (First.Command Word.Wipe) (plain (codes "wipe") refl) refl refl;
     plain = (plain_server server is, tt);
     says = server_says servers (λ server. Does.Wipe server) server fits is;
   }
   command_told (Does.Hibernate server ticks) is = record {
-    word = codes "hibernate"; words = decimal server ∷ decimal ticks ∷ []; kind = Word.Hibernate; is = refl;
+    word = codes "hibernate";
+    words = decimal server ∷ decimal ticks ∷ [];
+    kind = Word.Hibernate;
+    is = refl;
     spelled = spelled (codes "hibernate") (First.Command Word.Hibernate) (plain (codes "hibernate") refl) refl refl;
     plain = (plain_server server is.0, (plain_to MOST_TICKS ticks is.1.1 (omega arith), tt));
     says = hibernate_says servers server ticks fits is.0 is.1;
   }
   command_told (Does.Upgrade server) is = record {
-    word = codes "upgrade"; words = decimal server ∷ []; kind = Word.Upgrade; is = refl;
+    word = codes "upgrade";
+    words = decimal server ∷ [];
+    kind = Word.Upgrade;
+    is = refl;
     spelled = spelled (codes "upgrade") (First.Command Word.Upgrade) (plain (codes "upgrade") refl) refl refl;
     plain = (plain_server server is, tt);
     says = server_says servers (λ server. Does.Upgrade server) server fits is;
   }
   command_told Does.Tick is = record {
-    word = codes "tick"; words = []; kind = Word.Tick; is = refl;
+    word = codes "tick";
+    words = [];
+    kind = Word.Tick;
+    is = refl;
     spelled = spelled (codes "tick") (First.Command Word.Tick) (plain (codes "tick") refl) refl refl;
     plain = tt;
     says = bare_says Does.Tick;
   }
   command_told (Does.Drop actor) is = record {
-    word = codes "drop"; words = decimal actor ∷ []; kind = Word.Drop; is = refl;
+    word = codes "drop";
+    words = decimal actor ∷ [];
+    kind = Word.Drop;
+    is = refl;
     spelled = spelled (codes "drop") (First.Command Word.Drop) (plain (codes "drop") refl) refl refl;
     plain = (plain_to MOST_ACTORS actor is.1 (omega arith), tt);
     says = drop_says actor is;
   }
   command_told Does.Checkpoint is = record {
-    word = codes "checkpoint"; words = []; kind = Word.Checkpoint; is = refl;
+    word = codes "checkpoint";
+    words = [];
+    kind = Word.Checkpoint;
+    is = refl;
     spelled = spelled (codes "checkpoint") (First.Command Word.Checkpoint) (plain (codes "checkpoint") refl) refl refl;
     plain = tt;
     says = bare_says Does.Checkpoint;
   }
   command_told Does.Restart is = record {
-    word = codes "restart"; words = []; kind = Word.Restart; is = refl;
+    word = codes "restart";
+    words = [];
+    kind = Word.Restart;
+    is = refl;
     spelled = spelled (codes "restart") (First.Command Word.Restart) (plain (codes "restart") refl) refl refl;
     plain = tt;
     says = bare_says Does.Restart;

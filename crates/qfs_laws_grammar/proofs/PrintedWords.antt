@@ -1,17 +1,15 @@
 -- The words of a script as they are printed: each is plain, and is read back.
-use Rattle.std.proofs.Common.{◌≡◌, ◌∙◌, sym, ap, refl, subst, arith, ℕ, zero, suc, ◌+◌, ◌-◌, ◌*◌, ◌/◌, ◌%◌, ◌<◌, ◌≤◌, ◌^◌, Bool, true, false, ◌&&◌, List, [], ◌∷◌, ◌++◌, length, get_or, Option, Some, None, Result, Ok, Err, append_assoc, length-append}
-use Rattle.std.specs.Prelude.{All, nat_le, ok_or, decimal, codes, slice_index, IsTrue}
+use Rattle.std.proofs.Common.{◌≡◌, ◌∙◌, sym, ap, refl, arith, ℕ, zero, suc, ◌/◌, ◌%◌, ◌<◌, ◌≤◌, ◌^◌, List, [], ◌∷◌, length, Option, Result, Ok}
+use Rattle.std.specs.Prelude.{All, ok_or, decimal, slice_index}
 use Rattle.std.specs.Int.{is_power_of_two}
-use Rattle.std.specs.List.{list_all}
 use Rattle.std.specs.Result.{result_ok}
-use Rattle.std.proofs.lemmas.Bool.{and_parts, leb-true}
 use Rattle.std.proofs.lemmas.Fmt.{decimal_nonempty}
 use Rattle.std.proofs.lemmas.List.Elements.{All-head, All-tail}
-use Rattle.hex.specs.Hex.{encode_with, encode_lower, lower_digits, decode_of, IsBytes}
+use Rattle.hex.specs.Hex.{encode_with, encode_lower, lower_digits, IsBytes}
 use Rattle.hex.specs.declared.error.FromHexError.{FromHexError}
 use Rattle.hex.proofs.HexLemmas.{length-encode_with, decode_of-encode_lower}
 use Rattle.qfs_base.specs.EachLaws.{each_append, each_weaker, each_all}
-use Rattle.qfs_base.specs.Path.{IsName, IsNameByte, IsPath, names_text, path_text, slash}
+use Rattle.qfs_base.specs.Path.{IsName, IsNameByte, IsPath, names_text, path_text}
 use Rattle.qfs_base.specs.Shape.{IsStripe}
 use Rattle.qfs_base.specs.Table.{Each}
 use Rattle.qfs_base.specs.declared.script.ScriptCause.TheVariants as Cause
@@ -20,7 +18,7 @@ use Rattle.qfs_lexer.proofs.NumberTexts.{number_within}
 use Rattle.qfs_lexer.proofs.PathWords.{spelled_by}
 use Rattle.qfs_model_text.proofs.WordsApart.{IsDigit, digits_of}
 use Rattle.qfs_model_script.specs.InScript.{IsByte}
-use Rattle.qfs_model_grammar.specs.Kinds.{number_in, stripe_in, path_of, path_in, bytes_in}
+use Rattle.qfs_model_grammar.specs.Kinds.{number_in, stripe_in, path_in, bytes_in}
 use Rattle.qfs_model_grammar.specs.Said.{Said, ◌>>=◌, if_kept}
 use Rattle.qfs_laws_grammar.proofs.PlainWords.{IsVisible, IsPlain, plain}
 
@@ -55,9 +53,10 @@ name_bytes (byte ∷ name) are =
 
 names_bytes : (names : List (List ℕ)) → All IsName names → Each IsVisible (names_text names)
 names_bytes [] are = tt
-names_bytes (name ∷ names) are =
-    ((omega arith, omega arith),
-        each_append IsVisible name (names_text names) (name_bytes name (All-head IsName name names are).2) (names_bytes names (All-tail IsName name names are)))
+names_bytes (name ∷ names) are = (
+  (omega arith, omega arith),
+  each_append IsVisible name (names_text names) (name_bytes name (All-head IsName name names are).2) (names_bytes names (All-tail IsName name names are)),
+)
 
 pub plain_path : (path : List (List ℕ)) → IsPath path → IsPlain (path_text path)
 plain_path [] is = record { some = omega arith; visible = ((omega arith, omega arith), tt) }

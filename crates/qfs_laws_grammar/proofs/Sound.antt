@@ -1,20 +1,16 @@
 -- What is read of a script keeps all ranges and limits, line after line.
-use Rattle.std.proofs.Common.{◌≡◌, ◌∙◌, sym, ap, refl, subst, arith, ℕ, ◌+◌, ◌<◌, ◌≤◌, Bool, true, false, List, [], ◌∷◌, ◌++◌, length, Option, Some, None, Result, Ok, Err, append_assoc, append-nil, length-append}
-use Rattle.std.specs.Prelude.{⊤, flat_map, IfOk, IfSome, ok_or, nat_le, nat_lt, if◌then◌else◌, not, ◌&&◌, is_none, IsSome}
+use Rattle.std.proofs.Common.{◌≡◌, ◌∙◌, sym, ap, refl, subst, arith, ℕ, ◌+◌, ◌≤◌, true, List, [], ◌∷◌, ◌++◌, length, append_assoc, append-nil, length-append}
+use Rattle.std.specs.Prelude.{⊤, flat_map, IfOk, IfSome, nat_lt}
 use Rattle.std.proofs.lemmas.Bool.{leb-true, and_parts}
 use borrow.Author.Tests.{ltb-true}
 use lib.Count.{ones}
-use Rattle.qfs_base.specs.Order.{steps_of_runs}
 use Rattle.qfs_base.specs.Shape.{Shape, IsStripe, IsRowCount}
 use Rattle.qfs_base.specs.Sizes.{MOST_SERVERS, MOST_ROWS}
 use Rattle.qfs_base.specs.Table.{Each}
 use Rattle.qfs_base.specs.declared.command.Command.{Command}
-use Rattle.qfs_base.specs.declared.history.Step.{Step}
-use Rattle.qfs_base.specs.declared.order.StepRun.{StepRun}
-use Rattle.qfs_base.specs.declared.script.Script.{Script}
 use Rattle.qfs_base.specs.declared.script.ScriptCause.TheVariants as Cause
-use Rattle.qfs_model_script.specs.InScript.{IsScript, IsCommand, IsFromOne, IsTicks, blocks_in}
-use Rattle.qfs_model_script.specs.Limits.{MOST_PHASES, MOST_ACTORS, MOST_COMMANDS, MOST_TICKS, MOST_BLOCKS_OF_PUT, MOST_BLOCKS, MOST_BYTES_OF_CHUNKS}
+use Rattle.qfs_model_script.specs.InScript.{IsScript, IsCommand, IsFromOne, blocks_in}
+use Rattle.qfs_model_script.specs.Limits.{MOST_PHASES, MOST_ACTORS, MOST_TICKS}
 use Rattle.qfs_model_text.specs.Line.{Words}
 use Rattle.qfs_model_grammar.specs.CommandLines.{command_of}
 use Rattle.qfs_model_grammar.specs.CommandWord.{CommandWord}
@@ -25,7 +21,7 @@ use Rattle.qfs_model_grammar.specs.FirstWords.{may_stand, may_be_last}
 use Rattle.qfs_model_grammar.specs.Kinds.{number_in, stripe_in, run_in}
 use Rattle.qfs_model_grammar.specs.LinePlace.{LinePlace}
 use Rattle.qfs_model_grammar.specs.LinePlace as Behind
-use Rattle.qfs_model_grammar.specs.Said.{Said, ◌>>=◌, if_kept, read_each}
+use Rattle.qfs_model_grammar.specs.Said.{read_each}
 use Rattle.qfs_model_grammar.specs.SoFar.{SoFar, nothing_yet, with_head, change_last, with_actor, with_command, with_next_actor, with_next_command, keeps_limits, put_len, chunk_bytes_of, take_qfs, take_layout, take_servers, take_term, take_audit, take_phase, take_actor, take_command, take_order, take_line}
 use Rattle.qfs_laws_grammar.proofs.Bodies.{Body, Keeps, none_ask, actor_more, command_more}
 use Rattle.qfs_laws_grammar.proofs.CommandRanges.{command_gives}
@@ -167,65 +163,65 @@ unfolding take_qfs with_head
 qfs_sound so words sound none =
     gives (λ word. ⊤) Sound (one_word words) _ (gives_any (one_word words))
     (λ word known. gives (IsIn 1 1) Sound (number_in 1 1 word) _ (number_gives 1 1 word)
-        (λ version is. record {
-          stripe = sound.stripe;
-          rows = sound.rows;
-          servers = sound.servers;
-          term = sound.term;
-          few_phases = sound.few_phases;
-          body = sound.body;
-          order = sound.order;
-          placed = none;
-        }))
+    (λ version is. record {
+      stripe = sound.stripe;
+      rows = sound.rows;
+      servers = sound.servers;
+      term = sound.term;
+      few_phases = sound.few_phases;
+      body = sound.body;
+      order = sound.order;
+      placed = none;
+    }))
 
 layout_sound : (so : SoFar) (words : Words) → Sound so → so.script.phases ≡ [] → IfOk (take_layout so words) Sound
 unfolding take_layout with_head
 layout_sound so words sound none =
     gives (λ words. ⊤) Sound (two_words words) _ (gives_any (two_words words))
     (λ words known. gives IsStripe Sound (stripe_in words.0) _ (stripe_gives words.0)
-        (λ stripe is_stripe. gives (IsIn 1 MOST_ROWS) Sound (number_in 1 MOST_ROWS words.1) _ (number_gives 1 MOST_ROWS words.1)
-            (λ rows are_rows. record {
-              stripe = is_stripe;
-              rows = are_rows;
-              servers = sound.servers;
-              term = sound.term;
-              few_phases = sound.few_phases;
-              body = rebuilt so (record { s = stripe; r = rows }) so.script.servers sound none;
-              order = sound.order;
-              placed = none;
-            })))
+    (λ stripe is_stripe. gives (IsIn 1 MOST_ROWS) Sound (number_in 1 MOST_ROWS words.1) _ (number_gives 1 MOST_ROWS words.1)
+    (λ rows are_rows. record {
+      stripe = is_stripe;
+      rows = are_rows;
+      servers = sound.servers;
+      term = sound.term;
+      few_phases = sound.few_phases;
+      body = rebuilt so (record { s = stripe; r = rows }) so.script.servers sound none;
+      order = sound.order;
+      placed = none;
+    })))
 
 servers_sound : (so : SoFar) (words : Words) → Sound so → so.script.phases ≡ [] → IfOk (take_servers so words) Sound
 unfolding take_servers with_head
 servers_sound so words sound none =
     gives (λ word. ⊤) Sound (one_word words) _ (gives_any (one_word words))
     (λ word known. gives (IsIn 1 MOST_SERVERS) Sound (number_in 1 MOST_SERVERS word) _ (number_gives 1 MOST_SERVERS word)
-        (λ servers are. record {
-          stripe = sound.stripe;
-          rows = sound.rows;
-          servers = are;
-          term = sound.term;
-          few_phases = sound.few_phases;
-          body = rebuilt so so.script.layout servers sound none;
-          order = sound.order;
-          placed = none;
-        }))
+    (λ servers are. record {
+      stripe = sound.stripe;
+      rows = sound.rows;
+      servers = are;
+      term = sound.term;
+      few_phases = sound.few_phases;
+      body = rebuilt so so.script.layout servers sound none;
+      order = sound.order;
+      placed = none;
+    }))
 
 term_sound : (so : SoFar) (words : Words) → Sound so → so.script.phases ≡ [] → IfOk (take_term so words) Sound
 unfolding take_term with_head
 term_sound so words sound none =
     gives (λ word. ⊤) Sound (one_word words) _ (gives_any (one_word words))
     (λ word known. gives (IsIn 1 MOST_TICKS) Sound (number_in 1 MOST_TICKS word) _ (number_gives 1 MOST_TICKS word)
-        (λ ticks are. record {
-          stripe = sound.stripe;
-          rows = sound.rows;
-          servers = sound.servers;
-          term = are.1;
-          few_phases = sound.few_phases;
-          body = sound.body;
-          order = sound.order;
-          placed = none;
-        }))
+    (λ ticks are. record {
+      stripe = sound.stripe;
+      rows = sound.rows;
+      servers = sound.servers;
+      term = are.1;
+      few_phases = sound.few_phases;
+      body = sound.body;
+      order = sound.order;
+      placed = none;
+    }))
 
 audit_sound : (so : SoFar) (words : Words) → Sound so → so.script.phases ≡ [] → IfOk (take_audit so words) Sound
 unfolding take_audit with_head
@@ -249,18 +245,18 @@ unfolding take_phase with_head
 phase_sound so words sound =
     gives (λ nothing. ⊤) Sound (no_word words) _ (gives_any (no_word words))
     (λ nothing known. gives_kept Sound (nat_lt (length so.script.phases) MOST_PHASES) Cause.Limit _
-        (λ few. record {
-          stripe = sound.stripe;
-          rows = sound.rows;
-          servers = sound.servers;
-          term = sound.term;
-          few_phases = omega (arith, ltb-true _ _ few, length-append so.script.phases ([] ∷ []));
-          body =
-              subst (λ (actors : List (List Command)). Body so.script.layout so.script.servers actors so.actors so.blocks so.chunk_bytes)
-              (sym (flat_push so.script.phases [] ∙ append-nil (actors_in so.script.phases))) sound.body;
-          order = sound.order;
-          placed = omega (arith, length-append so.script.phases ([] ∷ []));
-        }))
+    (λ few. record {
+      stripe = sound.stripe;
+      rows = sound.rows;
+      servers = sound.servers;
+      term = sound.term;
+      few_phases = omega (arith, ltb-true _ _ few, length-append so.script.phases ([] ∷ []));
+      body =
+          subst (λ (actors : List (List Command)). Body so.script.layout so.script.servers actors so.actors so.blocks so.chunk_bytes)
+          (sym (flat_push so.script.phases [] ∙ append-nil (actors_in so.script.phases))) sound.body;
+      order = sound.order;
+      placed = omega (arith, length-append so.script.phases ([] ∷ []));
+    }))
 
 -- phases whose last one has an actor more
 record HasActor (phases : Phases) : Type 0 where
@@ -280,8 +276,13 @@ with_actor_of phases ending =
           ∙ sym (append_assoc (actors_in ending.front) ending.last ([] ∷ []))
           ∙ ap (λ all. all ++ [] ∷ []) (sym (ap actors_in ending.is ∙ flat_push ending.front ending.last));
       few =
-          omega (arith, ap length now, ap length ending.is, length-append ending.front (ending.last ∷ []),
-              length-append ending.front ((ending.last ++ [] ∷ []) ∷ []));
+          omega (
+            arith,
+            ap length now,
+            ap length ending.is,
+            length-append ending.front (ending.last ∷ []),
+            length-append ending.front ((ending.last ++ [] ∷ []) ∷ []),
+          );
       ends = record { earlier = ending.front; front = ending.last; last = []; is = now; counted = refl };
     }
 
@@ -291,20 +292,20 @@ actor_sound so words sound some =
     let has = with_actor_of so.script.phases (ends so.script.phases some) in
     gives (λ word. ⊤) Sound (one_word words) _ (gives_any (one_word words))
     (λ word known. gives (IsIn (so.actors + 1) (so.actors + 1)) Sound (number_in (so.actors + 1) (so.actors + 1) word) _ (number_gives (so.actors + 1) (so.actors + 1) word)
-        (λ number next. gives_kept Sound (nat_lt so.actors MOST_ACTORS) Cause.Limit _
-            (λ room. record {
-              stripe = sound.stripe;
-              rows = sound.rows;
-              servers = sound.servers;
-              term = sound.term;
-              few_phases = omega (arith, has.few, sound.few_phases);
-              body =
-                  subst (λ (actors : List (List Command)). Body so.script.layout so.script.servers actors (so.actors + 1) so.blocks so.chunk_bytes)
-                  (sym has.actors)
-                  (actor_more so.script.layout so.script.servers (actors_in so.script.phases) so.actors so.blocks so.chunk_bytes sound.body (ltb-true _ _ room));
-              order = sound.order;
-              placed = has.ends;
-            })))
+    (λ number next. gives_kept Sound (nat_lt so.actors MOST_ACTORS) Cause.Limit _
+    (λ room. record {
+      stripe = sound.stripe;
+      rows = sound.rows;
+      servers = sound.servers;
+      term = sound.term;
+      few_phases = omega (arith, has.few, sound.few_phases);
+      body =
+          subst (λ (actors : List (List Command)). Body so.script.layout so.script.servers actors (so.actors + 1) so.blocks so.chunk_bytes)
+          (sym has.actors)
+          (actor_more so.script.layout so.script.servers (actors_in so.script.phases) so.actors so.blocks so.chunk_bytes sound.body (ltb-true _ _ room));
+      order = sound.order;
+      placed = has.ends;
+    })))
 
 -- phases whose last actor has a command more
 record HasCommand (command : Command) (phases : Phases) (count : ℕ) (ends : EndsInActor phases count) : Type 0 where
@@ -329,8 +330,13 @@ with_command_of command phases count ends =
           ap actors_in now ∙ flat_push ends.earlier (ends.front ++ (ends.last ++ command ∷ []) ∷ [])
           ∙ sym (append_assoc (actors_in ends.earlier) ends.front ((ends.last ++ command ∷ []) ∷ []));
       few =
-          omega (arith, ap length now, ap length ends.is, length-append ends.earlier ((ends.front ++ ends.last ∷ []) ∷ []),
-              length-append ends.earlier ((ends.front ++ (ends.last ++ command ∷ []) ∷ []) ∷ []));
+          omega (
+            arith,
+            ap length now,
+            ap length ends.is,
+            length-append ends.earlier ((ends.front ++ ends.last ∷ []) ∷ []),
+            length-append ends.earlier ((ends.front ++ (ends.last ++ command ∷ []) ∷ []) ∷ []),
+          );
       again = record {
         earlier = ends.earlier;
         front = ends.front;
@@ -360,27 +366,27 @@ unfolding take_command with_next_command
 command_sound so word words sound ends =
     gives (IsCommand so.script.servers) Sound (command_of so.script.servers word words) _ (command_gives so.script.servers word words)
     (λ command is. gives_kept Sound _ Cause.Limit _
-        (λ tested.
-            let has = with_command_of command so.script.phases so.commands ends in
-            let keeps = limits_kept so command (actors_in ends.earlier ++ ends.front) ends.last ends.counted tested in
-            let body : Body so.script.layout so.script.servers ((actors_in ends.earlier ++ ends.front) ++ ends.last ∷ []) so.actors so.blocks so.chunk_bytes =
-            subst (λ (actors : List (List Command)). Body so.script.layout so.script.servers actors so.actors so.blocks so.chunk_bytes) has.before sound.body in
-            record {
-              stripe = sound.stripe;
-              rows = sound.rows;
-              servers = sound.servers;
-              term = sound.term;
-              few_phases = omega (arith, has.few, sound.few_phases);
-              body =
-                  subst (λ (actors : List (List Command)).
-                      Body so.script.layout so.script.servers actors so.actors
-                      (so.blocks + blocks_in so.script.layout (put_len command)) (so.chunk_bytes + chunk_bytes_of so.script.layout (put_len command)))
-                  (sym has.actors)
-                  (command_more so.script.layout so.script.servers (actors_in ends.earlier ++ ends.front) ends.last command so.actors so.blocks so.chunk_bytes
-                      (omega (arith, sound.stripe.0)) sound.rows.0 body is keeps);
-              order = sound.order;
-              placed = has.again;
-            }))
+    (λ tested.
+    let has = with_command_of command so.script.phases so.commands ends in
+    let keeps = limits_kept so command (actors_in ends.earlier ++ ends.front) ends.last ends.counted tested in
+    let body : Body so.script.layout so.script.servers ((actors_in ends.earlier ++ ends.front) ++ ends.last ∷ []) so.actors so.blocks so.chunk_bytes =
+    subst (λ (actors : List (List Command)). Body so.script.layout so.script.servers actors so.actors so.blocks so.chunk_bytes) has.before sound.body in
+    record {
+      stripe = sound.stripe;
+      rows = sound.rows;
+      servers = sound.servers;
+      term = sound.term;
+      few_phases = omega (arith, has.few, sound.few_phases);
+      body =
+          subst (λ (actors : List (List Command)).
+          Body so.script.layout so.script.servers actors so.actors
+          (so.blocks + blocks_in so.script.layout (put_len command)) (so.chunk_bytes + chunk_bytes_of so.script.layout (put_len command)))
+          (sym has.actors)
+          (command_more so.script.layout so.script.servers (actors_in ends.earlier ++ ends.front) ends.last command so.actors so.blocks so.chunk_bytes
+          (omega (arith, sound.stripe.0)) sound.rows.0 body is keeps);
+      order = sound.order;
+      placed = has.again;
+    }))
 
 order_sound : (so : SoFar) (words : Words) → Sound so → 1 ≤ length so.script.phases → IfOk (take_order so words) Sound
 unfolding take_order with_head

@@ -1,11 +1,11 @@
 -- The ranges of what words say.
-use Rattle.std.proofs.Common.{◌≡◌, refl, subst, sym, arith, ℕ, zero, suc, ◌+◌, ◌<◌, ◌≤◌, true, List, [], ◌∷◌, length, get_or, Option, Some, None, Result, Ok, Err}
-use Rattle.std.specs.Prelude.{⊤, nat_le, ok_or, take_while, drop, IfOk, IfSome, replicate}
+use Rattle.std.proofs.Common.{◌≡◌, refl, ℕ, zero, suc, ◌<◌, ◌≤◌, List, [], ◌∷◌, length, get_or, Option, Some, None, Result, Ok, Err}
+use Rattle.std.specs.Prelude.{⊤, ok_or, take_while, drop, IfOk, IfSome, replicate}
 use Rattle.std.specs.List.{slice_split}
 use Rattle.std.specs.Int.{is_power_of_two}
 use Rattle.std.specs.Result.{result_ok}
 use Rattle.std.proofs.lemmas.Bool.{leb-true, and_parts}
-use Rattle.hex.specs.Hex.{decode_of, IsBytes}
+use Rattle.hex.specs.Hex.{decode_of}
 use Rattle.hex.specs.declared.error.FromHexError.{FromHexError}
 use Rattle.hex.proofs.HexLemmas.{decode_of-ok}
 use Rattle.qfs_base.specs.EachLaws.{each_append}
@@ -22,7 +22,7 @@ use Rattle.qfs_model_script.specs.InScript.{IsByte, IsActorNumber}
 use Rattle.qfs_model_script.specs.Limits.{MOST_ACTORS}
 use Rattle.qfs_model_text.specs.Line.{Words}
 use Rattle.qfs_model_grammar.specs.Kinds.{number_of, number_in, stripe_in, path_of, path_in, bytes_in, is_digit, is_times, outcome_of_mark, run_of, run_in}
-use Rattle.qfs_laws_grammar.proofs.Steps.{gives, gives_kept, gives_some, gives_any, gives_each}
+use Rattle.qfs_laws_grammar.proofs.Steps.{gives, gives_kept, gives_some, gives_any}
 
 -- ---- numbers
 
@@ -34,7 +34,7 @@ unfolding number_in
 number_gives first last word =
     gives (λ number. ⊤) (IsIn first last) (ok_or (number_of word) Cause.Number) _ (gives_any (ok_or (number_of word) Cause.Number))
     (λ number known. gives_kept (IsIn first last) _ Cause.Number number
-        (λ tested. let parts = and_parts _ _ tested in (leb-true _ _ parts.0, leb-true _ _ parts.1)))
+    (λ tested. let parts = and_parts _ _ tested in (leb-true _ _ parts.0, leb-true _ _ parts.1)))
 
 pub stripe_gives : (word : List ℕ) → IfOk (stripe_in word) IsStripe
 unfolding stripe_in
@@ -73,7 +73,7 @@ bytes_give least most word =
     gives (Each IsByte) (AreBytes least most) (ok_or (result_ok (decode_of word)) Cause.Hex) _
     (gives_some (Each IsByte) (result_ok (decode_of word)) Cause.Hex (bytes_found word (decode_of word) refl))
     (λ bytes are. gives_kept (AreBytes least most) _ Cause.Hex bytes
-        (λ tested. let parts = and_parts _ _ tested in record { enough = leb-true _ _ parts.0; few = leb-true _ _ parts.1; each = are }))
+    (λ tested. let parts = and_parts _ _ tested in record { enough = leb-true _ _ parts.0; few = leb-true _ _ parts.1; each = are }))
 
 -- ---- runs
 
@@ -87,8 +87,8 @@ run_of_gives actor (mark ∷ []) = tt
 run_of_gives actor (mark ∷ count ∷ []) =
     gives IsActorNumber RunsActor (number_in 1 MOST_ACTORS actor) _ (number_gives 1 MOST_ACTORS actor)
     (λ number within. gives (λ outcome. ⊤) RunsActor (ok_or (outcome_of_mark mark) Cause.Number) _ (gives_any (ok_or (outcome_of_mark mark) Cause.Number))
-        (λ outcome known. gives (IsIn 1 LONGEST_RUN) RunsActor (number_in 1 LONGEST_RUN count) _ (number_gives 1 LONGEST_RUN count)
-            (λ counted fits. within)))
+    (λ outcome known. gives (IsIn 1 LONGEST_RUN) RunsActor (number_in 1 LONGEST_RUN count) _ (number_gives 1 LONGEST_RUN count)
+    (λ counted fits. within)))
 run_of_gives actor (mark ∷ count ∷ more ∷ words) = tt
 
 pub run_gives : (word : List ℕ) → IfOk (run_in word) RunsActor
