@@ -25,7 +25,6 @@ use Rattle.qfs_base.specs.declared.reply.NodeReply.TheVariants as From
 use Rattle.qfs_base.specs.declared.reply.Opened.{Opened}
 use Rattle.qfs_base.specs.declared.reply.TreeRefusal.{TreeRefusal}
 use Rattle.qfs_base.specs.declared.request.ChunkRequest.TheVariants as Serve
-use Rattle.qfs_base.specs.declared.request.MetaRequest.{MetaRequest}
 use Rattle.qfs_base.specs.declared.request.MetaRequest.TheVariants as Ask
 use Rattle.qfs_base.specs.declared.request.NodeRequest.{NodeRequest}
 use Rattle.qfs_base.specs.declared.request.NodeRequest.TheVariants as To
@@ -39,7 +38,7 @@ use Rattle.qfs_model_actor.specs.Work.{Report, Work, ends, goes_on, request_in}
 use Rattle.qfs_model_meta.specs.Apply.{finish_lease, apply, apply_all}
 use Rattle.qfs_model_meta.specs.GetRequests.{opened}
 use Rattle.qfs_model_meta.specs.Leases.{holds_lease}
-use Rattle.qfs_model_meta.specs.Step.{Served, next_turn, meta_step}
+use Rattle.qfs_model_meta.specs.Step.{next_turn, meta_step}
 use Rattle.qfs_model_meta.specs.TreeRows.{standing}
 use Rattle.qfs_model_server.specs.Server.{Server}
 use Rattle.qfs_model_slot.specs.Slot.{slot_of}
@@ -60,7 +59,8 @@ use Rattle.qfs_laws_first.proofs.PutRuns.{short-file}
 use Rattle.qfs_laws_first.proofs.Reading.{IsOfOneRow, slot_long}
 use Rattle.qfs_laws_first.proofs.Reports.{HasPlace, borne-more, place-more, opened_in}
 use Rattle.qfs_laws_first.proofs.Reports.{ReadsWhereOpened, opening-here, place-here}
-use Rattle.qfs_laws_first.proofs.Runs.{CanFetch, Fetching, Run, Next, goes-on-with, goes-on-to}
+use Rattle.qfs_laws_first.proofs.Runs.{CanFetch, Fetching, Next, Run, goes-on-to, goes-on-with}
+use Rattle.qfs_laws_first.proofs.Runs.{served-here}
 use Rattle.qfs_laws_first.proofs.Runs.{ends-with, told-then, refused-so}
 use Rattle.qfs_laws_first.proofs.Servers.{IsUp, fetch-hands}
 use Rattle.qfs_laws_first.proofs.States.{first_key, first_copy, IsFile, Between}
@@ -73,12 +73,6 @@ module _ (script : Script) (commands : List Command) (steps : List Event) (w : W
     (first_path : IsFirstPath script commands) (r : Run script commands steps w) where
   abbrev c : ℕ
   c = length r.actor.ended
-
-  served-here : (request : MetaRequest) (served : Served)
-      → meta_step (rules_of script) 1 request Ended.Done w.meta ≡ served
-      → meta_step w.rules 1 request Ended.Done w.meta ≡ served
-  served-here request served is = ap (λ rules. meta_step rules 1 request Ended.Done w.meta) r.rules
-      ∙ is
 
   -- ---- OpenFile
 
@@ -176,7 +170,7 @@ module _ (script : Script) (commands : List Command) (steps : List Event) (w : W
           (To.Chunk start.server
           (Serve.Fetch (first_key o.file 0) 1 0 (replicate script.layout.s 0)))
           (get-asks script.layout (tries_of script) path)
-          (served-here (Ask.OpenFile path) _
+          (served-here script w r.rules (Ask.OpenFile path) _
           (open-served script w.servers w.meta c b path at free few))
           (ap request_in more ∙ fetch-asks script.layout again o sources bytes 0 start.server
           (omega arith) start.listed) in

@@ -16,7 +16,6 @@ use Rattle.qfs_base.specs.declared.command.FileCommand.TheVariants as File
 use Rattle.qfs_base.specs.declared.command.Reply.TheVariants as Says
 use Rattle.qfs_base.specs.declared.history.Entry.{Entry}
 use Rattle.qfs_base.specs.declared.history.Entry.TheVariants as Wrote
-use Rattle.qfs_base.specs.declared.history.Outcome.TheVariants as Ended
 use Rattle.qfs_base.specs.declared.recipe.Form.TheVariants as Of
 use Rattle.qfs_base.specs.declared.reply.ChunkAnswer.TheVariants as Did
 use Rattle.qfs_base.specs.declared.reply.MetaReply.{MetaReply}
@@ -24,7 +23,6 @@ use Rattle.qfs_base.specs.declared.reply.MetaReply.TheVariants as Said
 use Rattle.qfs_base.specs.declared.reply.NodeReply.TheVariants as From
 use Rattle.qfs_base.specs.declared.reply.TreeRefusal.{TreeRefusal}
 use Rattle.qfs_base.specs.declared.request.ChunkRequest.TheVariants as Serve
-use Rattle.qfs_base.specs.declared.request.MetaRequest.{MetaRequest}
 use Rattle.qfs_base.specs.declared.request.MetaRequest.TheVariants as Ask
 use Rattle.qfs_base.specs.declared.request.NodeRequest.{NodeRequest}
 use Rattle.qfs_base.specs.declared.request.NodeRequest.TheVariants as To
@@ -38,7 +36,7 @@ use Rattle.qfs_model_meta.specs.Apply.{write_entry, add_file, grant_slot, with_s
 use Rattle.qfs_model_meta.specs.Apply.{apply_all}
 use Rattle.qfs_model_meta.specs.PutRequests.{chosen_for_put}
 use Rattle.qfs_model_meta.specs.Slots.{never_granted, slot_at}
-use Rattle.qfs_model_meta.specs.Step.{Served, next_turn, meta_step}
+use Rattle.qfs_model_meta.specs.Step.{next_turn}
 use Rattle.qfs_model_meta.specs.TreeRows.{standing}
 use Rattle.qfs_model_slot.specs.Slot.{slot_of}
 use Rattle.qfs_model_world.specs.Agrees.{place_of_report}
@@ -58,7 +56,8 @@ use Rattle.qfs_laws_first.proofs.PutGrants.{granted-now, put-granted}
 use Rattle.qfs_laws_first.proofs.PutStores.{none-stored, put-stored}
 use Rattle.qfs_laws_first.proofs.Reading.{IsOfOneRow}
 use Rattle.qfs_laws_first.proofs.Reports.{place-here}
-use Rattle.qfs_laws_first.proofs.Runs.{Granting, Storing, Run, Next, goes-on-to, ends-with}
+use Rattle.qfs_laws_first.proofs.Runs.{Granting, Next, Run, Storing, ends-with, goes-on-to}
+use Rattle.qfs_laws_first.proofs.Runs.{served-here}
 use Rattle.qfs_laws_first.proofs.Runs.{told-then, refused-so}
 use Rattle.qfs_laws_first.proofs.Servers.{IsUp, with_copy, put-stores}
 use Rattle.qfs_laws_first.proofs.States.{first_block, first_key, granted_once, Between, InPut}
@@ -117,12 +116,6 @@ module _ (script : Script) (commands : List Command) (steps : List Event) (w : W
   -- the number of the present command's steps' history
   abbrev c : ℕ
   c = length r.actor.ended
-
-  served-here : (request : MetaRequest) (served : Served)
-      → meta_step (rules_of script) 1 request Ended.Done w.meta ≡ served
-      → meta_step w.rules 1 request Ended.Done w.meta ≡ served
-  served-here request served is = ap (λ rules. meta_step rules 1 request Ended.Done w.meta) r.rules
-      ∙ is
 
   -- ---- Create
 
@@ -241,7 +234,7 @@ module _ (script : Script) (commands : List Command) (steps : List Event) (w : W
         (To.Chunk server (Serve.Put (first_key g.t.file g.slot) 1
         (slot_of layout g.t.bytes 0 g.slot)))
         (slot-asks layout g.t.bytes g.t.file g.slot below)
-        (served-here (Ask.Grant g.t.file 0 g.slot false) _
+        (served-here script w r.rules (Ask.Grant g.t.file 0 g.slot false) _
         (grant-served script w.servers w.meta c g.t g.slot g.puts below server short g.few
         chosen.first chosen.last chosen.chosen))
         (ap request_in more ∙ store-asks layout g.t.bytes g.t.file g.slot server))
@@ -349,7 +342,7 @@ module _ (script : Script) (commands : List Command) (steps : List Event) (w : W
         (meta_ends w r.actor (at_slot layout g.t.bytes g.t.file 9) r.alone left (Ask.Close g.t.file)
         (closed_state w.meta g.t.file (c + 1)) (Said.Done place)
         report (close-asks layout g.t.bytes g.t.file)
-        (served-here (Ask.Close g.t.file) _
+        (served-here script w r.rules (Ask.Close g.t.file) _
         (close-served script w.servers w.meta c g.t p short g.few))
         (close-ends layout g.t.bytes g.t.file place))
         refl refl (told-then script commands steps w r told_is report)

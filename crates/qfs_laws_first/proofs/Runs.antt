@@ -47,6 +47,8 @@ use Rattle.qfs_laws_first.proofs.Servers.{first_chunk, stored_at}
 use Rattle.qfs_laws_first.proofs.States.{first_block, first_key, first_copy, granted_once, Between}
 use Rattle.qfs_laws_first.proofs.States.{Within, Target, InPut}
 use Rattle.qfs_laws_first.proofs.Works.{at_slot, at_store, at_fetch}
+use Rattle.qfs_model_meta.specs.Step.{Served, meta_step}
+use Rattle.qfs_base.specs.declared.request.MetaRequest.{MetaRequest}
 
 -- ---- where the actor is
 
@@ -123,6 +125,14 @@ Stage script steps servers m actor told =
     × (Resting script servers m actor
     ⊎ (Granting script servers m actor ⊎ Storing script servers m actor)))
     ⊎ Fetching script steps servers m actor told
+
+-- what the metaserver answers by the rules of the script, it answers by those of the world
+pub served-here : (script : Script) (w : World) → w.rules ≡ rules_of script
+    → (request : MetaRequest) (served : Served)
+    → meta_step (rules_of script) 1 request Ended.Done w.meta ≡ served
+    → meta_step w.rules 1 request Ended.Done w.meta ≡ served
+served-here script w rules request served is =
+    ap (λ rules. meta_step rules 1 request Ended.Done w.meta) rules ∙ is
 
 -- the world after these steps
 pub record Run (script : Script) (commands : List Command) (steps : List Event) (w : World) : Type 0
