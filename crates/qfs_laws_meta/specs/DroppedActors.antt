@@ -1,10 +1,9 @@
 -- Which actors count as dropped behind a step: those that did before, and the one that the request
 -- drops. A dropped actor is told so, whatever it asks, and changes nothing.
-use Rattle.std.proofs.Common.{◌≡◌, ℕ, ◌⊎◌, inl, inr, ⊎_elim, ◌==◌, Bool, true, false, cond, List, [], ◌∷◌, ◌++◌, map, filter, find, length, Option, Some, None, refl, sym, ap, ◌∙◌, subst}
-use Rattle.std.proofs.lemmas.Bool.{eqb-true}
+use Rattle.std.proofs.Common.{arith, ◌<◌, ◌≡◌, ℕ, ◌⊎◌, inl, inr, ⊎_elim, ◌==◌, Bool, true, false, cond, List, [], ◌∷◌, ◌++◌, map, filter, find, length, Option, Some, None, refl, sym, ap, ◌∙◌, subst}
+use Rattle.std.proofs.lemmas.Bool.{eq-eqb, eqb-true, ne_eqb}
 use Rattle.std.specs.Cmp.{ranked}
 use Rattle.std.specs.Option.{option_map}
-use Rattle.std.specs.Ordering.{nat_cmp, is_eq}
 use Rattle.std.specs.Prelude.{⊤, flat_map}
 use Rattle.std.specs.declared.cmp.Ordering.{Ordering}
 use Rattle.std.specs.declared.cmp.Ordering.TheVariants.{Less, Equal, Greater}
@@ -43,7 +42,7 @@ use Rattle.qfs_model_meta.specs.RepairRequests.{decide_recover, decide_heal, hea
 use Rattle.qfs_model_meta.specs.ServerRequests.{decide_hello, decide_bye, decide_leave, decide_hibernate, decide_tick, decide_left_on}
 use Rattle.qfs_model_meta.specs.SettleRequests.{decide_confirm, confirm_grant, end_own_lease, end_live_lease, decide_abandon, abandon_changes, give_up_own, is_own_grant}
 use Rattle.qfs_model_meta.specs.Slots.{slots_of, slot_at}
-use Rattle.qfs_model_meta.specs.Step.{Served, stays, take_step, next_turn, carry_out, fail_disks, end_step, serve_unless_dropped, meta_step}
+use Rattle.qfs_model_meta.specs.Step.{stays, take_step, next_turn, carry_out, fail_disks, end_step, serve_unless_dropped, meta_step}
 use Rattle.qfs_model_meta.specs.SweepRequests.{decide_order, order_row, decide_swept}
 use Rattle.qfs_model_meta.specs.TreeRequests.{decide_mkdir, decide_rmdir, decide_remove, remove_changes, decide_rename, decide_list}
 use Rattle.qfs_model_meta.specs.TreeRows.{file_stands, unclosed_files, row_at}
@@ -377,12 +376,12 @@ added-behind dropped turn who ds none =
         (λ row tie. key-is who row.actor ∙ ap (λ k. k == who)
         (sym (ranked dropped row.actor Equal (sym tie))) ∙ differs))
 
-dropping-leaves : (dropped who : ℕ) (m : MetaImage) (reply : MetaReply) (o : Option ℕ)
-    → dropped_at dropped m.dropped ≡ o
-    → Behind dropped who m.dropped (apply_all (changes_unless_dropped dropped m o) m).dropped
+-- the list of dropped actors behind the changes of a drop
+drop-list : (dropped : ℕ) (m : MetaImage)
+    → (apply_all (changes_unless_dropped dropped m None) m).dropped
+    ≡ add_dropped dropped m.turn m.dropped
 unfolding changes_unless_dropped drop_changes recovery_changes unclosed_changes apply_all apply
-dropping-leaves dropped who m reply (Some turn) is = ((λ t at. at), (λ at. inl at))
-dropping-leaves dropped who m reply None is =
+drop-list dropped m =
     let n : MetaImage = record m { dropped = add_dropped dropped m.turn m.dropped } in
     let rest : List Change = map EndLease (leases_of dropped m.leases) ++ map
     (λ (row : SlotRow). GiveUp row.block row.slot)
@@ -396,17 +395,66 @@ dropping-leaves dropped who m reply None is =
     (none-map EndLease (λ lease. tt) (leases_of dropped m.leases))
     (none-map (λ (row : SlotRow). GiveUp row.block row.slot) (λ row. tt)
     (filter (is_recovery_of dropped m.tree) m.slots)))
-    (none-flat (λ file. abort_changes file m.slots) (λ file. aborting m file)
+    (none-flat (λ file. abort_changes file m.slots) (λ file. aborting file)
     (unclosed_files dropped m.tree)) in
-    subst (Behind dropped who m.dropped) (sym (same-all rest n none))
-    (added-behind dropped m.turn who m.dropped is)
+    same-all rest n none
   where
-    aborting : (m : MetaImage) (file : ℕ) → Each DropsNone (abort_changes file m.slots)
-    aborting m file =
+    aborting : (file : ℕ) → Each DropsNone (abort_changes file m.slots)
+    aborting file =
         unfold abort_changes in each_append DropsNone
         (map (λ (row : SlotRow). GiveUp row.block row.slot) (slots_of file m.slots)) _
         (none-map (λ (row : SlotRow). GiveUp row.block row.slot) (λ row. tt)
         (slots_of file m.slots)) (tt, tt)
+
+-- who is dropped counts as dropped from then on
+found-new : {X : Type 0} (order : X → X → Ordering) (test : X → Bool) (new : X) (rows : List X)
+    → test new ≡ true → ((row : X) → order new row ≡ Greater → test row ≡ false)
+    → find test (place order new rows) ≡ Some new
+found-new order test new [] on behind = ap (λ b. cond b (Some new) None) on
+found-new order test new (row ∷ rows) on behind =
+    elim (order new row) as (λ o. order new row ≡ o → find test
+    (place_before new row rows (place order new rows) o) ≡ Some new) [
+      | Less ↦ λ _. ap (λ b. cond b (Some new) (find test (row ∷ rows))) on
+      | Equal ↦ λ _. ap (λ b. cond b (Some new) (find test rows)) on
+      | Greater ↦ λ is. ap (λ b. cond b (Some row) (find test (place order new rows)))
+          (behind row is) ∙ found-new order test new rows on behind
+    ] refl
+
+added-counts : (who turn : ℕ) (ds : List DroppedActor)
+    → dropped_at who (add_dropped who turn ds) ≡ Some turn
+unfolding add_dropped dropped_at dropped_cmp
+added-counts who turn ds =
+    ap (option_map (λ (d : DroppedActor). d.turn))
+    (found-new dropped_cmp (has_key (dropped_order who)) (record { actor = who; turn = turn }) ds
+    (key-is who who ∙ eq-eqb who who refl)
+    (λ row after. key-is who row.actor ∙ apart row.actor (ranked who row.actor Greater
+    (sym after))))
+  where
+    apart : (a : ℕ) → a < who → (a == who) ≡ false
+    apart a low = ne_eqb a who (λ e. omega arith)
+
+pub drop-counts : (who : ℕ) (m : MetaImage)
+    → dropped_at who (apply_all (changes_unless_dropped who m (dropped_at who m.dropped))
+    m).dropped ≡ None → ⊥
+drop-counts who m none = one (dropped_at who m.dropped) refl none
+  where
+    no-none : {turn : ℕ} → Some turn ≡ None → ⊥
+    no-none e = cc
+
+    one : (o : Option ℕ) → dropped_at who m.dropped ≡ o
+        → dropped_at who (apply_all (changes_unless_dropped who m o) m).dropped ≡ None → ⊥
+    one (Some turn) is none = no-none (sym is ∙ (unfold changes_unless_dropped apply_all in none))
+    one None is none = no-none (sym (added-counts who m.turn m.dropped)
+        ∙ ap (dropped_at who) (sym (drop-list who m)) ∙ none)
+
+dropping-leaves : (dropped who : ℕ) (m : MetaImage) (reply : MetaReply) (o : Option ℕ)
+    → dropped_at dropped m.dropped ≡ o
+    → Behind dropped who m.dropped (apply_all (changes_unless_dropped dropped m o) m).dropped
+unfolding changes_unless_dropped drop_changes recovery_changes unclosed_changes apply_all apply
+dropping-leaves dropped who m reply (Some turn) is = ((λ t at. at), (λ at. inl at))
+dropping-leaves dropped who m reply None is =
+    subst (Behind dropped who m.dropped) (sym (drop-list dropped m))
+    (added-behind dropped m.turn who m.dropped is)
 
 drop-stays : (rules : Rules) (actor dropped : ℕ) (outcome : Outcome) (m : MetaImage) (who : ℕ)
     → DroppedBehind (Ask.Drop dropped) m (meta_step rules actor (Ask.Drop dropped) outcome m).meta

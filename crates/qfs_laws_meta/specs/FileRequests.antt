@@ -1,11 +1,11 @@
 -- What the requests of file commands write into the file history, and that their answers are
 -- borne out at their places in it.
-use Rattle.std.proofs.Common.{◌≡◌, ℕ, ◌+◌, Bool, true, false, cond, List, [], ◌∷◌, ◌++◌, map, length, take, find, Option, Some, None, unwrap_or, refl, sym, ap, ◌∙◌, subst}
+use Rattle.std.proofs.Common.{◌≡◌, ℕ, Bool, true, false, cond, List, [], ◌∷◌, ◌++◌, map, length, find, Option, Some, None, unwrap_or, refl, sym, ap, ◌∙◌}
 use Rattle.std.proofs.lemmas.List.{take_at}
 use Rattle.std.specs.Option.{option_map, option_map_or}
 use Rattle.std.specs.Prelude.{⊤}
 use Rattle.qfs_base.specs.FileReplies.{refused_or, bytes_of_content, bytes_at, wanted_bytes, file_reply, reply_at}
-use Rattle.qfs_base.specs.Files.{Puts, FileEntry, entry_path, files_of, files_standing}
+use Rattle.qfs_base.specs.Files.{Puts, FileEntry, entry_path, files_of}
 use Rattle.qfs_base.specs.NameTree.{PathNames, stands_at, path_eq, add_refusal, rmdir_refusal, look_refusal, rename_refusal, directory_refusal, names_below}
 use Rattle.qfs_base.specs.declared.change.Change.{Change}
 use Rattle.qfs_base.specs.declared.change.Change.TheVariants.{AbortFile, RemoveFile, GiveUp, EmptySlot}
@@ -36,10 +36,9 @@ use Rattle.qfs_model_meta.specs.Decision.{Decision, Tells, UsesDisks, Makes, ref
 use Rattle.qfs_model_meta.specs.Dropped.{dropped_at}
 use Rattle.qfs_model_meta.specs.GetRequests.{decide_open}
 use Rattle.qfs_model_meta.specs.PutRequests.{decide_create, decide_close, close_complete, incomplete, decide_abort, abort_unclosed, abort_changes}
-use Rattle.qfs_model_meta.specs.Range.{in_range}
 use Rattle.qfs_model_meta.specs.Slots.{slots_of}
 use Rattle.qfs_model_meta.specs.Sound.{content_of, file_entry, TreeIsHistory}
-use Rattle.qfs_model_meta.specs.Step.{Served, stays, take_step, next_turn, carry_out, fail_disks, end_step, serve_unless_dropped, meta_step}
+use Rattle.qfs_model_meta.specs.Step.{stays, take_step, next_turn, carry_out, fail_disks, end_step, serve_unless_dropped, meta_step}
 use Rattle.qfs_model_meta.specs.TreeRequests.{decide_mkdir, decide_rmdir, decide_remove, remove_changes, decide_rename, decide_list}
 use Rattle.qfs_model_meta.specs.TreeRows.{kind_of, standing, row_path, row_at, directory_row, unclosed_file}
 use Rattle.qfs_laws_slots.specs.Losing.{IsLosing, losing-frame}
@@ -174,7 +173,7 @@ losing-history : (m : MetaImage) (change : Change) → IsLosing change
     → (apply m change).history ≡ m.history
 losing-history m change is = ap (λ (n : MetaImage). n.history) (losing-frame m change is).is
 
-lost-history : (change : SlotRow → Change) → ((row : SlotRow) → IsLosing (change row))
+pub lost-history : (change : SlotRow → Change) → ((row : SlotRow) → IsLosing (change row))
     → (rows : List SlotRow) (m : MetaImage) → (apply_all (map change rows) m).history ≡ m.history
 unfolding apply_all
 lost-history change is [] m = refl

@@ -210,8 +210,8 @@ module _ (rules : Rules) (actor : ℕ) (past : Past) (m : MetaImage) where
       )
       one true is =
           unless-fair rules actor past m (Ask.Confirm block slot version lease) _ _ _
-          (λ off. (off, refl, refl)) (λ on.
-          (on, confirming block slot version lease (is_live_lease lease m.leases)))
+          (λ off. (is, off, refl, refl)) (λ on.
+          ((is, on), confirming block slot version lease (is_live_lease lease m.leases)))
 
   pub abandon-fair : (block : BlockId) (slot version lease : ℕ)
       → Fair rules actor past m (Ask.Abandon block slot version lease)
