@@ -316,12 +316,18 @@ new-fits : (actor : ℕ) (past : Past) (m n : MetaImage) (g : Granted) (server :
     → NewFits (remember actor past (Told.Granted g)) n
     (GrantSlot g.block g.slot server actor g.lease)
 new-fits actor past m n g server same first (inl put) =
-    inr (put.0, subst (λ tree. IsTrue (is_some (unclosed_file actor g.block.file tree)))
-    (sym same.tree) put.1)
+    inr (
+      put.0,
+      subst (λ tree. IsTrue (is_some (unclosed_file actor g.block.file tree)))
+          (sym same.tree) put.1,
+    )
 new-fits actor past m n g server same first (inr leased) =
     let some : 0 < g.lease = let e = leased.0 in omega arith in
-    inl (some, given-told actor past g some,
-    subst (λ tree. IsTrue (is_some (closed_file g.block.file tree))) (sym same.tree) leased.1)
+    inl (
+      some,
+      given-told actor past g some,
+      subst (λ tree. IsTrue (is_some (closed_file g.block.file tree))) (sym same.tree) leased.1,
+    )
 
 -- what the last change of a grant does
 pub granting-does : (actor : ℕ) (m : MetaImage) (request : MetaRequest) (g : Granted)

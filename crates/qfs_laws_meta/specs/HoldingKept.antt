@@ -78,13 +78,15 @@ writer-of m actor file f writes = one (unclosed_file actor file m.tree) refl wri
         unfold unclosed_file is_unclosed_of in
         let r = found_has (RowIs m.next_file) _ m.tree row e f.tree.rows in
         let p = and_parts (is_unclosed_row row && (row.actor == actor)) (has_file file row) r.1 in
-        let q = and_parts (is_unclosed_row row) (row.actor == actor) p.0 in
-        (row, record {
-          found = e;
-          unclosed = q.0;
-          by = eqb-true row.actor actor q.1;
-          own = own-file file row p.1;
-        })
+        let q = and_parts (is_unclosed_row row) (row.actor == actor) p.0 in (
+          row,
+          record {
+            found = e;
+            unclosed = q.0;
+            by = eqb-true row.actor actor q.1;
+            own = own-file file row p.1;
+          },
+        )
 
 writer-rows : (m : MetaImage) (actor file : ℕ) (row : TreeRow) → Fits m
     → IsWriter m actor file row
@@ -172,12 +174,14 @@ holder-given past m who lease h holds =
     (λ row given is.
     let p = and_parts (is_lease lease row) (row.actor == who) is in
     let number : row.lease ≡ lease = own-lease lease row p.0 in
-    let by : row.actor ≡ who = eqb-true row.actor who p.1 in
-    (row.file, subst (WasGiven past) (λ i. record
-    { lease = number i; actor = by i; file = row.file }) (any-weaker
-    (λ (g : GivenLease). same_lease g row)
-    (is_given (record { lease = row.lease; actor = row.actor; file = row.file }))
-    (λ g same. same-given row g same) past.leases given)))
+    let by : row.actor ≡ who = eqb-true row.actor who p.1 in (
+      row.file,
+      subst (WasGiven past) (λ i. record
+          { lease = number i; actor = by i; file = row.file }) (any-weaker
+          (λ (g : GivenLease). same_lease g row)
+          (is_given (record { lease = row.lease; actor = row.actor; file = row.file }))
+          (λ g same. same-given row g same) past.leases given),
+    ))
     m.leases h.given holds
 
 owner-given : (past : Past) (m : MetaImage) (who lease : ℕ) → Keeps past m → GrantsFit past m
@@ -187,8 +191,11 @@ owner-given past m who lease h fit (inl holds) = holder-given past m who lease h
 owner-given past m who lease h fit (inr owns) =
     let grant : Grant = owns.2 in
     ⊎_elim
-    (λ r. (owns.0.file, subst (WasGiven past) (λ i. record
-    { lease = owns.5 i; actor = owns.4 i; file = owns.0.file }) r.given))
+    (λ r. (
+      owns.0.file,
+      subst (WasGiven past) (λ i. record
+          { lease = owns.5 i; actor = owns.4 i; file = owns.0.file }) r.given,
+    ))
     (λ p. absurd (not-written m grant.actor owns.0.file h.fits owns.6 p.writes))
     (fit owns.0 owns.1 grant owns.3)
 

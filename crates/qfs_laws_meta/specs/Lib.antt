@@ -32,6 +32,7 @@ pub mod RequestChanges
 pub mod GrantsFit
 pub mod HoldingKept
 pub mod HoldingStays
+pub mod OwnHolding
 pub mod HeldAnswers
 pub mod SlotsTold
 pub mod StepParts

@@ -283,9 +283,12 @@ listed-behind actor m changes (Told.Granted g) gives each =
     (c.0, c.1, granted-current actor m g changes gives l.of_slot.block l.of_slot.slot ∙ c.1))
     (remember actor no_past (Told.Granted g)).listed each
 listed-behind actor m changes (Told.Opened o) gives each =
-    each_weaker (IsCurrentNow m) (IsListedNow m (apply_all changes m)) (λ (l : ListedCopy) c.
-    (c.0, c.1, ap (λ cs. current_at (apply_all cs m) l.of_slot.block l.of_slot.slot) gives.2
-    ∙ lent-current actor o.file gives.1 l.of_slot.block l.of_slot.slot ∙ c.1))
+    each_weaker (IsCurrentNow m) (IsListedNow m (apply_all changes m)) (λ (l : ListedCopy) c. (
+      c.0,
+      c.1,
+      ap (λ cs. current_at (apply_all cs m) l.of_slot.block l.of_slot.slot) gives.2
+          ∙ lent-current actor o.file gives.1 l.of_slot.block l.of_slot.slot ∙ c.1,
+    ))
     (remember actor no_past (Told.Opened o)).listed each
   where
     lent-current : (actor file until : ℕ) (block : BlockId) (slot : ℕ)

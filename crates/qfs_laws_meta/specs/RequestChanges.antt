@@ -407,14 +407,17 @@ unfolding decide_close close_complete gives_back says_done
 close-does layout actor file m =
     need-does actor m (Ask.Close file) Told.Gone _ _ tt (λ row found.
     refuse-does actor m (Ask.Close file) _ _ (incomplete-quiet _) (λ _. (
-      ((
-        refl,
-        inl (refl, refl),
-        some-there (unclosed_file actor file m.tree) row found,
-        refl,
-        length m.history,
-        refl,
-      ), tt),
+      (
+        (
+          refl,
+          inl (refl, refl),
+          some-there (unclosed_file actor file m.tree) row found,
+          refl,
+          length m.history,
+          refl,
+        ),
+        tt,
+      ),
       tt,
     )))
 
@@ -447,9 +450,13 @@ unfolding is_own_grant
 own-grant m actor block slot version lease None is own = absurd (cc)
 own-grant m actor block slot version lease (Some g) is own =
     let p = and_parts _ (g.lease == lease) own in
-    let q = and_parts (g.actor == actor) (g.copy.version == version) p.0 in
-    (g, is, eqb-true g.actor actor q.0, eqb-true g.lease lease p.1,
-    eqb-true g.copy.version version q.1)
+    let q = and_parts (g.actor == actor) (g.copy.version == version) p.0 in (
+      g,
+      is,
+      eqb-true g.actor actor q.0,
+      eqb-true g.lease lease p.1,
+      eqb-true g.copy.version version q.1,
+    )
 
 own-ending : (actor : ℕ) (m : MetaImage) (request : MetaRequest) (reply : MetaReply) (lease : ℕ)
     → gives_back reply request ≡ true
@@ -485,21 +492,25 @@ confirm-does actor block slot version lease m = one (file_stands block.file m.tr
     one true =
         unfold confirm_grant may_confirm end_live_lease in unless-does actor m (Ask.Confirm block slot version lease) _ _ _ tt (λ may.
         let p = and_parts (is_some (closed_file block.file m.tree)) _ may in
-        let g = own-grant m actor block slot version lease (grant_at m block slot) refl p.1 in
-        (each_append (Does actor m (Ask.Confirm block slot version lease) Told.Confirmed)
-        (cond (is_live_lease lease m.leases) (EndLease lease ∷ []) []) (ConfirmSlot block slot ∷ [])
-        (ending (inr (block, slot, g.0, g.1, g.2, g.3, p.0)) (is_live_lease lease m.leases))
-        ((inl (refl, confirmed), (g.0, g.1, g.2), tt), tt), tt))
+        let g = own-grant m actor block slot version lease (grant_at m block slot) refl p.1 in (
+          each_append (Does actor m (Ask.Confirm block slot version lease) Told.Confirmed)
+              (cond (is_live_lease lease m.leases) (EndLease lease ∷ []) []) (ConfirmSlot block slot ∷ [])
+              (ending (inr (block, slot, g.0, g.1, g.2, g.3, p.0)) (is_live_lease lease m.leases))
+              ((inl (refl, confirmed), (g.0, g.1, g.2), tt), tt),
+          tt,
+        ))
 
 pub abandon-does : (actor : ℕ) (block : BlockId) (slot version lease : ℕ) (m : MetaImage)
     → DoesAll actor m (Ask.Abandon block slot version lease)
     (decide_abandon actor block slot version lease m)
 unfolding decide_abandon abandon_changes give_up_own
-abandon-does actor block slot version lease m =
-    (each_append (Does actor m (Ask.Abandon block slot version lease) (Told.Done (length m.history)))
-    (end_own_lease actor lease m.leases) _
-    (own-ending actor m (Ask.Abandon block slot version lease) (Told.Done (length m.history)) lease back)
-    (giving (is_own_grant actor version lease (grant_at m block slot)) refl), tt)
+abandon-does actor block slot version lease m = (
+  each_append (Does actor m (Ask.Abandon block slot version lease) (Told.Done (length m.history)))
+      (end_own_lease actor lease m.leases) _
+      (own-ending actor m (Ask.Abandon block slot version lease) (Told.Done (length m.history)) lease back)
+      (giving (is_own_grant actor version lease (grant_at m block slot)) refl),
+  tt,
+)
   where
     back : gives_back (Told.Done (length m.history)) (Ask.Abandon block slot version lease) ≡ true
     back = unfold gives_back says_done in refl
@@ -656,16 +667,26 @@ request-does rules actor m (Ask.OrderNext after) f =
     need-does actor m _ Told.Nothing _ _ tt (λ row _. ((tt, tt), tt))
 request-does rules actor m (Ask.Swept number) f = ((tt, tt), tt)
 request-does rules actor m (Ask.Hello server life keys) f =
-    unless-does actor m _ _ _ _ tt (λ _. (((keys, refl),
-    all-does (Does actor m (Ask.Hello server life keys) (Told.Done (length m.history)))
-    (CondemnStray server life) (λ key. tt) keys), tt))
+    unless-does actor m _ _ _ _ tt (λ _. (
+      (
+        (keys, refl),
+        all-does (Does actor m (Ask.Hello server life keys) (Told.Done (length m.history)))
+            (CondemnStray server life) (λ key. tt) keys,
+      ),
+      tt,
+    ))
 request-does rules actor m (Ask.Bye server) f = ((tt, tt), tt)
 request-does rules actor m (Ask.Leave server) f = ((tt, tt), tt)
 request-does rules actor m (Ask.Hibernate server ticks) f =
     unless-does actor m _ _ _ _ tt (λ _. ((tt, tt), tt))
-request-does rules actor m Ask.Tick f =
-    ((tt, all-does (Does actor m Ask.Tick (Told.Clock (min (m.clock + 1) LAST_U64))) EndLease
-    (λ lease. inl refl) (leases_over (min (m.clock + 1) LAST_U64) m.leases)), tt)
+request-does rules actor m Ask.Tick f = (
+  (
+    tt,
+    all-does (Does actor m Ask.Tick (Told.Clock (min (m.clock + 1) LAST_U64))) EndLease
+        (λ lease. inl refl) (leases_over (min (m.clock + 1) LAST_U64) m.leases),
+  ),
+  tt,
+)
 request-does rules actor m (Ask.Drop who) f = drop-does actor who m f
 request-does rules actor m (Ask.List path) f = file-does actor m _ _ _ _ (λ _. tt)
 request-does rules actor m (Ask.LeftOn server) f = tt

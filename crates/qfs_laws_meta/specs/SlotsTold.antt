@@ -198,8 +198,10 @@ calm-touched past m (CloseFile file actor command) may f none quiet block slot t
     let at = slot-touched m (CloseFile file actor command) block slot touches in
     record {
       version = inl (ap (λ (st : SlotRecord). st.next) at);
-      failed = inr (ended-over past m (CloseFile file actor command) may f block.file (sym touches),
-          ap (λ (st : SlotRecord). st.failed) at);
+      failed = inr (
+        ended-over past m (CloseFile file actor command) may f block.file (sym touches),
+        ap (λ (st : SlotRecord). st.failed) at,
+      );
     }
 calm-touched past m (AbortFile file) may f none quiet block slot touches =
     let at = slot-touched m (AbortFile file) block slot touches in
@@ -262,13 +264,17 @@ calm-all past m (change ∷ changes) may h none quiet block slot =
     record {
       version = ⊎_elim
           (λ same. ⊎_elim (λ before. inl (same ∙ before))
-          (λ gone. inr (gone-all (told change m past) n block.file changes may.1 k gone.0,
-          same ∙ gone.1)) first.version)
+          (λ gone. inr (
+            gone-all (told change m past) n block.file changes may.1 k gone.0,
+            same ∙ gone.1,
+          )) first.version)
           (λ gone. inr gone) rest.version;
       failed = ⊎_elim
           (λ same. ⊎_elim (λ before. inl (same ∙ before))
-          (λ over. inr (over-all (told change m past) n block.file changes may.1 k over.0,
-          same ∙ over.1)) first.failed)
+          (λ over. inr (
+            over-all (told change m past) n block.file changes may.1 k over.0,
+            same ∙ over.1,
+          )) first.failed)
           (λ over. inr over) rest.failed;
     }
 
@@ -292,10 +298,13 @@ unfolding apply_all
 prepared-failed actor m g first (inl none) free =
     inl (ap (λ cs. failed_at (apply_all cs m) g.block g.slot) none.0)
 prepared-failed actor m g first (inr (inl fails)) free =
-    inr (fails.1, ap (λ cs. failed_at (apply_all cs m) g.block g.slot) fails.0
-    ∙ ap (λ (st : SlotRecord). st.failed)
-    (slot-touched m (FailGrant g.block g.slot) g.block g.slot (refl, refl))
-    ∙ one (slot_at m.slots g.block g.slot) (grant_at m g.block g.slot))
+    inr (
+      fails.1,
+      ap (λ cs. failed_at (apply_all cs m) g.block g.slot) fails.0
+          ∙ ap (λ (st : SlotRecord). st.failed)
+          (slot-touched m (FailGrant g.block g.slot) g.block g.slot (refl, refl))
+          ∙ one (slot_at m.slots g.block g.slot) (grant_at m g.block g.slot),
+    )
   where
     one : (state : SlotRecord) (o : Option Grant)
         → (failed_record state o).failed ≡ failed_with state.failed o
@@ -365,14 +374,22 @@ slot-granted actor past m request g changes may h gives block slot =
         let at = slot-touched n last g.block g.slot (refl, refl) in
         let same = same-next actor m g gives.first gives.prepares in
         record {
-          version = inr (inl (g.server, g.lease, (g, refl, refl, refl, refl, refl),
-              ap (λ (st : SlotRecord). st.next) at
-              ∙ granted-next g.server (server_at n.servers g.server).life actor g.lease
-              (slot_at n.slots g.block g.slot) makes.versions ∙ ap (λ k. k + 1) same));
+          version = inr (inl (
+            g.server,
+            g.lease,
+            (g, refl, refl, refl, refl, refl),
+            ap (λ (st : SlotRecord). st.next) at
+                ∙ granted-next g.server (server_at n.servers g.server).life actor g.lease
+                (slot_at n.slots g.block g.slot) makes.versions ∙ ap (λ k. k + 1) same,
+          ));
           failed = ⊎_elim (λ e. inl (ap (λ (st : SlotRecord). st.failed) at ∙ e))
-              (λ e. inr (inl (g.server, subst
-              (λ l. TellsOf (Told.Granted g) g.block g.slot g.server l) e.0
-              (g, refl, refl, refl, refl, refl), ap (λ (st : SlotRecord). st.failed) at ∙ e.1)))
+              (λ e. inr (inl (
+                g.server,
+                subst
+                    (λ l. TellsOf (Told.Granted g) g.block g.slot g.server l) e.0
+                    (g, refl, refl, refl, refl, refl),
+                ap (λ (st : SlotRecord). st.failed) at ∙ e.1,
+              )))
               (prepared-failed actor m g gives.first gives.prepares free);
         }
 
