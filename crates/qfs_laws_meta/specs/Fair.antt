@@ -1,8 +1,9 @@
 -- Decisions that answer as a request may be answered, and whose changes tell no more of the state
--- behind them.
+-- behind them. For the law `steps_answer`.
 use Rattle.qfs_base.specs.EachLaws.{each_append}
-use Rattle.qfs_base.specs.Table.{Each, place}
-use Rattle.qfs_base.specs.declared.change.Change.TheVariants.{AddDirectory, CloseFile, ConfirmSlot, GiveLease, GrantSlot}
+use Rattle.qfs_base.specs.Table.{Each}
+use Rattle.qfs_base.specs.declared.change.Change.TheVariants.{AddDirectory, CloseFile, ConfirmSlot}
+use Rattle.qfs_base.specs.declared.change.Change.TheVariants.{GiveLease, GrantSlot}
 use Rattle.qfs_base.specs.declared.change.Change.{Change}
 use Rattle.qfs_base.specs.declared.chunk.BlockId.{BlockId}
 use Rattle.qfs_base.specs.declared.chunk.Copy.{Copy}
@@ -24,11 +25,14 @@ use Rattle.qfs_laws_slots.specs.Changes.{MayMake, told}
 use Rattle.qfs_model_meta.specs.Apply.{apply, apply_all}
 use Rattle.qfs_model_meta.specs.Counters.{counters_fit}
 use Rattle.qfs_model_meta.specs.Decide.{decide}
-use Rattle.qfs_model_meta.specs.Decision.{Decision, Makes, Tells, UsesDisks, need, refuse, refuse_file, refuse_path, unless}
+use Rattle.qfs_model_meta.specs.Decision.{Decision, Makes, Tells, UsesDisks, need, refuse}
+use Rattle.qfs_model_meta.specs.Decision.{refuse_file, refuse_path, unless}
 use Rattle.qfs_model_meta.specs.Dropped.{dropped_at}
 use Rattle.qfs_model_meta.specs.Past.{Past, granted_slot_copy}
-use Rattle.qfs_model_meta.specs.Step.{Served, carry_out, end_step, fail_disks, next_turn, serve_unless_dropped, stays, take_step}
-use Rattle.std.proofs.Common.{Bool, List, None, Option, Some, [], cond, false, inl, inr, map, refl, true, ℕ, ◌∷◌, ◌≡◌, ◌⊎◌}
+use Rattle.qfs_model_meta.specs.Step.{Served, carry_out, end_step, fail_disks, next_turn}
+use Rattle.qfs_model_meta.specs.Step.{serve_unless_dropped, stays, take_step}
+use Rattle.std.proofs.Common.{Bool, List, None, Option, Some, [], cond, false, inl, inr, map, refl}
+use Rattle.std.proofs.Common.{true, ℕ, ◌∷◌, ◌≡◌, ◌⊎◌}
 use Rattle.std.specs.Prelude.{flat_map, ⊤}
 
 -- ---- what a step tells of the state behind it
@@ -172,7 +176,8 @@ module _ (rules : Rules) (actor : ℕ) (past : Past) (m : MetaImage) (request : 
 -- ---- the step
 
 -- what a step answers, and what it tells of the state behind it
-pub record IsAnswered (rules : Rules) (actor : ℕ) (outcome : Outcome) (m : MetaImage) (request : MetaRequest) (served : Served) : Type 0 where
+pub record IsAnswered (rules : Rules) (actor : ℕ) (outcome : Outcome) (m : MetaImage)
+    (request : MetaRequest) (served : Served) : Type 0 where
   pub answer : ((dropped_at actor m.dropped ≡ None) × MayTell rules actor m served.reply request)
       ⊎ AnyMayGet rules actor outcome m request served.reply
   pub tells : StepTells request served.reply m served.meta
@@ -191,7 +196,8 @@ turned-tells request reply m n t =
       history = t.history;
     }
 
-module _ (rules : Rules) (actor : ℕ) (outcome : Outcome) (past : Past) (m : MetaImage) (request : MetaRequest) where
+module _ (rules : Rules) (actor : ℕ) (outcome : Outcome) (past : Past) (m : MetaImage)
+    (request : MetaRequest) where
   same-state : (reply : MetaReply)
       → ((dropped_at actor m.dropped ≡ None) × MayTell rules actor m reply request)
       ⊎ AnyMayGet rules actor outcome m request reply

@@ -14,27 +14,34 @@ use Rattle.qfs_base.specs.declared.request.MetaRequest.{MetaRequest}
 use Rattle.qfs_base.specs.declared.request.SlotId.{SlotId}
 use Rattle.qfs_base.specs.declared.rules.Rules.{Rules}
 use Rattle.qfs_laws_meta.specs.ChangeTells.{Gives, change-tells}
-use Rattle.qfs_laws_meta.specs.Fair.{Fair, Goes, ToldIn, file-fair, need-fair, path-fair, plain-one, refuse-fair, unless-fair}
+use Rattle.qfs_laws_meta.specs.Fair.{Fair, Goes, ToldIn, file-fair, need-fair, path-fair, plain-one}
+use Rattle.qfs_laws_meta.specs.Fair.{refuse-fair, unless-fair}
 use Rattle.qfs_laws_meta.specs.GrantRequests.{pending-none}
-use Rattle.qfs_laws_meta.specs.MayTell.{ArePair, HasCopy, IsAtRest, IsInFile, IsOfPath, IsTaken, IsToRecover, MayGrantAgain, MayTell, placed_copy, takers}
+use Rattle.qfs_laws_meta.specs.MayTell.{ArePair, HasCopy, IsAtRest, IsInFile, IsOfPath, IsTaken}
+use Rattle.qfs_laws_meta.specs.MayTell.{IsToRecover, MayGrantAgain, MayTell, placed_copy, takers}
 use Rattle.qfs_laws_meta.specs.Tells as Of
 use Rattle.qfs_laws_slots.specs.Changes.{told}
-use Rattle.qfs_laws_slots.specs.FreedLaws.{decides_as_freed}
 use Rattle.qfs_model_meta.specs.Apply.{apply, apply_all}
+use Rattle.qfs_model_meta.specs.FreedLaws.{decides_as_freed}
 use Rattle.qfs_model_meta.specs.GetRequests.{decide_open, opened}
 use Rattle.qfs_model_meta.specs.GrantedAgain.{freed}
-use Rattle.qfs_model_meta.specs.LeasedGrants.{closed_len, grant_chosen, grant_leased, grant_recovery, lease_and_grant, move_source, pending_refusal}
+use Rattle.qfs_model_meta.specs.LeasedGrants.{closed_len, grant_chosen, grant_leased}
+use Rattle.qfs_model_meta.specs.LeasedGrants.{grant_recovery, lease_and_grant, move_source}
+use Rattle.qfs_model_meta.specs.LeasedGrants.{pending_refusal}
 use Rattle.qfs_model_meta.specs.Leases.{lease_end}
 use Rattle.qfs_model_meta.specs.Lists.{NineCopies, listed_others, new_grant, no_sources, one_source}
-use Rattle.qfs_model_meta.specs.MoveRequests.{decide_balance, decide_evacuate, decide_move, evacuate_slot, even_out, give_to_lightest, move_copy, move_slot}
+use Rattle.qfs_model_meta.specs.MoveRequests.{decide_balance, decide_evacuate, decide_move}
+use Rattle.qfs_model_meta.specs.MoveRequests.{evacuate_slot, even_out, give_to_lightest, move_copy}
+use Rattle.qfs_model_meta.specs.MoveRequests.{move_slot}
 use Rattle.qfs_model_meta.specs.Past.{Past, granted_slot_copy}
 use Rattle.qfs_model_meta.specs.Placing.{Numbered, heavier, lighter}
-use Rattle.qfs_model_meta.specs.PutRequests.{decide_grant, failed_grant, grant_for_put, grant_in, put_granted, taken_refusal}
+use Rattle.qfs_model_meta.specs.PutRequests.{decide_grant, failed_grant, grant_for_put, grant_in}
+use Rattle.qfs_model_meta.specs.PutRequests.{put_granted, taken_refusal}
 use Rattle.qfs_model_meta.specs.RepairRequests.{decide_heal, decide_recover, heal_slot}
 use Rattle.qfs_model_meta.specs.Slots.{slot_at}
 use Rattle.qfs_model_meta.specs.TreeRows.{closed_file, row_at}
-use Rattle.qfs_model_meta.specs.Worked.{refused}
-use Rattle.std.proofs.Common.{Bool, List, None, Option, Some, [], ap, false, inl, inr, refl, subst, sym, true, ℕ, ◌++◌, ◌∙◌, ◌∷◌, ◌≡◌}
+use Rattle.std.proofs.Common.{Bool, List, None, Option, Some, [], ap, false, inl, inr, refl, subst}
+use Rattle.std.proofs.Common.{sym, true, ℕ, ◌++◌, ◌∙◌, ◌∷◌, ◌≡◌}
 use Rattle.std.specs.List.{reduce}
 
 -- ---- the grant of a put
@@ -160,7 +167,8 @@ module _ (rules : Rules) (actor : ℕ) (past : Past) (m : MetaImage) where
       (λ looks. (
         (looks, refl),
         lending (Ask.OpenFile path) (row_at m.tree path).file
-            (lease_end rules.term m.clock) (Told.Opened (opened rules.layout (row_at m.tree path) m)),
+            (lease_end rules.term m.clock) (Told.Opened (opened rules.layout
+            (row_at m.tree path) m)),
       ))
 
   -- ---- grants under a lease

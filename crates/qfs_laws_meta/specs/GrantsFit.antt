@@ -1,10 +1,14 @@
 -- A pending grant fits its file: on a closed file it is that of a recovery or move, whose lease was
 -- given to its actor on the file; on an unclosed one that of the put which writes the file, and
--- without a lease. Every step keeps that, whatever is asked. The laws of what is held rest on it.
+-- without a lease. Every step keeps that, whatever is asked: the law `grants_fit_files`, on which
+-- the laws of what is held rest.
 use Rattle.qfs_base.specs.EachLaws.{each_weaker}
 use Rattle.qfs_base.specs.Sizes.{LAST_U32}
 use Rattle.qfs_base.specs.Table.{Each, place}
-use Rattle.qfs_base.specs.declared.change.Change.TheVariants.{AbortFile, AddDirectory, CloseFile, ConfirmSlot, EmptySlot, FailGrant, GiveLease, GiveUp, GrantSlot, RemoveFile}
+use Rattle.qfs_base.specs.declared.change.Change.TheVariants.{AbortFile, AddDirectory, CloseFile}
+use Rattle.qfs_base.specs.declared.change.Change.TheVariants.{ConfirmSlot, EmptySlot, FailGrant}
+use Rattle.qfs_base.specs.declared.change.Change.TheVariants.{GiveLease, GiveUp, GrantSlot}
+use Rattle.qfs_base.specs.declared.change.Change.TheVariants.{RemoveFile}
 use Rattle.qfs_base.specs.declared.change.Change.{Change}
 use Rattle.qfs_base.specs.declared.chunk.BlockId.{BlockId}
 use Rattle.qfs_base.specs.declared.history.Outcome.{Outcome}
@@ -17,11 +21,15 @@ use Rattle.qfs_base.specs.declared.reply.MetaReply.{MetaReply}
 use Rattle.qfs_base.specs.declared.request.MetaRequest.{MetaRequest}
 use Rattle.qfs_base.specs.declared.rules.Rules.{Rules}
 use Rattle.qfs_laws_meta.specs.Kept.{Fits, Keeps, kept}
-use Rattle.qfs_laws_meta.specs.RequestChanges.{Does, GivesGrant, GrantsIn, Prepares, Provides, decide-does, grant_at, step-does}
-use Rattle.qfs_laws_meta.specs.Requests.{AllMake, Fine, apply-append, kept-all, make-split, told_all}
-use Rattle.qfs_laws_meta.specs.SlotsBehind.{Touches, failed_record, slot-touched, slot-untouched, touched, touches-or}
+use Rattle.qfs_laws_meta.specs.RequestChanges.{Does, GivesGrant, GrantsIn, Prepares, Provides}
+use Rattle.qfs_laws_meta.specs.RequestChanges.{decide-does, grant_at, step-does}
+use Rattle.qfs_laws_meta.specs.Requests.{AllMake, Fine, apply-append, kept-all, make-split}
+use Rattle.qfs_laws_meta.specs.Requests.{told_all}
+use Rattle.qfs_laws_meta.specs.SlotsBehind.{Touches, failed_record, slot-touched, slot-untouched}
+use Rattle.qfs_laws_meta.specs.SlotsBehind.{touched, touches-or}
 use Rattle.qfs_laws_meta.specs.StaysSound.{decide-fine, keeps-of}
-use Rattle.qfs_laws_meta.specs.StillStands.{EndsFile, IsClosedIn, Writes, still-closed, still-writes}
+use Rattle.qfs_laws_meta.specs.StillStands.{EndsFile, IsClosedIn, Writes, still-closed}
+use Rattle.qfs_laws_meta.specs.StillStands.{still-writes}
 use Rattle.qfs_laws_slots.specs.Changes.{MayMake, told}
 use Rattle.qfs_laws_slots.specs.Losing.{losing-frame}
 use Rattle.qfs_laws_tables.specs.EachRow.{each-right}
@@ -33,13 +41,17 @@ use Rattle.qfs_model_meta.specs.Decision.{Makes}
 use Rattle.qfs_model_meta.specs.Dropped.{dropped_at}
 use Rattle.qfs_model_meta.specs.Grammar.{IsActor}
 use Rattle.qfs_model_meta.specs.Holding.{is_given}
-use Rattle.qfs_model_meta.specs.Past.{GivenLease, Past, is_of_put, no_past, remember, with_copy, with_grant, with_lease}
+use Rattle.qfs_model_meta.specs.Past.{GivenLease, Past, is_of_put, no_past, remember, with_copy}
+use Rattle.qfs_model_meta.specs.Past.{with_grant, with_lease}
 use Rattle.qfs_model_meta.specs.Servers.{server_at}
-use Rattle.qfs_model_meta.specs.Slots.{confirmed_slot, emptied_slot, failed_slot, granted_slot, never_granted, sealed_slot, slot_at, ungranted_slot}
+use Rattle.qfs_model_meta.specs.Slots.{confirmed_slot, emptied_slot, failed_slot, granted_slot}
+use Rattle.qfs_model_meta.specs.Slots.{never_granted, sealed_slot, slot_at, ungranted_slot}
 use Rattle.qfs_model_meta.specs.Sound.{IsSound}
 use Rattle.qfs_model_meta.specs.Step.{meta_step, next_turn, opening, stays}
 use Rattle.qfs_model_meta.specs.TreeRows.{closed_file, unclosed_file}
-use Rattle.std.proofs.Common.{Bool, List, None, Option, Some, [], ap, arith, false, inl, inr, length, refl, subst, sym, true, ℕ, ⊎_elim, ◌+◌, ◌<◌, ◌==◌, ◌∙◌, ◌∷◌, ◌≡◌, ◌≤◌, ◌⊎◌}
+use Rattle.std.proofs.Common.{Bool, List, None, Option, Some, [], ap, arith, false, inl, inr}
+use Rattle.std.proofs.Common.{length, refl, subst, sym, true, ℕ, ⊎_elim, ◌+◌, ◌<◌, ◌==◌, ◌∙◌, ◌∷◌}
+use Rattle.std.proofs.Common.{◌≡◌, ◌≤◌, ◌⊎◌}
 use Rattle.std.proofs.lemmas.Bool.Decides.{nat_tests}
 use Rattle.std.specs.List.{list_any}
 use Rattle.std.specs.Prelude.{IsTrue, is_some, ⊤}
@@ -162,7 +174,8 @@ fits-touched : (past : Past) (m : MetaImage) (change : Change) (block : BlockId)
     → NewFits past m change → Touches change block slot
     → (touched change m (slot_at m.slots block slot)).grant ≡ Some grant
     → FitsFile past (apply m change) block grant
-unfolding apply grant_slot with_slots sealed_slot never_granted granted_slot failed_record ungranted_slot confirmed_slot emptied_slot failed_slot
+unfolding apply grant_slot with_slots sealed_slot never_granted granted_slot failed_record
+    ungranted_slot confirmed_slot emptied_slot failed_slot
 fits-touched past m (CloseFile file actor command) block slot grant new is at =
     absurd (no-grant grant at)
 fits-touched past m (AbortFile file) block slot grant new is at = absurd (no-grant grant at)
@@ -196,7 +209,8 @@ fits-touched past m (GrantSlot other number server actor lease) block slot grant
     ⊎_elim
     (λ r. inl (record {
       numbered = subst (λ l. 0 < l) under r.0;
-      given = subst (WasGiven past) (λ i. record { lease = under i; actor = by i; file = file i }) r.1;
+      given = subst (WasGiven past) (λ i. record { lease = under i; actor = by i; file = file i })
+          r.1;
       closed = subst (IsClosedIn m) file r.2;
     }))
     (λ p. inr (record {
@@ -286,7 +300,8 @@ prepared actor m g first (inr (inr lends)) =
 -- the slot's next version is the same
 pub same-next : (actor : ℕ) (m : MetaImage) (g : Granted) (first : List Change)
     → Prepares actor g first
-    → (slot_at (apply_all first m).slots g.block g.slot).next ≡ (slot_at m.slots g.block g.slot).next
+    → (slot_at (apply_all first m).slots g.block g.slot).next ≡
+    (slot_at m.slots g.block g.slot).next
 unfolding apply_all
 same-next actor m g first (inl none) =
     ap (λ cs. (slot_at (apply_all cs m).slots g.block g.slot).next) none.0

@@ -1,5 +1,6 @@
 -- What an actor is answered where it holds something: its file is never gone before it ends it, a
 -- lease only where a tick ended it, and a grant of a closed file is confirmed, or its file is gone.
+-- The law `holders_are_answered`.
 use Rattle.qfs_base.specs.EachLaws.{each_append, each_weaker}
 use Rattle.qfs_base.specs.Shape.{Shape}
 use Rattle.qfs_base.specs.Sizes.{LAST_U32}
@@ -43,8 +44,11 @@ use Rattle.qfs_model_meta.specs.SettleRequests.{is_own_grant, may_confirm}
 use Rattle.qfs_model_meta.specs.Slots.{slot_at, slot_id, slots_of}
 use Rattle.qfs_model_meta.specs.Sound.{IsSound, LeasesHold, same_lease}
 use Rattle.qfs_model_meta.specs.Step.{meta_step}
-use Rattle.qfs_model_meta.specs.TreeRows.{closed_file, file_stands, has_file, is_unclosed_of, unclosed_file}
-use Rattle.std.proofs.Common.{Bool, List, None, Option, Some, [], ap, arith, false, find, length, map, refl, subst, sym, true, ℕ, ⊎_elim, ◌&&◌, ◌+◌, ◌<◌, ◌==◌, ◌||◌, ◌∙◌, ◌∷◌, ◌≡◌}
+use Rattle.qfs_model_meta.specs.TreeRows.{closed_file, file_stands, has_file, is_unclosed_of}
+use Rattle.qfs_model_meta.specs.TreeRows.{unclosed_file}
+use Rattle.std.proofs.Common.{Bool, List, None, Option, Some, [], ap, arith, false, find, length}
+use Rattle.std.proofs.Common.{map, refl, subst, sym, true, ℕ, ⊎_elim, ◌&&◌, ◌+◌, ◌<◌, ◌==◌, ◌||◌}
+use Rattle.std.proofs.Common.{◌∙◌, ◌∷◌, ◌≡◌}
 use Rattle.std.proofs.lemmas.Bool.{and_from, eq-eqb, true≢false}
 use Rattle.std.specs.List.{list_any}
 use Rattle.std.specs.Prelude.{IfSome, IsTrue, is_some, ⊤}
@@ -169,7 +173,8 @@ held-confirm past m actor block slot version lease h fit stands off grants keeps
         let closed : IsClosedIn m block.file = ⊎_elim (λ r. r.closed)
         (λ p. absurd (let e = p.lease in omega arith)) (fit block slot grant at) in
         let own : is_own_grant actor version lease (grant_at m block slot) ≡ true =
-        ap (is_own_grant actor version lease) at ∙ ap (λ l. is_own_grant actor version l (Some grant))
+        ap (is_own_grant actor version lease) at ∙ ap (λ l. is_own_grant actor version l
+        (Some grant))
         (sym under) ∙ own-is actor version g.lease copy old in
         true≢false (sym (and_from _ _ closed own) ∙ off)
 
@@ -258,7 +263,9 @@ incomplete-none layout actor file m index slot is = (
 
 -- ---- every request
 
-module _ (rules : Rules) (actor : ℕ) (past : Past) (m : MetaImage) (ended : ℕ → Bool) (holding : Holding) (h : Keeps past m) (fit : GrantsFit past m) (holds : Holds past ended m actor holding) where
+module _ (rules : Rules) (actor : ℕ) (past : Past) (m : MetaImage) (ended : ℕ → Bool)
+    (holding : Holding) (h : Keeps past m) (fit : GrantsFit past m)
+    (holds : Holds past ended m actor holding) where
   held-grant : (file index slot : ℕ) (again : Bool) (reply : MetaReply)
       → MayTell rules actor m reply (Ask.Grant file index slot again)
       → HeldGone holding file reply
@@ -316,7 +323,8 @@ module _ (rules : Rules) (actor : ℕ) (past : Past) (m : MetaImage) (ended : �
 
 -- ---- the answers that any request may get
 
-module _ (rules : Rules) (actor : ℕ) (outcome : Outcome) (m : MetaImage) (ended : ℕ → Bool) (holding : Holding) (request : MetaRequest) where
+module _ (rules : Rules) (actor : ℕ) (outcome : Outcome) (m : MetaImage) (ended : ℕ → Bool)
+    (holding : Holding) (request : MetaRequest) where
   any-gone : (file : ℕ) (reply : MetaReply) → AnyMayGet rules actor outcome m request reply
       → HeldGone holding file reply
   any-gone file Told.Gone any = absurd any
@@ -361,7 +369,8 @@ any-tells rules actor outcome m ended holding reply (Ask.Mkdir path) any = tt
 any-tells rules actor outcome m ended holding reply _ any = tt
 
 pub held-are-answered : HeldAreAnswered
-held-are-answered rules actor request outcome past m ended holding sound fit left who may range holds =
+held-are-answered rules actor request outcome past m ended holding sound fit left who may range
+    holds =
     let served = meta_step rules actor request outcome m in
     ⊎_elim
     (λ told. held-tells rules actor past m ended holding (keeps-of past m sound) fit holds

@@ -2,7 +2,10 @@
 -- and its grants. Cited by the law of what is held.
 use Rattle.qfs_base.specs.NameTree.{PathNames}
 use Rattle.qfs_base.specs.Table.{Each, place}
-use Rattle.qfs_base.specs.declared.change.Change.TheVariants.{AbortFile, AddDirectory, CloseFile, CondemnStray, ConfirmSlot, EmptySlot, EndLease, FailGrant, GiveLease, GiveUp, GrantSlot, RemoveFile}
+use Rattle.qfs_base.specs.declared.change.Change.TheVariants.{AbortFile, AddDirectory, CloseFile}
+use Rattle.qfs_base.specs.declared.change.Change.TheVariants.{CondemnStray, ConfirmSlot, EmptySlot}
+use Rattle.qfs_base.specs.declared.change.Change.TheVariants.{EndLease, FailGrant, GiveLease}
+use Rattle.qfs_base.specs.declared.change.Change.TheVariants.{GiveUp, GrantSlot, RemoveFile}
 use Rattle.qfs_base.specs.declared.change.Change.{Change}
 use Rattle.qfs_base.specs.declared.chunk.BlockId.{BlockId}
 use Rattle.qfs_base.specs.declared.image.Grant.{Grant}
@@ -17,10 +20,12 @@ use Rattle.qfs_base.specs.declared.request.MetaRequest.{MetaRequest}
 use Rattle.qfs_laws_meta.specs.GrantRequests.{closed-at}
 use Rattle.qfs_laws_meta.specs.GrantsFit.{GrantsFit, WasGiven, given-more}
 use Rattle.qfs_laws_meta.specs.Kept.{Fits, Keeps, kept}
-use Rattle.qfs_laws_meta.specs.RequestChanges.{Does, IsAt, OwnsGrant, OwnsLease, Takes, TellsOf, grant_at}
+use Rattle.qfs_laws_meta.specs.RequestChanges.{Does, IsAt, OwnsGrant, OwnsLease, Takes, TellsOf}
+use Rattle.qfs_laws_meta.specs.RequestChanges.{grant_at}
 use Rattle.qfs_laws_meta.specs.Requests.{AllMake}
 use Rattle.qfs_laws_meta.specs.SlotsBehind.{Touches, slot-untouched}
-use Rattle.qfs_laws_meta.specs.StillStands.{EndsFile, IsClosedIn, IsGone, Writes, stays-gone, still-writes}
+use Rattle.qfs_laws_meta.specs.StillStands.{EndsFile, IsClosedIn, IsGone, Writes, stays-gone}
+use Rattle.qfs_laws_meta.specs.StillStands.{still-writes}
 use Rattle.qfs_laws_slots.specs.Changes.{told}
 use Rattle.qfs_laws_slots.specs.Losing.{losing-frame, stray-frame}
 use Rattle.qfs_laws_slots.specs.RowKeys.{is_lease-is, own-file, own-lease}
@@ -30,15 +35,18 @@ use Rattle.qfs_laws_tables.specs.SomeRow.{any_append, any_each, any_filter}
 use Rattle.qfs_laws_tree.specs.Files.{not-closed, unclosed-rows}
 use Rattle.qfs_laws_tree.specs.History.{IsUnclosedFile}
 use Rattle.qfs_laws_tree.specs.Tree.{RowIs}
-use Rattle.qfs_model_meta.specs.Apply.{add_file, apply, apply_all, bring_up, finish_lease, grant_slot, with_slots, write_entry}
+use Rattle.qfs_model_meta.specs.Apply.{add_file, apply, apply_all, bring_up, finish_lease}
+use Rattle.qfs_model_meta.specs.Apply.{grant_slot, with_slots, write_entry}
 use Rattle.qfs_model_meta.specs.Holding.{Holding, KeepsHolding, ends_lease, is_given}
 use Rattle.qfs_model_meta.specs.Leases.{end_lease, give_lease, holds_lease, is_lease, is_live_lease}
-use Rattle.qfs_model_meta.specs.Past.{GivenLease, Past, SlotCopy, granted_slot_copy, is_of_put, remember, was_granted, with_copy, with_grant, with_lease}
+use Rattle.qfs_model_meta.specs.Past.{GivenLease, Past, SlotCopy, granted_slot_copy, is_of_put}
+use Rattle.qfs_model_meta.specs.Past.{remember, was_granted, with_copy, with_grant, with_lease}
 use Rattle.qfs_model_meta.specs.Slots.{slot_at}
 use Rattle.qfs_model_meta.specs.Sound.{LeasesHold, same_lease, same_lease_number}
 use Rattle.qfs_model_meta.specs.Step.{stays}
 use Rattle.qfs_model_meta.specs.TreeRows.{has_file, is_unclosed_of, is_unclosed_row, unclosed_file}
-use Rattle.std.proofs.Common.{Bool, List, None, Option, Some, [], ap, arith, false, inl, inr, not, refl, subst, sym, true, ℕ, ⊎_elim, ◌&&◌, ◌==◌, ◌||◌, ◌∙◌, ◌∷◌, ◌≡◌}
+use Rattle.std.proofs.Common.{Bool, List, None, Option, Some, [], ap, arith, false, inl, inr, not}
+use Rattle.std.proofs.Common.{refl, subst, sym, true, ℕ, ⊎_elim, ◌&&◌, ◌==◌, ◌||◌, ◌∙◌, ◌∷◌, ◌≡◌}
 use Rattle.std.proofs.lemmas.Bool.Decides.{nat_tests}
 use Rattle.std.proofs.lemmas.Bool.{and_from, and_parts, eq-eqb, eqb-true, ne_eqb, true≢false}
 use Rattle.std.specs.List.{list_any}
@@ -50,7 +58,8 @@ pub record HoldsTold (past : Past) (who : ℕ) (holding : Holding) : Type 0 wher
   pub grants : Each (λ (g : Granted). IsTrue
       (was_granted past.granted g.block g.slot (granted_slot_copy g).copy)) holding.grants
 
-pub record Holds (past : Past) (ended : ℕ → Bool) (m : MetaImage) (who : ℕ) (holding : Holding) : Type 0 where
+pub record Holds (past : Past) (ended : ℕ → Bool) (m : MetaImage) (who : ℕ)
+    (holding : Holding) : Type 0 where
   pub keeps : KeepsHolding past ended m who holding
   pub told : HoldsTold past who holding
 
@@ -225,7 +234,9 @@ same-grant m block other slot at a b here there left right =
     some-is : {a b : Grant} → Some a ≡ Some b → a ≡ b
     some-is e = cc
 
-module _ (actor : ℕ) (past : Past) (m : MetaImage) (request : MetaRequest) (reply : MetaReply) (h : Keeps past m) (fit : GrantsFit past m) (who : ℕ) (free : Takes actor request reply who → ⊥) where
+module _ (actor : ℕ) (past : Past) (m : MetaImage) (request : MetaRequest) (reply : MetaReply)
+    (h : Keeps past m) (fit : GrantsFit past m) (who : ℕ)
+    (free : Takes actor request reply who → ⊥) where
   not-taken : (other : ℕ) → other ≡ who → Takes actor request reply other → ⊥
   not-taken other same takes = free (subst (Takes actor request reply) same takes)
 
@@ -264,7 +275,8 @@ module _ (actor : ℕ) (past : Past) (m : MetaImage) (request : MetaRequest) (re
   spares-lease lease own given no_tick _ does ends = ends
 
   -- the grant that it has
-  module _ (block : BlockId) (slot : ℕ) (grant : Grant) (at : grant_at m block slot ≡ Some grant) (own : grant.actor ≡ who) where
+  module _ (block : BlockId) (slot : ℕ) (grant : Grant) (at : grant_at m block slot ≡ Some grant)
+      (own : grant.actor ≡ who) where
     writer-is : (other : ℕ) → Writes m other block.file → other ≡ who
     writer-is other writes =
         ⊎_elim
@@ -303,7 +315,8 @@ module _ (actor : ℕ) (past : Past) (m : MetaImage) (request : MetaRequest) (re
         here t = subst (λ b. TellsOf reply b slot server lease) touches.0
             (subst (λ s. TellsOf reply other s server lease) touches.1 t)
     spares-slot apart stays (FailGrant other number) does touches =
-        apart (sym (writer-is actor (subst (λ (b : BlockId). Writes m actor b.file) touches.0 does.0)))
+        apart (sym (writer-is actor (subst (λ (b : BlockId). Writes m actor b.file) touches.0
+        does.0)))
         does.1 0 (subst (λ b. TellsOf reply b slot does.1 0) touches.0
         (subst (λ s. TellsOf reply other s does.1 0) touches.1 does.2))
     spares-slot apart stays (GiveUp other number) does touches =
@@ -350,7 +363,8 @@ slot-all m block slot (change ∷ changes) spares =
 
 still-live : (m : MetaImage) (change : Change) (lease : ℕ) → (EndsLease change lease → ⊥)
     → is_live_lease lease m.leases ≡ true → is_live_lease lease (apply m change).leases ≡ true
-unfolding apply write_entry add_file with_slots grant_slot finish_lease bring_up give_lease end_lease is_live_lease
+unfolding apply write_entry add_file with_slots grant_slot finish_lease bring_up give_lease
+    end_lease is_live_lease
 still-live m (GiveLease actor file until) lease spares live =
     any_append (is_lease lease) m.leases
     (record { lease = m.next_lease; actor = actor; file = file; until = until } ∷ []) live

@@ -1,6 +1,5 @@
--- What an actor's command holds stays its own behind the step of another actor. Only a tick ends its
--- lease, and only the file of a recovery or move may be removed. The laws of its own requests cite
--- what stays.
+-- What an actor's command holds stays its own behind the step of another actor. Only a tick ends
+-- its lease, and only the file of a recovery or move may be removed. For the law `holdings_stay`.
 use Rattle.qfs_base.specs.EachLaws.{each_weaker}
 use Rattle.qfs_base.specs.NameTree.{PathNames, look_refusal}
 use Rattle.qfs_base.specs.Sizes.{LAST_U32}
@@ -21,10 +20,14 @@ use Rattle.qfs_base.specs.declared.rules.Rules.{Rules}
 use Rattle.qfs_laws_meta.specs.DroppedActors.{drop-counts}
 use Rattle.qfs_laws_meta.specs.GrantRequests.{closed-at}
 use Rattle.qfs_laws_meta.specs.GrantsFit.{GrantsFit}
-use Rattle.qfs_laws_meta.specs.HoldingKept.{EndsLease, Holds, NotRemoved, NotTold, ended_behind, gone-all, granted-later, lease-later, live-all, not-written, slot-all, spares-file, spares-lease, spares-slot, writes-all}
+use Rattle.qfs_laws_meta.specs.HoldingKept.{EndsLease, Holds, NotRemoved, NotTold, ended_behind}
+use Rattle.qfs_laws_meta.specs.HoldingKept.{gone-all, granted-later, lease-later, live-all}
+use Rattle.qfs_laws_meta.specs.HoldingKept.{not-written, slot-all, spares-file, spares-lease}
+use Rattle.qfs_laws_meta.specs.HoldingKept.{spares-slot, writes-all}
 use Rattle.qfs_laws_meta.specs.Kept.{Keeps, tree-back}
 use Rattle.qfs_laws_meta.specs.RequestChanges.{Does, IsAt, Takes, decide-does, step-does}
-use Rattle.qfs_laws_meta.specs.Requests.{AllMake, Fine, apply-append, kept-all, make-split, told_all}
+use Rattle.qfs_laws_meta.specs.Requests.{AllMake, Fine, apply-append, kept-all, make-split}
+use Rattle.qfs_laws_meta.specs.Requests.{told_all}
 use Rattle.qfs_laws_meta.specs.SlotsBehind.{Touches}
 use Rattle.qfs_laws_meta.specs.StaysSound.{decide-fine, keeps-of}
 use Rattle.qfs_laws_meta.specs.StillStands.{EndsFile, IsClosedIn, Writes, gone-when}
@@ -37,17 +40,20 @@ use Rattle.qfs_model_meta.specs.Decision.{Makes, Tells, refuse, refuse_file, unl
 use Rattle.qfs_model_meta.specs.DropRequest.{changes_unless_dropped, decide_drop}
 use Rattle.qfs_model_meta.specs.Dropped.{dropped_at}
 use Rattle.qfs_model_meta.specs.Grammar.{IsActor}
-use Rattle.qfs_model_meta.specs.Holding.{HasGrant, Holding, KeepsGrant, KeepsLease, ends_lease, is_tick}
+use Rattle.qfs_model_meta.specs.Holding.{HasGrant, Holding, KeepsGrant, KeepsLease, ends_lease}
+use Rattle.qfs_model_meta.specs.Holding.{is_tick}
 use Rattle.qfs_model_meta.specs.Leases.{is_live_lease}
-use Rattle.qfs_model_meta.specs.Past.{GivenLease, Past, SlotCopy, granted_slot_copy, is_copy, remember, was_granted}
+use Rattle.qfs_model_meta.specs.Past.{GivenLease, Past, SlotCopy, granted_slot_copy, is_copy}
+use Rattle.qfs_model_meta.specs.Past.{remember, was_granted}
 use Rattle.qfs_model_meta.specs.Range.{in_range}
 use Rattle.qfs_model_meta.specs.Slots.{slots_of}
 use Rattle.qfs_model_meta.specs.Sound.{IsSound}
 use Rattle.qfs_model_meta.specs.Step.{meta_step, next_turn, stays}
 use Rattle.qfs_model_meta.specs.TreeRequests.{decide_remove, remove_changes}
 use Rattle.qfs_model_meta.specs.TreeRows.{file_stands, row_at, standing}
-use Rattle.qfs_model_meta.specs.Worked.{refused}
-use Rattle.std.proofs.Common.{Bool, List, None, Option, Some, [], ap, drop, false, inl, inr, length, map, not, refl, subst, sym, true, ℕ, ⊎_elim, ◌&&◌, ◌+◌, ◌<◌, ◌==◌, ◌||◌, ◌∙◌, ◌∷◌, ◌≡◌, ◌⊎◌}
+use Rattle.std.proofs.Common.{Bool, List, None, Option, Some, [], ap, drop, false, inl, inr, length}
+use Rattle.std.proofs.Common.{map, not, refl, subst, sym, true, ℕ, ⊎_elim, ◌&&◌, ◌+◌, ◌<◌, ◌==◌}
+use Rattle.std.proofs.Common.{◌||◌, ◌∙◌, ◌∷◌, ◌≡◌, ◌⊎◌}
 use Rattle.std.proofs.lemmas.Bool.{eq-eqb, eqb-true, true≢false}
 use Rattle.std.specs.Prelude.{IfSome, IsTrue}
 
@@ -187,7 +193,11 @@ tick-or Ask.Tick = inl refl
 tick-or (Ask.Mkdir path) = inr (λ e. cc)
 tick-or _ = inr (λ e. cc)
 
-module _ (rules : Rules) (actor : ℕ) (past : Past) (m : MetaImage) (request : MetaRequest) (reply : MetaReply) (changes : List Change) (is : decide rules actor m request ≡ Makes changes reply) (makes : AllMake past m changes) (h : Keeps past m) (fit : GrantsFit past m) (does : Each (Does actor m request reply) changes) (ended : ℕ → Bool) (who : ℕ) (free : Takes actor request reply who → ⊥) where
+module _ (rules : Rules) (actor : ℕ) (past : Past) (m : MetaImage) (request : MetaRequest)
+    (reply : MetaReply) (changes : List Change)
+    (is : decide rules actor m request ≡ Makes changes reply) (makes : AllMake past m changes)
+    (h : Keeps past m) (fit : GrantsFit past m) (does : Each (Does actor m request reply) changes)
+    (ended : ℕ → Bool) (who : ℕ) (free : Takes actor request reply who → ⊥) where
   abbrev pub behind : MetaImage
   behind = apply_all changes m
 
@@ -333,7 +343,8 @@ if-told actor past ended m request reply (Some lease) keeps = record {
       (λ over. inr (ended-on ended request m m lease.lease over)) keeps.live;
 }
 
-pub same-holding : (actor : ℕ) (past : Past) (ended : ℕ → Bool) (m : MetaImage) (request : MetaRequest)
+pub same-holding : (actor : ℕ) (past : Past) (ended : ℕ → Bool) (m : MetaImage)
+    (request : MetaRequest)
     (reply : MetaReply) (who : ℕ) (holding : Holding)
     → Holds past ended m who holding
     → Holds (remember actor past reply) (ended_behind ended request m m) m who holding
@@ -381,7 +392,8 @@ never-own actor reply who other grants =
 
 pub others-holdings-stay : OthersHoldingsStay
 unfolding meta_step next_turn
-others-holdings-stay rules actor request outcome past m ended who holding sound fit left is_actor may other none holds =
+others-holdings-stay rules actor request outcome past m ended who holding sound fit left is_actor
+    may other none holds =
     let h = keeps-of past m sound in
     let fine = decide-fine rules actor past m request sound left is_actor may in
     step-does (λ served. dropped_at who served.meta.dropped ≡ None

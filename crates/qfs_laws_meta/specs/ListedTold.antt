@@ -1,5 +1,6 @@
--- What an answer grants and lists: the copies that it lists are current, in the state that decided it
--- and behind the step; and a put is granted no server that failed a put of the slot.
+-- What an answer grants and lists: the copies that it lists are current, in the state that decided
+-- it and behind the step; and a put is granted no server that failed a put of the slot. The laws
+-- `listed_copies_are_current` and, in part, `slots_are_told`.
 use Rattle.qfs_base.specs.EachLaws.{each_weaker}
 use Rattle.qfs_base.specs.NumberSet.{has}
 use Rattle.qfs_base.specs.Shape.{Shape}
@@ -22,19 +23,22 @@ use Rattle.qfs_base.specs.declared.request.MetaRequest.TheVariants as Ask
 use Rattle.qfs_base.specs.declared.request.MetaRequest.{MetaRequest}
 use Rattle.qfs_base.specs.declared.request.SlotId.{SlotId}
 use Rattle.qfs_base.specs.declared.rules.Rules.{Rules}
-use Rattle.qfs_laws_meta.specs.Granting.{chosen-is, live-free}
+use Rattle.qfs_laws_meta.specs.Granting.{live-free}
 use Rattle.qfs_laws_meta.specs.Kept.{Fits, Keeps}
-use Rattle.qfs_laws_meta.specs.Listing.{AreCurrent, file-each, listed-each, one-current, others-current}
+use Rattle.qfs_laws_meta.specs.Listing.{AreCurrent, file-each, listed-each, one-current}
+use Rattle.qfs_laws_meta.specs.Listing.{others-current}
 use Rattle.qfs_laws_meta.specs.MayTell.{AnyMayGet, IsPutGrant, MayTell, placed_put}
 use Rattle.qfs_laws_meta.specs.MoreGrants.{row-of, source-current}
 use Rattle.qfs_laws_meta.specs.Replies.{ListsCurrent}
-use Rattle.qfs_laws_meta.specs.RequestChanges.{GivesGrant, Prepares, Provides, decide-does, grant_at, step-does}
+use Rattle.qfs_laws_meta.specs.RequestChanges.{GivesGrant, Prepares, Provides, decide-does}
+use Rattle.qfs_laws_meta.specs.RequestChanges.{grant_at, step-does}
 use Rattle.qfs_laws_meta.specs.Requests.{apply-append}
 use Rattle.qfs_laws_meta.specs.SlotsBehind.{failed_record, slot-touched, slot-untouched, touches-or}
 use Rattle.qfs_laws_meta.specs.SlotsTold.{failed_at}
 use Rattle.qfs_laws_meta.specs.StaysSound.{keeps-of}
 use Rattle.qfs_laws_meta.specs.StepsAnswer.{steps-answer}
 use Rattle.qfs_laws_meta.specs.Tells.{current_at}
+use Rattle.qfs_laws_slots.specs.Choice.{chosen-is}
 use Rattle.qfs_laws_tables.specs.Distinct.{copies}
 use Rattle.qfs_model_meta.specs.Apply.{apply, apply_all}
 use Rattle.qfs_model_meta.specs.Asked.{MayAsk}
@@ -43,17 +47,23 @@ use Rattle.qfs_model_meta.specs.Dropped.{dropped_at}
 use Rattle.qfs_model_meta.specs.GetRequests.{opened}
 use Rattle.qfs_model_meta.specs.Grammar.{IsActor}
 use Rattle.qfs_model_meta.specs.LeasedGrants.{move_source}
-use Rattle.qfs_model_meta.specs.Lists.{NineCopies, block_count, listed_blocks, new_grant, no_sources}
+use Rattle.qfs_model_meta.specs.Lists.{NineCopies, block_count, listed_blocks, new_grant}
+use Rattle.qfs_model_meta.specs.Lists.{no_sources}
 use Rattle.qfs_model_meta.specs.MoveRequests.{next_to_move}
-use Rattle.qfs_model_meta.specs.Past.{GivenLease, ListedCopy, Past, is_of_put, listed_in, listed_in_file, no_past, remember, with_copy, with_grant, with_lease}
+use Rattle.qfs_model_meta.specs.Past.{GivenLease, ListedCopy, Past, is_of_put, listed_in}
+use Rattle.qfs_model_meta.specs.Past.{listed_in_file, no_past, remember, with_copy, with_grant}
+use Rattle.qfs_model_meta.specs.Past.{with_lease}
 use Rattle.qfs_model_meta.specs.Placing.{barred_for_put, with_live_servers}
 use Rattle.qfs_model_meta.specs.PutRequests.{chosen_for_put, failed_with}
 use Rattle.qfs_model_meta.specs.Range.{in_range, is_slot_number}
-use Rattle.qfs_model_meta.specs.Slots.{failed_slot, granted_slot, grants_of_block, slot_at, ungranted_slot, without_grant}
+use Rattle.qfs_model_meta.specs.Slots.{failed_slot, granted_slot, grants_of_block, slot_at}
+use Rattle.qfs_model_meta.specs.Slots.{ungranted_slot, without_grant}
 use Rattle.qfs_model_meta.specs.Sound.{IsSound, is_lease_of}
 use Rattle.qfs_model_meta.specs.Step.{meta_step, next_turn, stays}
 use Rattle.qfs_model_meta.specs.TreeRows.{row_at}
-use Rattle.std.proofs.Common.{Bool, List, None, Option, Some, [], ap, false, find, inl, inr, length, refl, subst, sym, true, ℕ, ⊎_elim, ◌&&◌, ◌+◌, ◌<◌, ◌==◌, ◌||◌, ◌∙◌, ◌∷◌, ◌≡◌}
+use Rattle.std.proofs.Common.{Bool, List, None, Option, Some, [], ap, false, find, inl, inr, length}
+use Rattle.std.proofs.Common.{refl, subst, sym, true, ℕ, ⊎_elim, ◌&&◌, ◌+◌, ◌<◌, ◌==◌, ◌||◌, ◌∙◌}
+use Rattle.std.proofs.Common.{◌∷◌, ◌≡◌}
 use Rattle.std.proofs.lemmas.Bool.{and_from, and_parts, eq-eqb, eqb-true, lt-ltb}
 use Rattle.std.specs.List.{list_any}
 
@@ -355,11 +365,13 @@ failed-are-not-granted rules actor file index slot again outcome past m g sound 
         → g ≡ new_grant layout len b slot server 0 no_sources m → g.server ≡ server
     server-told layout len server b e = unfold new_grant in ap (λ (x : Granted). x.server) e
 
-    put-placed : IsPutGrant rules.layout actor (record { file = file; index = index }) slot again m g
+    put-placed : IsPutGrant rules.layout actor (record { file = file; index = index }) slot again
+        m g
         → has (failed_with (failed_at m (record { file = file; index = index }) slot)
         (grant_at m (record { file = file; index = index }) slot)) g.server ≡ false
     put-placed put =
         ap (has (failed_with (failed_at m (record { file = file; index = index }) slot)
-        (grant_at m (record { file = file; index = index }) slot))) (server-told rules.layout put.row.len put.server
+        (grant_at m (record { file = file; index = index }) slot)))
+        (server-told rules.layout put.row.len put.server
         (record { file = file; index = index }) put.is)
         ∙ not-failed m (record { file = file; index = index }) slot put.server put.placed

@@ -1,5 +1,6 @@
 -- What each request may be answered, and what each answer says of the state that decided it.
-use Rattle.qfs_base.specs.NameTree.{PathNames, add_refusal, directory_refusal, look_refusal, names_below, rename_refusal, rmdir_refusal}
+use Rattle.qfs_base.specs.NameTree.{PathNames, add_refusal, directory_refusal, look_refusal}
+use Rattle.qfs_base.specs.NameTree.{names_below, rename_refusal, rmdir_refusal}
 use Rattle.qfs_base.specs.Shape.{Shape}
 use Rattle.qfs_base.specs.Sizes.{LAST_U64}
 use Rattle.qfs_base.specs.Table.{place}
@@ -31,16 +32,19 @@ use Rattle.qfs_model_meta.specs.Dropped.{dropped_at}
 use Rattle.qfs_model_meta.specs.GetRequests.{opened}
 use Rattle.qfs_model_meta.specs.LeasedGrants.{closed_len, move_source}
 use Rattle.qfs_model_meta.specs.Leases.{holds_lease}
-use Rattle.qfs_model_meta.specs.Lists.{NineCopies, block_count, listed_others, new_grant, no_sources, one_source}
+use Rattle.qfs_model_meta.specs.Lists.{NineCopies, block_count, listed_others, new_grant}
+use Rattle.qfs_model_meta.specs.Lists.{no_sources, one_source}
 use Rattle.qfs_model_meta.specs.MoveRequests.{fits_move, may_get, next_to_move}
-use Rattle.qfs_model_meta.specs.Placing.{Numbered, barred_for_block, census, choose, heavier, lighter, open_servers}
+use Rattle.qfs_model_meta.specs.Placing.{Numbered, barred_for_block, census, choose, heavier}
+use Rattle.qfs_model_meta.specs.Placing.{lighter, open_servers}
 use Rattle.qfs_model_meta.specs.PutRequests.{chosen_for_put, first_ungranted}
 use Rattle.qfs_model_meta.specs.RepairRequests.{is_missing, next_to_heal}
 use Rattle.qfs_model_meta.specs.Servers.{is_listed, reading_after, server_at}
 use Rattle.qfs_model_meta.specs.SettleRequests.{may_confirm, pending_version}
 use Rattle.qfs_model_meta.specs.Slots.{count_on, slot_at}
 use Rattle.qfs_model_meta.specs.TreeRows.{closed_file, file_stands, row_at, standing, unclosed_file}
-use Rattle.std.proofs.Common.{Bool, List, None, Option, Some, [], false, find, length, true, ℕ, ◌+◌, ◌≡◌, ◌⊎◌}
+use Rattle.std.proofs.Common.{Bool, List, None, Option, Some, [], false, find, length, true, ℕ, ◌+◌}
+use Rattle.std.proofs.Common.{◌≡◌, ◌⊎◌}
 use Rattle.std.specs.List.{reduce}
 use Rattle.std.specs.Prelude.{min, nat_le, nat_lt}
 
@@ -77,7 +81,8 @@ TellsOpened rules m path reply = ⊥
 -- ---- puts
 
 -- a block of a file that the actor writes, and a block beyond it
-pub record IsInFile (layout : Shape) (actor : ℕ) (block : BlockId) (m : MetaImage) (row : TreeRow) : Type 0 where
+pub record IsInFile (layout : Shape) (actor : ℕ) (block : BlockId) (m : MetaImage)
+    (row : TreeRow) : Type 0 where
   pub unclosed : unclosed_file actor block.file m.tree ≡ Some row
   pub in_file : nat_lt block.index (block_count layout row.len) ≡ true
 
@@ -103,7 +108,8 @@ placed_put block slot m =
     chosen_for_put block slot m.servers m.slots (slot_at m.slots block slot)
 
 -- the grant of a slot of a put, on the server that placement finds
-pub record IsPutGrant (layout : Shape) (actor : ℕ) (block : BlockId) (slot : ℕ) (again : Bool) (m : MetaImage) (g : Granted) : Type 0 where
+pub record IsPutGrant (layout : Shape) (actor : ℕ) (block : BlockId) (slot : ℕ) (again : Bool)
+    (m : MetaImage) (g : Granted) : Type 0 where
   pub row : TreeRow
   pub server : ℕ
   pub of_file : IsInFile layout actor block m row
@@ -112,14 +118,16 @@ pub record IsPutGrant (layout : Shape) (actor : ℕ) (block : BlockId) (slot : �
   pub is : g ≡ new_grant layout row.len block slot server 0 no_sources m
 
 -- placement finds none
-pub record IsPutNowhere (layout : Shape) (actor : ℕ) (block : BlockId) (slot : ℕ) (again : Bool) (m : MetaImage) : Type 0 where
+pub record IsPutNowhere (layout : Shape) (actor : ℕ) (block : BlockId) (slot : ℕ) (again : Bool)
+    (m : MetaImage) : Type 0 where
   pub row : TreeRow
   pub of_file : IsInFile layout actor block m row
   pub free : MayGrantAgain again block slot m
   pub nowhere : placed_put block slot m ≡ None
 
 -- a grant of the slot is pending, and it isn't asked again
-pub record IsPutTaken (layout : Shape) (actor : ℕ) (block : BlockId) (slot : ℕ) (again : Bool) (m : MetaImage) (version : ℕ) : Type 0 where
+pub record IsPutTaken (layout : Shape) (actor : ℕ) (block : BlockId) (slot : ℕ) (again : Bool)
+    (m : MetaImage) (version : ℕ) : Type 0 where
   pub row : TreeRow
   pub of_file : IsInFile layout actor block m row
   pub once : again ≡ false
@@ -142,7 +150,8 @@ pub record IsComplete (layout : Shape) (actor file : ℕ) (m : MetaImage) : Type
   pub unclosed : unclosed_file actor file m.tree ≡ Some row
   pub complete : first_ungranted file (block_count layout row.len) m.slots ≡ None
 
-pub record IsIncomplete (layout : Shape) (actor file : ℕ) (m : MetaImage) (index slot : ℕ) : Type 0 where
+pub record IsIncomplete (layout : Shape) (actor file : ℕ) (m : MetaImage)
+    (index slot : ℕ) : Type 0 where
   pub row : TreeRow
   pub id : SlotId
   pub unclosed : unclosed_file actor file m.tree ≡ Some row
@@ -189,18 +198,21 @@ IsPlacedGrant layout block slot sources m g =
     × IsLeasedGrant layout block slot server sources m g
 
 -- the block is one of the closed file at the path
-pub record IsOfPath (layout : Shape) (path : PathNames) (block : BlockId) (m : MetaImage) : Type 0 where
+pub record IsOfPath (layout : Shape) (path : PathNames) (block : BlockId)
+    (m : MetaImage) : Type 0 where
   pub looks : look_refusal (standing m.tree) path ≡ None
   pub in_file : nat_lt block.index (block_count layout (row_at m.tree path).len) ≡ true
 
 -- its slot is missing, and no grant of it is pending
-pub record IsToRecover (layout : Shape) (path : PathNames) (block : BlockId) (slot : ℕ) (m : MetaImage) : Type 0 where
+pub record IsToRecover (layout : Shape) (path : PathNames) (block : BlockId) (slot : ℕ)
+    (m : MetaImage) : Type 0 where
   pub of_path : IsOfPath layout path block m
   pub free : (slot_at m.slots block slot).grant ≡ None
   pub missing : is_missing m.clock m.servers (slot_at m.slots block slot).current ≡ true
 
 -- its slot isn't missing
-pub record IsWhole (layout : Shape) (path : PathNames) (block : BlockId) (slot : ℕ) (m : MetaImage) : Type 0 where
+pub record IsWhole (layout : Shape) (path : PathNames) (block : BlockId) (slot : ℕ)
+    (m : MetaImage) : Type 0 where
   pub of_path : IsOfPath layout path block m
   pub free : (slot_at m.slots block slot).grant ≡ None
   pub there : is_missing m.clock m.servers (slot_at m.slots block slot).current ≡ false
@@ -233,12 +245,14 @@ TellsHeal layout after m (Told.NoServer other at) =
 TellsHeal layout after m reply = ⊥
 
 -- a slot of the closed file at the path has this current copy
-pub record HasCopy (layout : Shape) (path : PathNames) (block : BlockId) (slot : ℕ) (m : MetaImage) (copy : Copy) : Type 0 where
+pub record HasCopy (layout : Shape) (path : PathNames) (block : BlockId) (slot : ℕ) (m : MetaImage)
+    (copy : Copy) : Type 0 where
   pub of_path : IsOfPath layout path block m
   pub current : (slot_at m.slots block slot).current ≡ Some copy
 
 -- and no grant of the slot is pending
-pub record IsAtRest (layout : Shape) (path : PathNames) (block : BlockId) (slot : ℕ) (m : MetaImage) (copy : Copy) : Type 0 where
+pub record IsAtRest (layout : Shape) (path : PathNames) (block : BlockId) (slot : ℕ) (m : MetaImage)
+    (copy : Copy) : Type 0 where
   pub there : HasCopy layout path block slot m copy
   pub free : (slot_at m.slots block slot).grant ≡ None
 

@@ -1,4 +1,5 @@
--- What an actor's command holds behind its own request: what the answer leaves or gives.
+-- What an actor's command holds behind its own request: what the answer leaves or gives. For the
+-- law `holdings_stay`.
 use Rattle.qfs_base.specs.EachLaws.{each_append, each_filter, each_weaker}
 use Rattle.qfs_base.specs.NameTree.{PathNames}
 use Rattle.qfs_base.specs.Sizes.{LAST_U32}
@@ -15,11 +16,14 @@ use Rattle.qfs_base.specs.declared.reply.MetaReply.{MetaReply}
 use Rattle.qfs_base.specs.declared.reply.Opened.{Opened}
 use Rattle.qfs_base.specs.declared.request.MetaRequest.{MetaRequest}
 use Rattle.qfs_base.specs.declared.rules.Rules.{Rules}
-use Rattle.qfs_laws_meta.specs.GrantsFit.{GrantsFit, given-self, given-told, granting-does, prepared, same-next}
+use Rattle.qfs_laws_meta.specs.GrantsFit.{GrantsFit, given-self, given-told, granting-does}
+use Rattle.qfs_laws_meta.specs.GrantsFit.{prepared, same-next}
 use Rattle.qfs_laws_meta.specs.HoldingKept.{Holds, NotTold, ended_behind, live-all}
-use Rattle.qfs_laws_meta.specs.HoldingStays.{holding-kept, not-dropped, or-left, same-holding, turned-holding}
-use Rattle.qfs_laws_meta.specs.Kept.{Fits, Keeps}
-use Rattle.qfs_laws_meta.specs.RequestChanges.{Does, GivesGrant, GivesNothing, GrantsIn, Prepares, Provides, Takes, TellsOf, decide-does, step-does}
+use Rattle.qfs_laws_meta.specs.HoldingStays.{holding-kept, not-dropped, or-left, same-holding}
+use Rattle.qfs_laws_meta.specs.HoldingStays.{turned-holding}
+use Rattle.qfs_laws_meta.specs.Kept.{Fits, Keeps, kept}
+use Rattle.qfs_laws_meta.specs.RequestChanges.{Does, GivesGrant, GivesNothing, GrantsIn, Prepares}
+use Rattle.qfs_laws_meta.specs.RequestChanges.{Provides, Takes, TellsOf, decide-does, step-does}
 use Rattle.qfs_laws_meta.specs.Requests.{AllMake, Fine, apply-append}
 use Rattle.qfs_laws_meta.specs.SlotsBehind.{slot-touched}
 use Rattle.qfs_laws_meta.specs.StaysSound.{decide-fine, keeps-of}
@@ -37,15 +41,21 @@ use Rattle.qfs_model_meta.specs.Decide.{decide}
 use Rattle.qfs_model_meta.specs.Decision.{Makes}
 use Rattle.qfs_model_meta.specs.Dropped.{dropped_at}
 use Rattle.qfs_model_meta.specs.Grammar.{IsActor}
-use Rattle.qfs_model_meta.specs.Holding.{HasGrant, Holding, KeepsGrant, gives_back, held_after, held_unless_back, holds_nothing, is_given, is_same_slot, taken_up, with_grant_held, with_lease_of}
+use Rattle.qfs_model_meta.specs.Holding.{HasGrant, Holding, KeepsGrant, gives_back, held_after}
+use Rattle.qfs_model_meta.specs.Holding.{held_unless_back, holds_nothing, is_given, is_same_slot}
+use Rattle.qfs_model_meta.specs.Holding.{taken_up, with_grant_held, with_lease_of}
 use Rattle.qfs_model_meta.specs.Leases.{give_lease, is_lease, is_live_lease}
-use Rattle.qfs_model_meta.specs.Past.{Past, granted_slot_copy, is_copy, is_of_put, remember, was_granted, with_copy, with_grant, with_lease}
+use Rattle.qfs_model_meta.specs.Past.{Past, granted_slot_copy, is_copy, is_of_put, remember}
+use Rattle.qfs_model_meta.specs.Past.{was_granted, with_copy, with_grant, with_lease}
 use Rattle.qfs_model_meta.specs.Servers.{server_at}
 use Rattle.qfs_model_meta.specs.Slots.{granted_slot, same_block, slot_at}
 use Rattle.qfs_model_meta.specs.Sound.{IsSound}
 use Rattle.qfs_model_meta.specs.Step.{meta_step, next_turn, stays}
-use Rattle.qfs_model_meta.specs.TreeRows.{add_row, file_row, is_unclosed, is_unclosed_of, is_unclosed_row, kind_of}
-use Rattle.std.proofs.Common.{Bool, List, None, Some, [], ap, arith, false, filter, inl, inr, length, not, refl, subst, suc, sym, true, zero, ℕ, ⊎_elim, ◌&&◌, ◌++◌, ◌+◌, ◌<◌, ◌==◌, ◌∙◌, ◌∷◌, ◌≡◌, ◌≤◌}
+use Rattle.qfs_model_meta.specs.TreeRows.{add_row, file_row, is_unclosed, is_unclosed_of}
+use Rattle.qfs_model_meta.specs.TreeRows.{is_unclosed_row, kind_of}
+use Rattle.std.proofs.Common.{Bool, List, None, Some, [], ap, arith, false, filter, inl, inr}
+use Rattle.std.proofs.Common.{length, not, refl, subst, suc, sym, true, zero, ℕ, ⊎_elim, ◌&&◌, ◌++◌}
+use Rattle.std.proofs.Common.{◌+◌, ◌<◌, ◌==◌, ◌∙◌, ◌∷◌, ◌≡◌, ◌≤◌}
 use Rattle.std.proofs.lemmas.Bool.{and_from, eq-eqb, true≢false}
 use Rattle.std.specs.List.{list_any}
 use Rattle.std.specs.Prelude.{IsTrue}
@@ -213,7 +223,10 @@ granted-told actor past g = one (is_of_put g)
         any_last (is_copy g.block g.slot (granted_slot_copy g).copy) past.granted
         (granted_slot_copy g) self
 
-module _ (rules : Rules) (actor : ℕ) (past : Past) (m : MetaImage) (request : MetaRequest) (changes : List Change) (makes : AllMake past m changes) (h : Keeps past m) (fit : GrantsFit past m) (ended : ℕ → Bool) (holding : Holding) (holds : Holds past ended m actor holding) where
+module _ (rules : Rules) (actor : ℕ) (past : Past) (m : MetaImage) (request : MetaRequest)
+    (changes : List Change) (makes : AllMake past m changes) (h : Keeps past m)
+    (fit : GrantsFit past m) (ended : ℕ → Bool) (holding : Holding)
+    (holds : Holds past ended m actor holding) where
   abbrev Decided : MetaReply → Type 0
   Decided reply = decide rules actor m request ≡ Makes changes reply
 
@@ -359,7 +372,8 @@ module _ (rules : Rules) (actor : ℕ) (past : Past) (m : MetaImage) (request : 
         };
       }))
   own-taken (Told.Done place) is does gives free =
-      unfold taken_up in holding-kept rules actor past m request (Told.Done place) changes is makes h
+      unfold taken_up in holding-kept rules actor past m request
+      (Told.Done place) changes is makes h
       fit does ended actor free holding
       (quiet-slots (Told.Done place) (λ g e. cc) holding.grants) holds
   own-taken reply is does gives free =
@@ -394,7 +408,8 @@ nothing-taken actor holding _ nothing = refl
 
 pub own-holding-stays : OwnHoldingStays
 unfolding meta_step next_turn held_after
-own-holding-stays rules actor request outcome past m ended holding sound fit left is_actor may none holds =
+own-holding-stays rules actor request outcome past m ended holding sound fit left is_actor may none
+    holds =
     let h = keeps-of past m sound in
     let fine = decide-fine rules actor past m request sound left is_actor may in
     step-does (λ served. dropped_at actor served.meta.dropped ≡ None

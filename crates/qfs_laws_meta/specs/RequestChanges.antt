@@ -5,7 +5,12 @@ use Rattle.qfs_base.specs.NameTree.{PathNames, look_refusal}
 use Rattle.qfs_base.specs.Shape.{Shape}
 use Rattle.qfs_base.specs.Sizes.{LAST_U64}
 use Rattle.qfs_base.specs.Table.{Each, place}
-use Rattle.qfs_base.specs.declared.change.Change.TheVariants.{AbortFile, AddDirectory, AddFile, CloseFile, CondemnStray, ConfirmSlot, DropActor, EmptySlot, EndLease, FailGrant, GiveLease, GiveUp, GrantSlot, MovePath, RemoveFile, ServerUp, TakeDirectory}
+use Rattle.qfs_base.specs.declared.change.Change.TheVariants.{AbortFile, AddDirectory, AddFile}
+use Rattle.qfs_base.specs.declared.change.Change.TheVariants.{CloseFile, CondemnStray, ConfirmSlot}
+use Rattle.qfs_base.specs.declared.change.Change.TheVariants.{DropActor, EmptySlot, EndLease}
+use Rattle.qfs_base.specs.declared.change.Change.TheVariants.{FailGrant, GiveLease, GiveUp}
+use Rattle.qfs_base.specs.declared.change.Change.TheVariants.{GrantSlot, MovePath, RemoveFile}
+use Rattle.qfs_base.specs.declared.change.Change.TheVariants.{ServerUp, TakeDirectory}
 use Rattle.qfs_base.specs.declared.change.Change.{Change}
 use Rattle.qfs_base.specs.declared.chunk.BlockId.{BlockId}
 use Rattle.qfs_base.specs.declared.chunk.ChunkKey.{ChunkKey}
@@ -31,32 +36,54 @@ use Rattle.qfs_laws_meta.specs.MoreGrants.{IsOfClosed, at-rest, closed-slots, ro
 use Rattle.qfs_laws_meta.specs.StillStands.{IsClosedIn, Writes, unclosed-any, unclosed_test}
 use Rattle.qfs_laws_slots.specs.RowKeys.{has_file-is, is_lease-is}
 use Rattle.qfs_laws_slots.specs.Slots.{of_file-is, rows-found}
-use Rattle.qfs_laws_tables.specs.EachRow.{each_both, each_flat, each_map, each_passes, found_has, none-is}
+use Rattle.qfs_laws_tables.specs.EachRow.{each_both, each_flat, each_map, each_passes, found_has}
+use Rattle.qfs_laws_tables.specs.EachRow.{none-is}
 use Rattle.qfs_laws_tables.specs.InOrder.{numbers-each}
 use Rattle.qfs_model_meta.specs.Apply.{apply_all}
 use Rattle.qfs_model_meta.specs.Counters.{counters_fit}
 use Rattle.qfs_model_meta.specs.Decide.{decide, decide_request}
-use Rattle.qfs_model_meta.specs.Decision.{Decision, Makes, Tells, UsesDisks, need, refuse, refuse_file, refuse_path, unless}
-use Rattle.qfs_model_meta.specs.DropRequest.{changes_unless_dropped, decide_drop, drop_changes, is_granted_to, is_recovery_of, recovery_changes, unclosed_changes}
+use Rattle.qfs_model_meta.specs.Decision.{Decision, Makes, Tells, UsesDisks, need, refuse}
+use Rattle.qfs_model_meta.specs.Decision.{refuse_file, refuse_path, unless}
+use Rattle.qfs_model_meta.specs.DropRequest.{changes_unless_dropped, decide_drop, drop_changes}
+use Rattle.qfs_model_meta.specs.DropRequest.{is_granted_to, is_recovery_of, recovery_changes}
+use Rattle.qfs_model_meta.specs.DropRequest.{unclosed_changes}
 use Rattle.qfs_model_meta.specs.Dropped.{dropped_at}
 use Rattle.qfs_model_meta.specs.GetRequests.{decide_open, decide_release, opened}
 use Rattle.qfs_model_meta.specs.Holding.{gives_back, says_done, says_released, says_settled}
-use Rattle.qfs_model_meta.specs.LeasedGrants.{closed_len, comes_after, grant_chosen, grant_leased, grant_recovery, is_at_rest, is_live_on, lease_and_grant, pending_refusal}
-use Rattle.qfs_model_meta.specs.Leases.{holds_lease, is_lease, is_live_lease, lease_end, leases_of, leases_over}
+use Rattle.qfs_model_meta.specs.LeasedGrants.{closed_len, comes_after, grant_chosen, grant_leased}
+use Rattle.qfs_model_meta.specs.LeasedGrants.{grant_recovery, is_at_rest, is_live_on}
+use Rattle.qfs_model_meta.specs.LeasedGrants.{lease_and_grant, pending_refusal}
+use Rattle.qfs_model_meta.specs.Leases.{holds_lease, is_lease, is_live_lease, lease_end, leases_of}
+use Rattle.qfs_model_meta.specs.Leases.{leases_over}
 use Rattle.qfs_model_meta.specs.Lists.{NineCopies, new_grant, no_sources}
-use Rattle.qfs_model_meta.specs.MoveRequests.{decide_balance, decide_evacuate, decide_move, evacuate_slot, even_out, fits_move, give_to_lightest, is_to_move, move_copy, move_slot, next_to_move}
-use Rattle.qfs_model_meta.specs.PutRequests.{abort_changes, abort_unclosed, close_complete, decide_abort, decide_close, decide_create, decide_grant, failed_grant, grant_for_put, grant_in, incomplete, lacks_grant, put_granted, taken_refusal}
+use Rattle.qfs_model_meta.specs.MoveRequests.{decide_balance, decide_evacuate, decide_move}
+use Rattle.qfs_model_meta.specs.MoveRequests.{evacuate_slot, even_out, fits_move, give_to_lightest}
+use Rattle.qfs_model_meta.specs.MoveRequests.{is_to_move, move_copy, move_slot, next_to_move}
+use Rattle.qfs_model_meta.specs.PutRequests.{abort_changes, abort_unclosed, close_complete}
+use Rattle.qfs_model_meta.specs.PutRequests.{decide_abort, decide_close, decide_create}
+use Rattle.qfs_model_meta.specs.PutRequests.{decide_grant, failed_grant, grant_for_put, grant_in}
+use Rattle.qfs_model_meta.specs.PutRequests.{incomplete, lacks_grant, put_granted, taken_refusal}
 use Rattle.qfs_model_meta.specs.Range.{in_range}
-use Rattle.qfs_model_meta.specs.RepairRequests.{closed_slots, decide_heal, decide_recover, heal_slot, is_to_heal, next_to_heal}
-use Rattle.qfs_model_meta.specs.ServerRequests.{decide_bye, decide_hello, decide_hibernate, decide_leave, decide_left_on, decide_tick}
+use Rattle.qfs_model_meta.specs.RepairRequests.{closed_slots, decide_heal, decide_recover}
+use Rattle.qfs_model_meta.specs.RepairRequests.{heal_slot, is_to_heal, next_to_heal}
+use Rattle.qfs_model_meta.specs.ServerRequests.{decide_bye, decide_hello, decide_hibernate}
+use Rattle.qfs_model_meta.specs.ServerRequests.{decide_leave, decide_left_on, decide_tick}
 use Rattle.qfs_model_meta.specs.Servers.{server_at}
-use Rattle.qfs_model_meta.specs.SettleRequests.{abandon_changes, confirm_grant, decide_abandon, decide_confirm, end_live_lease, end_own_lease, give_up_own, is_own_grant, may_confirm}
+use Rattle.qfs_model_meta.specs.SettleRequests.{abandon_changes, confirm_grant, decide_abandon}
+use Rattle.qfs_model_meta.specs.SettleRequests.{decide_confirm, end_live_lease, end_own_lease}
+use Rattle.qfs_model_meta.specs.SettleRequests.{give_up_own, is_own_grant, may_confirm}
 use Rattle.qfs_model_meta.specs.Slots.{is_of_file, slot_at, slot_id, slots_of}
-use Rattle.qfs_model_meta.specs.Step.{Served, carry_out, end_step, fail_disks, next_turn, serve_unless_dropped, stays, take_step}
+use Rattle.qfs_model_meta.specs.Step.{Served, carry_out, end_step, fail_disks, next_turn}
+use Rattle.qfs_model_meta.specs.Step.{serve_unless_dropped, stays, take_step}
 use Rattle.qfs_model_meta.specs.SweepRequests.{decide_order, decide_swept, order_row}
-use Rattle.qfs_model_meta.specs.TreeRequests.{decide_list, decide_mkdir, decide_remove, decide_rename, decide_rmdir, remove_changes}
-use Rattle.qfs_model_meta.specs.TreeRows.{closed_file, file_stands, has_file, is_unclosed_of, rising_files, row_at, standing, unclosed_file, unclosed_files}
-use Rattle.std.proofs.Common.{Bool, List, None, Option, Some, [], ap, cond, false, filter, inl, inr, length, map, refl, subst, sym, true, ℕ, ◌&&◌, ◌++◌, ◌+◌, ◌==◌, ◌||◌, ◌∙◌, ◌∷◌, ◌≡◌, ◌⊎◌}
+use Rattle.qfs_model_meta.specs.TreeRequests.{decide_list, decide_mkdir, decide_remove}
+use Rattle.qfs_model_meta.specs.TreeRequests.{decide_rename, decide_rmdir, remove_changes}
+use Rattle.qfs_model_meta.specs.TreeRows.{closed_file, file_stands, has_file, is_unclosed_of}
+use Rattle.qfs_model_meta.specs.TreeRows.{rising_files, row_at, standing, unclosed_file}
+use Rattle.qfs_model_meta.specs.TreeRows.{unclosed_files}
+use Rattle.std.proofs.Common.{Bool, List, None, Option, Some, [], ap, cond, false, filter, inl, inr}
+use Rattle.std.proofs.Common.{length, map, refl, subst, sym, true, ℕ, ◌&&◌, ◌++◌, ◌+◌, ◌==◌, ◌||◌}
+use Rattle.std.proofs.Common.{◌∙◌, ◌∷◌, ◌≡◌, ◌⊎◌}
 use Rattle.std.proofs.lemmas.Bool.{and_from, and_parts, eq-eqb, eqb-true}
 use Rattle.std.specs.List.{list_any}
 use Rattle.std.specs.Prelude.{IsTrue, flat_map, is_none, is_some, min, ⊤}
@@ -164,7 +191,8 @@ Prepares actor g first =
     ⊎ ((until : ℕ) × (first ≡ GiveLease actor g.block.file until ∷ []))
 
 -- a grant is told as it is given, by the last change
-pub record GivesGrant (actor : ℕ) (m : MetaImage) (g : Granted) (changes : List Change) : Type 0 where
+pub record GivesGrant (actor : ℕ) (m : MetaImage) (g : Granted)
+    (changes : List Change) : Type 0 where
   pub life : g.life ≡ (server_at m.servers g.server).life
   pub version : g.version ≡ (slot_at m.slots g.block g.slot).next
   pub first : List Change
@@ -307,7 +335,8 @@ module _ (actor : ℕ) (m : MetaImage) where
       )
   putting-does request layout len block slot (Some failed) server writes counts =
       let g : Granted = new_grant layout len block slot server 0 no_sources m in
-      let told : TellsOf (Told.Granted g) block slot server 0 = (g, refl, refl, refl, refl, refl) in (
+      let told : TellsOf (Told.Granted g) block slot server 0 =
+      (g, refl, refl, refl, refl, refl) in (
         ((writes, server, told, counts), ((refl, told, inl (refl, writes)), tt)),
         record {
           life = refl;
@@ -343,7 +372,8 @@ module _ (actor : ℕ) (m : MetaImage) where
             && (lease.actor == who)) ls) (and_from (is_lease l.lease l) (l.actor == who)
             (is_lease-is l.lease l ∙ eq-eqb l.lease l.lease refl) is)),
         each_weaker (λ (x : Lease). (x.actor == who) ≡ true
-            → list_any (λ (lease : Lease). is_lease x.lease lease && (lease.actor == who)) ls ≡ true)
+            → list_any (λ (lease : Lease). is_lease x.lease lease &&
+            (lease.actor == who)) ls ≡ true)
             _ (λ x any is. or-on _ _ (any is)) ls (held ls),
       )
 
@@ -482,19 +512,28 @@ confirm-does actor block slot version lease m = one (file_stands block.file m.tr
     confirmed = unfold gives_back says_settled in refl
 
     ending : OwnsLease m actor lease → (b : Bool)
-        → Each (Does actor m (Ask.Confirm block slot version lease) Told.Confirmed) (cond b (EndLease lease ∷ []) [])
+        → Each (Does actor m (Ask.Confirm block slot version lease) Told.Confirmed)
+        (cond b (EndLease lease ∷ []) [])
     ending owns true = (inr (actor, inl (refl, confirmed), owns), tt)
     ending owns false = tt
 
-    one : (b : Bool) → DoesAll actor m (Ask.Confirm block slot version lease) (confirm_grant actor block slot version lease m b)
+    one : (b : Bool)
+        → DoesAll actor m (Ask.Confirm block slot version lease)
+        (confirm_grant actor block slot version lease m b)
     one false =
-        unfold confirm_grant in (own-ending actor m (Ask.Confirm block slot version lease) Told.Vanished lease vanished, tt)
+        unfold confirm_grant in (
+          own-ending actor m (Ask.Confirm block slot version lease)
+              Told.Vanished lease vanished,
+          tt,
+        )
     one true =
-        unfold confirm_grant may_confirm end_live_lease in unless-does actor m (Ask.Confirm block slot version lease) _ _ _ tt (λ may.
+        unfold confirm_grant may_confirm end_live_lease in unless-does actor m
+        (Ask.Confirm block slot version lease) _ _ _ tt (λ may.
         let p = and_parts (is_some (closed_file block.file m.tree)) _ may in
         let g = own-grant m actor block slot version lease (grant_at m block slot) refl p.1 in (
           each_append (Does actor m (Ask.Confirm block slot version lease) Told.Confirmed)
-              (cond (is_live_lease lease m.leases) (EndLease lease ∷ []) []) (ConfirmSlot block slot ∷ [])
+              (cond (is_live_lease lease m.leases) (EndLease lease ∷ []) [])
+              (ConfirmSlot block slot ∷ [])
               (ending (inr (block, slot, g.0, g.1, g.2, g.3, p.0)) (is_live_lease lease m.leases))
               ((inl (refl, confirmed), (g.0, g.1, g.2), tt), tt),
           tt,
@@ -507,7 +546,8 @@ unfolding decide_abandon abandon_changes give_up_own
 abandon-does actor block slot version lease m = (
   each_append (Does actor m (Ask.Abandon block slot version lease) (Told.Done (length m.history)))
       (end_own_lease actor lease m.leases) _
-      (own-ending actor m (Ask.Abandon block slot version lease) (Told.Done (length m.history)) lease back)
+      (own-ending actor m (Ask.Abandon block slot version lease) (Told.Done (length m.history))
+      lease back)
       (giving (is_own_grant actor version lease (grant_at m block slot)) refl),
   tt,
 )
@@ -570,7 +610,8 @@ drop-does actor who m f = (one (dropped_at who m.dropped), tt)
       refl,
       each_append (Does actor m (Ask.Drop who) told)
           (map EndLease (leases_of who m.leases) ++ map
-          (λ (row : SlotRow). GiveUp row.block row.slot) (filter (is_recovery_of who m.tree) m.slots))
+          (λ (row : SlotRow). GiveUp row.block row.slot) (filter
+          (is_recovery_of who m.tree) m.slots))
           (flat_map (λ file. abort_changes file m.slots) (unclosed_files who m.tree))
           (each_append (Does actor m (Ask.Drop who) told) (map EndLease (leases_of who m.leases)) _
           (each_map (OwnsLease m who) (Does actor m (Ask.Drop who) told) EndLease
@@ -595,7 +636,12 @@ all-does P f does (x ∷ xs) = (does x, all-does P f does xs)
 
 pub request-does : (rules : Rules) (actor : ℕ) (m : MetaImage) (request : MetaRequest) → Fits m
     → DoesAll actor m request (decide_request rules actor m request)
-unfolding decide_request decide_mkdir decide_rmdir decide_remove decide_rename decide_create decide_grant grant_in decide_open opened decide_recover grant_recovery decide_heal heal_slot next_to_heal is_to_heal lacks_grant decide_move move_copy decide_evacuate evacuate_slot next_to_move is_to_move decide_balance give_to_lightest even_out move_slot fits_move decide_order order_row decide_swept decide_hello decide_bye decide_leave decide_hibernate decide_tick decide_list decide_left_on
+unfolding decide_request decide_mkdir decide_rmdir decide_remove decide_rename decide_create
+    decide_grant grant_in decide_open opened decide_recover grant_recovery decide_heal heal_slot
+    next_to_heal is_to_heal lacks_grant decide_move move_copy decide_evacuate evacuate_slot
+    next_to_move is_to_move decide_balance give_to_lightest even_out move_slot fits_move
+    decide_order order_row decide_swept decide_hello decide_bye decide_leave decide_hibernate
+    decide_tick decide_list decide_left_on
 request-does rules actor m (Ask.Mkdir path) f = file-does actor m _ _ _ _ (λ _. ((refl, tt), tt))
 request-does rules actor m (Ask.Rmdir path) f = file-does actor m _ _ _ _ (λ _. ((refl, tt), tt))
 request-does rules actor m (Ask.Remove path) f =
@@ -713,7 +759,8 @@ pub step-does : (P : Served → Type 0) (actor : ℕ) (m : MetaImage) (request :
     → P (record { meta = next_turn (apply_all changes m); reply = reply }))
     → P (serve_unless_dropped m (end_step m decision outcome) dropped)
 unfolding serve_unless_dropped end_step carry_out fail_disks
-step-does P actor m request decision outcome (Some turn) does same made = same (Told.Dropped turn) tt
+step-does P actor m request decision outcome (Some turn) does same made = same
+    (Told.Dropped turn) tt
 step-does P actor m request decision Ended.NoMemory None does same made = same Told.NoMemory tt
 step-does P actor m request (Tells reply) Ended.Done None does same made = same reply does
 step-does P actor m request (UsesDisks reply) Ended.Done None does same made = same reply does

@@ -1,7 +1,10 @@
 -- What is known of each slot behind each change: a change touches one slot, or the slots of one
 -- file, and leaves all others. Cited by the laws of what a step tells of slots and grants.
 use Rattle.qfs_base.specs.Table.{change_row, change_where}
-use Rattle.qfs_base.specs.declared.change.Change.TheVariants.{AbortFile, AddDirectory, CloseFile, CondemnStray, ConfirmSlot, EmptySlot, FailGrant, GiveUp, GrantSlot, RemoveFile}
+use Rattle.qfs_base.specs.declared.change.Change.TheVariants.{AbortFile, AddDirectory, CloseFile}
+use Rattle.qfs_base.specs.declared.change.Change.TheVariants.{CondemnStray, ConfirmSlot, EmptySlot}
+use Rattle.qfs_base.specs.declared.change.Change.TheVariants.{FailGrant, GiveUp, GrantSlot}
+use Rattle.qfs_base.specs.declared.change.Change.TheVariants.{RemoveFile}
 use Rattle.qfs_base.specs.declared.change.Change.{Change}
 use Rattle.qfs_base.specs.declared.chunk.BlockId.{BlockId}
 use Rattle.qfs_base.specs.declared.image.Grant.{Grant}
@@ -9,12 +12,20 @@ use Rattle.qfs_base.specs.declared.image.MetaImage.{MetaImage}
 use Rattle.qfs_base.specs.declared.image.SlotRecord.{SlotRecord}
 use Rattle.qfs_base.specs.declared.image.SlotRow.{SlotRow}
 use Rattle.qfs_laws_slots.specs.Losing.{condemned-slots, stray-frame}
-use Rattle.qfs_laws_slots.specs.Slots.{changed-other, forgotten-cases, is_slot-is, is_slot-self, key_kept, placed-cases, placed-same, sealed-cases, slot-cases, slot_at-behind, slot_at-here, slot_cases}
-use Rattle.qfs_model_meta.specs.Apply.{add_file, apply, bring_up, change_record, confirm_slot, empty_slot, fail_grant, finish_lease, give_up, grant_slot, with_slots, write_entry}
+use Rattle.qfs_laws_slots.specs.Slots.{changed-other, forgotten-cases, is_slot-is, is_slot-self}
+use Rattle.qfs_laws_slots.specs.Slots.{placed-cases, placed-same, sealed-cases}
+use Rattle.qfs_laws_slots.specs.Slots.{slot-cases, slot_at-behind, slot_at-here, slot_cases}
+use Rattle.qfs_model_meta.specs.Apply.{add_file, apply, bring_up, change_record, confirm_slot}
+use Rattle.qfs_model_meta.specs.Apply.{empty_slot, fail_grant, finish_lease, give_up, grant_slot}
+use Rattle.qfs_model_meta.specs.Apply.{with_slots, write_entry}
 use Rattle.qfs_model_meta.specs.Condemned.{condemn, condemn_any}
+use Rattle.qfs_model_meta.specs.FreedLaws.{key_kept}
 use Rattle.qfs_model_meta.specs.Servers.{server_at}
-use Rattle.qfs_model_meta.specs.Slots.{change_slot, change_state, confirmed_slot, emptied_slot, failed_slot, granted_copy, granted_slot, is_slot, never_granted, sealed_slot, slot_at, ungranted_slot}
-use Rattle.std.proofs.Common.{Bool, List, None, Option, Some, [], ap, cond, false, find, inl, inr, refl, subst, sym, true, ℕ, ◌==◌, ◌∙◌, ◌∷◌, ◌≡◌, ◌⊎◌}
+use Rattle.qfs_model_meta.specs.Slots.{change_slot, change_state, confirmed_slot, emptied_slot}
+use Rattle.qfs_model_meta.specs.Slots.{failed_slot, granted_copy, granted_slot, is_slot}
+use Rattle.qfs_model_meta.specs.Slots.{never_granted, sealed_slot, slot_at, ungranted_slot}
+use Rattle.std.proofs.Common.{Bool, List, None, Option, Some, [], ap, cond, false, find, inl, inr}
+use Rattle.std.proofs.Common.{refl, subst, sym, true, ℕ, ◌==◌, ◌∙◌, ◌∷◌, ◌≡◌, ◌⊎◌}
 use Rattle.std.proofs.lemmas.Bool.{eq-eqb, eqb-true, true≢false}
 use Rattle.std.specs.Option.{option_map}
 use Rattle.std.specs.Prelude.{unwrap_or}
@@ -93,7 +104,8 @@ changed-here change none block slot rows =
     (λ e. sym none ∙ e) (λ _ _. refl) (λ off. absurd (true≢false (sym (is_slot-self (record
     { block = block; slot = slot; state = never_granted })) ∙ off)))
 
-changed-there : (change : SlotRecord → SlotRecord) (block : BlockId) (slot : ℕ) (rows : List SlotRow)
+changed-there : (change : SlotRecord → SlotRecord) (block : BlockId) (slot : ℕ)
+    (rows : List SlotRow)
     (other : BlockId) (at : ℕ)
     → (((block ≡ other) × (slot ≡ at)) → ⊥)
     → slot_at (change_slot block slot change rows) other at ≡ slot_at rows other at
@@ -150,9 +162,9 @@ failed-change server block slot (row ∷ rows) grant is =
     (record_in (cond b (Some row) (find (is_slot block slot) rows))))) [
       | true ↦ λ here _.
           let once : is_slot block slot (change_state ungranted_slot row) ≡ true =
-          key_kept ungranted_slot block slot row true ∙ here in
+          key_kept block slot ungranted_slot row true ∙ here in
           let twice : is_slot block slot (change_state (failed_slot server)
-          (change_state ungranted_slot row)) ≡ true = key_kept (failed_slot server) block slot
+          (change_state ungranted_slot row)) ≡ true = key_kept block slot (failed_slot server)
           (change_state ungranted_slot row) true ∙ once in
           ap (λ b. record_in (find (is_slot block slot) (change_row
           (change_state (failed_slot server)) (change_state ungranted_slot row) b
@@ -259,7 +271,8 @@ slot-touched m _ block slot is = absurd is
 pub slot-untouched : (m : MetaImage) (change : Change) (block : BlockId) (slot : ℕ)
     → (Touches change block slot → ⊥)
     → slot_at (apply m change).slots block slot ≡ slot_at m.slots block slot
-unfolding apply write_entry add_file with_slots grant_slot confirm_slot empty_slot change_record finish_lease bring_up
+unfolding apply write_entry add_file with_slots grant_slot confirm_slot empty_slot change_record
+    finish_lease bring_up
 slot-untouched m (CloseFile file actor command) block slot apart =
     sealed-cases (λ state. state ≡ slot_at m.slots block slot) file block slot m.slots
     (λ none. sym none) (λ own. absurd (apart (eqb-true block.file file own))) (λ _. refl)

@@ -1,10 +1,14 @@
 -- What a step tells of each slot: its next version rises by at most one, and only where the reply
--- grants the slot; and a server counts as failed only where a put is granted the slot again.
+-- grants the slot; and a server counts as failed only where a put is granted the slot again. The
+-- law `slots_are_told`.
 use Rattle.qfs_base.specs.EachLaws.{each_weaker}
 use Rattle.qfs_base.specs.NameTree.{PathNames}
 use Rattle.qfs_base.specs.Sizes.{LAST_U32}
 use Rattle.qfs_base.specs.Table.{Each}
-use Rattle.qfs_base.specs.declared.change.Change.TheVariants.{AbortFile, AddDirectory, CloseFile, ConfirmSlot, EmptySlot, FailGrant, GiveLease, GiveUp, GrantSlot, RemoveFile}
+use Rattle.qfs_base.specs.declared.change.Change.TheVariants.{AbortFile, AddDirectory, CloseFile}
+use Rattle.qfs_base.specs.declared.change.Change.TheVariants.{ConfirmSlot, EmptySlot, FailGrant}
+use Rattle.qfs_base.specs.declared.change.Change.TheVariants.{GiveLease, GiveUp, GrantSlot}
+use Rattle.qfs_base.specs.declared.change.Change.TheVariants.{RemoveFile}
 use Rattle.qfs_base.specs.declared.change.Change.{Change}
 use Rattle.qfs_base.specs.declared.chunk.BlockId.{BlockId}
 use Rattle.qfs_base.specs.declared.history.Outcome.{Outcome}
@@ -20,11 +24,14 @@ use Rattle.qfs_laws_meta.specs.GrantRequests.{closed-at}
 use Rattle.qfs_laws_meta.specs.GrantsFit.{GrantsNone, granted-or, none-granted, same-next}
 use Rattle.qfs_laws_meta.specs.HoldingKept.{gone-all, slot-all}
 use Rattle.qfs_laws_meta.specs.Kept.{Fits, Keeps, aborted-of, kept, tree-back, unclosed-of}
-use Rattle.qfs_laws_meta.specs.RequestChanges.{Does, GivesGrant, Prepares, Provides, TellsOf, decide-does, grant_at, step-does}
+use Rattle.qfs_laws_meta.specs.RequestChanges.{Does, GivesGrant, Prepares, Provides, TellsOf}
+use Rattle.qfs_laws_meta.specs.RequestChanges.{decide-does, grant_at, step-does}
 use Rattle.qfs_laws_meta.specs.Requests.{AllMake, Fine, apply-append, make-split, told_all}
-use Rattle.qfs_laws_meta.specs.SlotsBehind.{Touches, failed_record, slot-touched, slot-untouched, touches-or}
+use Rattle.qfs_laws_meta.specs.SlotsBehind.{Touches, failed_record, slot-touched, slot-untouched}
+use Rattle.qfs_laws_meta.specs.SlotsBehind.{touches-or}
 use Rattle.qfs_laws_meta.specs.StaysSound.{decide-fine, keeps-of}
-use Rattle.qfs_laws_meta.specs.StillStands.{EndsFile, IsClosedIn, IsGone, gone-when, stays-gone, still-closed}
+use Rattle.qfs_laws_meta.specs.StillStands.{EndsFile, IsClosedIn, IsGone, gone-when, stays-gone}
+use Rattle.qfs_laws_meta.specs.StillStands.{still-closed}
 use Rattle.qfs_laws_slots.specs.Changes.{MayMake, told}
 use Rattle.qfs_laws_slots.specs.RowKeys.{own-file}
 use Rattle.qfs_laws_tables.specs.SomeRow.{any_each}
@@ -42,11 +49,14 @@ use Rattle.qfs_model_meta.specs.Grammar.{IsActor}
 use Rattle.qfs_model_meta.specs.Past.{Past}
 use Rattle.qfs_model_meta.specs.PutRequests.{failed_with}
 use Rattle.qfs_model_meta.specs.Servers.{server_at}
-use Rattle.qfs_model_meta.specs.Slots.{confirmed_slot, emptied_slot, failed_slot, granted_slot, never_granted, sealed_slot, slot_at, ungranted_slot}
+use Rattle.qfs_model_meta.specs.Slots.{confirmed_slot, emptied_slot, failed_slot, granted_slot}
+use Rattle.qfs_model_meta.specs.Slots.{never_granted, sealed_slot, slot_at, ungranted_slot}
 use Rattle.qfs_model_meta.specs.Sound.{IsSound}
 use Rattle.qfs_model_meta.specs.Step.{meta_step, next_turn, stays}
 use Rattle.qfs_model_meta.specs.TreeRows.{close_file, closed_file, file_stands, has_file}
-use Rattle.std.proofs.Common.{List, None, Option, Some, [], ap, arith, false, inl, inr, length, refl, subst, sym, true, ℕ, ⊎_elim, ◌+◌, ◌<◌, ◌==◌, ◌∙◌, ◌∷◌, ◌≡◌, ◌≤◌, ◌⊎◌}
+use Rattle.std.proofs.Common.{List, None, Option, Some, [], ap, arith, false, inl, inr, length}
+use Rattle.std.proofs.Common.{refl, subst, sym, true, ℕ, ⊎_elim, ◌+◌, ◌<◌, ◌==◌, ◌∙◌, ◌∷◌, ◌≡◌, ◌≤◌}
+use Rattle.std.proofs.Common.{◌⊎◌}
 use Rattle.std.proofs.lemmas.Bool.{eq-eqb, eqb-true, true≢false}
 use Rattle.std.specs.Prelude.{IsTrue, is_some, min, ⊤}
 
@@ -62,7 +72,8 @@ failed_at m block slot = (slot_at m.slots block slot).failed
 abbrev pub IsOver : MetaImage → ℕ → Type 0
 IsOver m file = IsClosedIn m file ⊎ (file_stands file m.tree ≡ false)
 
-pub record SlotTells (reply : MetaReply) (m n : MetaImage) (block : BlockId) (slot : ℕ) : Type 0 where
+pub record SlotTells (reply : MetaReply) (m n : MetaImage) (block : BlockId)
+    (slot : ℕ) : Type 0 where
   -- the next version is the same, or one higher where the reply grants the slot, or the first where
   -- the file is gone
   pub version : (next_at n block slot ≡ next_at m block slot)
@@ -152,7 +163,8 @@ ended-over past m (CloseFile other actor command) may f file ends =
 ended-over past m (AbortFile other) may f file ends =
     inr (subst (IsGone (apply m (AbortFile other))) ends (abort-gone past m other may f))
 ended-over past m (RemoveFile path other) may f file ends =
-    inr (subst (IsGone (apply m (RemoveFile path other))) ends (remove-gone past m path other may f))
+    inr (subst (IsGone (apply m (RemoveFile path other))) ends
+    (remove-gone past m path other may f))
 ended-over past m (AddDirectory path) may f file ends = absurd ends
 ended-over past m _ may f file ends = absurd ends
 
@@ -237,7 +249,8 @@ calm-touched past m (EmptySlot other number) may f none quiet block slot touches
       version = inl (ap (λ (st : SlotRecord). st.next) at);
       failed = inl (ap (λ (st : SlotRecord). st.failed) at);
     }
-calm-touched past m (GrantSlot other number server actor lease) may f none quiet block slot touches =
+calm-touched past m (GrantSlot other number server actor lease) may f none quiet block slot
+    touches =
     absurd none
 calm-touched past m (FailGrant other number) may f none quiet block slot touches = absurd quiet
 calm-touched past m (AddDirectory path) may f none quiet block slot touches = absurd touches

@@ -1,4 +1,4 @@
--- A sound metaserver that is asked what may be asked stays sound.
+-- A sound metaserver that is asked what may be asked stays sound. The law `stays_sound`.
 use Rattle.qfs_base.specs.Sizes.{LAST_U32}
 use Rattle.qfs_base.specs.Table.{Each}
 use Rattle.qfs_base.specs.declared.chunk.BlockId.{BlockId}
@@ -17,9 +17,11 @@ use Rattle.qfs_model_meta.specs.Grammar.{IsActor}
 use Rattle.qfs_model_meta.specs.Past.{Past, remember, was_granted}
 use Rattle.qfs_model_meta.specs.Range.{in_range}
 use Rattle.qfs_model_meta.specs.Slots.{granted_copy, slot_at}
-use Rattle.qfs_model_meta.specs.Sound.{GrantedOnce, IsSound, condemned_of, is_condemned_of, known_copies}
+use Rattle.qfs_model_meta.specs.Sound.{GrantedOnce, IsSound, condemned_of, is_condemned_of}
+use Rattle.qfs_model_meta.specs.Sound.{known_copies}
 use Rattle.qfs_model_meta.specs.Step.{meta_step}
-use Rattle.std.proofs.Common.{List, [], arith, filter, length, map, nat_eq, refl, subst, true, ℕ, ◌++◌, ◌+◌, ◌<◌, ◌∙◌, ◌∷◌, ◌≡◌, ◌≤◌}
+use Rattle.std.proofs.Common.{List, [], arith, filter, length, map, nat_eq, refl, subst, true, ℕ}
+use Rattle.std.proofs.Common.{◌++◌, ◌+◌, ◌<◌, ◌∙◌, ◌∷◌, ◌≡◌, ◌≤◌}
 use Rattle.std.proofs.lemmas.Bool.{and_from, eq-eqb, leb-true}
 use Rattle.std.specs.Option.{option_to_list}
 use Rattle.std.specs.Prelude.{IsTrue}
@@ -33,7 +35,10 @@ use Rattle.qfs_laws_meta.specs.ManyChanges.{abort-fine, drop-fine, order-fine, r
 use Rattle.qfs_laws_meta.specs.MoreGrants.{balance-fine, evacuate-fine, grant-fine, heal-fine}
 use Rattle.qfs_laws_meta.specs.OneServer.{each-one, one-each}
 use Rattle.qfs_laws_meta.specs.Requests.{Fine, step-stays, unless-fine}
-use Rattle.qfs_laws_meta.specs.SimpleRequests.{abandon-fine, bye-fine, close-fine, confirm-fine, create-fine, hello-fine, hibernate-fine, leave-fine, left_on-fine, list-fine, mkdir-fine, release-fine, rename-fine, rmdir-fine, swept-fine, tick-fine}
+use Rattle.qfs_laws_meta.specs.SimpleRequests.{abandon-fine, bye-fine, close-fine, confirm-fine}
+use Rattle.qfs_laws_meta.specs.SimpleRequests.{create-fine, hello-fine, hibernate-fine, leave-fine}
+use Rattle.qfs_laws_meta.specs.SimpleRequests.{left_on-fine, list-fine, mkdir-fine, release-fine}
+use Rattle.qfs_laws_meta.specs.SimpleRequests.{rename-fine, rmdir-fine, swept-fine, tick-fine}
 use Rattle.qfs_laws_slots.specs.Changes.{HasVersionsLeft}
 use Rattle.qfs_laws_slots.specs.Condemning.{condemned_count, version_of}
 use Rattle.qfs_laws_slots.specs.Granted.{Granted}
@@ -42,7 +47,8 @@ use Rattle.qfs_laws_slots.specs.SlotTable.{of-table, table-of}
 use Rattle.qfs_laws_slots.specs.Slots.{same_block-self}
 use Rattle.qfs_laws_tables.specs.Distinct.{copies, distinct-once, once-distinct, one_if}
 use Rattle.qfs_base.specs.EachLaws.{each_append, each_filter, each_weaker}
-use Rattle.qfs_laws_tables.specs.EachRow.{each-left, each-right, each_both, each_map, each_of_filter, each_of_map, each_passes}
+use Rattle.qfs_laws_tables.specs.EachRow.{each-left, each-right, each_both, each_map}
+use Rattle.qfs_laws_tables.specs.EachRow.{each_of_filter, each_of_map, each_passes}
 use Rattle.qfs_laws_tables.specs.Sums.{total, total-append, total-filter, total-map}
 use Rattle.qfs_laws_tree.specs.Tree.{of-tree, tree-of}
 

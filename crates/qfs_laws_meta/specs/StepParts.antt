@@ -1,8 +1,15 @@
--- What a step tells apart: which lives it raises, which entries it writes, which copies its answer
--- lists and which server it grants, and when numbers may run out.
+-- What a step tells apart: which lives it raises, which entries it writes, and when numbers may run
+-- out. The laws `lives_are_told` and `numbers_run_out_by_request`, and parts of
+-- `file_requests_are_history`.
 use Rattle.qfs_base.specs.Sizes.{LAST_U32}
 use Rattle.qfs_base.specs.Table.{Each, place}
-use Rattle.qfs_base.specs.declared.change.Change.TheVariants.{AbortFile, AddDirectory, AddFile, CloseFile, CondemnStray, ConfirmSlot, DropActor, EmptySlot, EndLease, FailGrant, GiveLease, GiveUp, MovePath, RemoveFile, ServerDown, ServerLeaves, ServerSleeps, ServerUp, TakeDirectory}
+use Rattle.qfs_base.specs.declared.change.Change.TheVariants.{AbortFile, AddDirectory, AddFile}
+use Rattle.qfs_base.specs.declared.change.Change.TheVariants.{CloseFile, CondemnStray, ConfirmSlot}
+use Rattle.qfs_base.specs.declared.change.Change.TheVariants.{DropActor, EmptySlot, EndLease}
+use Rattle.qfs_base.specs.declared.change.Change.TheVariants.{FailGrant, GiveLease, GiveUp}
+use Rattle.qfs_base.specs.declared.change.Change.TheVariants.{MovePath, RemoveFile, ServerDown}
+use Rattle.qfs_base.specs.declared.change.Change.TheVariants.{ServerLeaves, ServerSleeps, ServerUp}
+use Rattle.qfs_base.specs.declared.change.Change.TheVariants.{TakeDirectory}
 use Rattle.qfs_base.specs.declared.change.Change.{Change}
 use Rattle.qfs_base.specs.declared.chunk.ChunkKey.{ChunkKey}
 use Rattle.qfs_base.specs.declared.history.Entry.TheVariants as Wrote
@@ -27,24 +34,30 @@ use Rattle.qfs_laws_meta.specs.Tells.{append-none}
 use Rattle.qfs_laws_slots.specs.Changes.{MayMake, told}
 use Rattle.qfs_laws_slots.specs.Losing.{losing-frame, stray-frame}
 use Rattle.qfs_laws_slots.specs.Servers.{server-cases}
-use Rattle.qfs_model_meta.specs.Apply.{add_file, apply, apply_all, bring_up, finish_lease, grant_slot, with_slots, write_entry}
+use Rattle.qfs_model_meta.specs.Apply.{add_file, apply, apply_all, bring_up, finish_lease}
+use Rattle.qfs_model_meta.specs.Apply.{grant_slot, with_slots, write_entry}
 use Rattle.qfs_model_meta.specs.Asked.{MayAsk}
 use Rattle.qfs_model_meta.specs.Counters.{counters_fit}
 use Rattle.qfs_model_meta.specs.Decide.{decide, decide_request}
 use Rattle.qfs_model_meta.specs.Decision.{Makes, unless}
-use Rattle.qfs_model_meta.specs.DropRequest.{changes_unless_dropped, decide_drop, drop_changes, is_recovery_of, recovery_changes, unclosed_changes}
+use Rattle.qfs_model_meta.specs.DropRequest.{changes_unless_dropped, decide_drop, drop_changes}
+use Rattle.qfs_model_meta.specs.DropRequest.{is_recovery_of, recovery_changes, unclosed_changes}
 use Rattle.qfs_model_meta.specs.Dropped.{dropped_at}
 use Rattle.qfs_model_meta.specs.Grammar.{IsActor, IsServer}
 use Rattle.qfs_model_meta.specs.Leases.{leases_of}
 use Rattle.qfs_model_meta.specs.Past.{Past}
 use Rattle.qfs_model_meta.specs.PutRequests.{abort_changes}
 use Rattle.qfs_model_meta.specs.Range.{in_range}
-use Rattle.qfs_model_meta.specs.Servers.{change_server, server_asleep, server_at, server_down, server_leaving, server_up}
+use Rattle.qfs_model_meta.specs.Servers.{change_server, server_asleep, server_at, server_down}
+use Rattle.qfs_model_meta.specs.Servers.{server_leaving, server_up}
 use Rattle.qfs_model_meta.specs.Slots.{slots_of}
 use Rattle.qfs_model_meta.specs.Sound.{IsSound}
-use Rattle.qfs_model_meta.specs.Step.{carry_out, end_step, fail_disks, meta_step, next_turn, serve_unless_dropped, stays, take_step}
+use Rattle.qfs_model_meta.specs.Step.{carry_out, end_step, fail_disks, meta_step, next_turn}
+use Rattle.qfs_model_meta.specs.Step.{serve_unless_dropped, stays, take_step}
 use Rattle.qfs_model_meta.specs.TreeRows.{unclosed_files}
-use Rattle.std.proofs.Common.{Bool, List, None, Option, Some, [], ap, append_assoc, cond, false, filter, inl, inr, length, map, refl, subst, sym, true, ℕ, ⊎_elim, ◌++◌, ◌+◌, ◌<◌, ◌∙◌, ◌∷◌, ◌≡◌, ◌⊎◌}
+use Rattle.std.proofs.Common.{Bool, List, None, Option, Some, [], ap, append_assoc, cond, false}
+use Rattle.std.proofs.Common.{filter, inl, inr, length, map, refl, subst, sym, true, ℕ, ⊎_elim}
+use Rattle.std.proofs.Common.{◌++◌, ◌+◌, ◌<◌, ◌∙◌, ◌∷◌, ◌≡◌, ◌⊎◌}
 use Rattle.std.proofs.lemmas.Bool.{true≢false}
 use Rattle.std.specs.Prelude.{flat_map, ⊤}
 
@@ -84,7 +97,8 @@ life-one : (actor : ℕ) (past : Past) (m0 m : MetaImage) (request : MetaRequest
     (change : Change) (server : ℕ)
     → MayMake past m change → Does actor m0 request reply change
     → LifeTells request m (apply m change) server
-unfolding apply write_entry add_file with_slots grant_slot finish_lease bring_up server_up server_down server_leaving server_asleep
+unfolding apply write_entry add_file with_slots grant_slot finish_lease bring_up server_up
+    server_down server_leaving server_asleep
 life-one actor past m0 m request reply (ServerUp other life) server may does =
     server-cases (λ v. (v.life ≡ life_at m server)
     ⊎ ((keys : List ChunkKey) × (lived : ℕ) × (request ≡ Ask.Hello server lived keys)

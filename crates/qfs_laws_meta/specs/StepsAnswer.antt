@@ -1,17 +1,13 @@
 -- Every step of a sound metaserver answers as its request may be answered, and tells what its
 -- answer says of the state behind it.
+use Rattle.std.proofs.Common.{◌≡◌, ℕ, ◌+◌, ◌<◌, true, length, refl, subst, sym}
 use Rattle.qfs_base.specs.Sizes.{LAST_U32}
 use Rattle.qfs_base.specs.declared.history.Outcome.{Outcome}
 use Rattle.qfs_base.specs.declared.image.MetaImage.{MetaImage}
 use Rattle.qfs_base.specs.declared.reply.MetaReply.TheVariants as Told
-use Rattle.qfs_base.specs.declared.request.MetaRequest.TheVariants as Ask
 use Rattle.qfs_base.specs.declared.request.MetaRequest.{MetaRequest}
+use Rattle.qfs_base.specs.declared.request.MetaRequest.TheVariants as Ask
 use Rattle.qfs_base.specs.declared.rules.Rules.{Rules}
-use Rattle.qfs_laws_meta.specs.Fair.{Fair, IsAnswered, step-answers}
-use Rattle.qfs_laws_meta.specs.GrantsAnswer.{balance-fair, evacuate-fair, grant-fair, heal-fair, move-fair, open-fair, recover-fair}
-use Rattle.qfs_laws_meta.specs.Requests.{Fine}
-use Rattle.qfs_laws_meta.specs.RequestsAnswer.{abandon-fair, abort-fair, bye-fair, close-fair, confirm-fair, create-fair, drop-fair, hello-fair, hibernate-fair, leave-fair, left_on-fair, list-fair, mkdir-fair, order-fair, release-fair, remove-fair, rename-fair, rmdir-fair, swept-fair, tick-fair}
-use Rattle.qfs_laws_meta.specs.StaysSound.{keeps-of, request-fine, versions-left}
 use Rattle.qfs_model_meta.specs.Asked.{MayAsk}
 use Rattle.qfs_model_meta.specs.Decide.{decide, decide_request}
 use Rattle.qfs_model_meta.specs.Decision.{unless}
@@ -21,7 +17,16 @@ use Rattle.qfs_model_meta.specs.Past.{Past}
 use Rattle.qfs_model_meta.specs.Range.{in_range}
 use Rattle.qfs_model_meta.specs.Sound.{IsSound}
 use Rattle.qfs_model_meta.specs.Step.{meta_step}
-use Rattle.std.proofs.Common.{length, refl, subst, sym, true, ℕ, ◌+◌, ◌<◌, ◌≡◌}
+use Rattle.qfs_laws_meta.specs.Fair.{Fair, IsAnswered, step-answers}
+use Rattle.qfs_laws_meta.specs.GrantsAnswer.{grant-fair, open-fair, recover-fair, heal-fair}
+use Rattle.qfs_laws_meta.specs.GrantsAnswer.{move-fair, evacuate-fair, balance-fair}
+use Rattle.qfs_laws_meta.specs.Requests.{Fine}
+use Rattle.qfs_laws_meta.specs.RequestsAnswer.{mkdir-fair, rmdir-fair, remove-fair, rename-fair}
+use Rattle.qfs_laws_meta.specs.RequestsAnswer.{list-fair, create-fair, close-fair, abort-fair}
+use Rattle.qfs_laws_meta.specs.RequestsAnswer.{release-fair, confirm-fair, abandon-fair, order-fair}
+use Rattle.qfs_laws_meta.specs.RequestsAnswer.{swept-fair, hello-fair, bye-fair, leave-fair}
+use Rattle.qfs_laws_meta.specs.RequestsAnswer.{hibernate-fair, tick-fair, drop-fair, left_on-fair}
+use Rattle.qfs_laws_meta.specs.StaysSound.{keeps-of, request-fine, versions-left}
 
 -- the law: what may be asked, in its range, is answered as it may be, by any outcome of the step
 abbrev pub StepsAnswer : Type 0

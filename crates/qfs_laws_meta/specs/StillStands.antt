@@ -3,7 +3,11 @@
 -- laws of what is held.
 use Rattle.qfs_base.specs.NameTree.{PathNames, kind_at, path_eq, renamed, taken}
 use Rattle.qfs_base.specs.Table.{Each, change_where}
-use Rattle.qfs_base.specs.declared.change.Change.TheVariants.{AbortFile, AddDirectory, AddFile, CloseFile, CondemnStray, ConfirmSlot, EmptySlot, FailGrant, GiveUp, GrantSlot, MovePath, RemoveFile, TakeDirectory}
+use Rattle.qfs_base.specs.declared.change.Change.TheVariants.{AbortFile, AddDirectory, AddFile}
+use Rattle.qfs_base.specs.declared.change.Change.TheVariants.{CloseFile, CondemnStray, ConfirmSlot}
+use Rattle.qfs_base.specs.declared.change.Change.TheVariants.{EmptySlot, FailGrant, GiveUp}
+use Rattle.qfs_base.specs.declared.change.Change.TheVariants.{GrantSlot, MovePath, RemoveFile}
+use Rattle.qfs_base.specs.declared.change.Change.TheVariants.{TakeDirectory}
 use Rattle.qfs_base.specs.declared.change.Change.{Change}
 use Rattle.qfs_base.specs.declared.image.MetaImage.{MetaImage}
 use Rattle.qfs_base.specs.declared.image.TreeRow.{TreeRow}
@@ -17,13 +21,19 @@ use Rattle.qfs_laws_slots.specs.RowKeys.{has_file-is, own-file}
 use Rattle.qfs_laws_tables.specs.SomeRow.{any_change, any_filter, any_filter_given, some-any}
 use Rattle.qfs_laws_tree.specs.Files.{closed-root, emptied-root}
 use Rattle.qfs_laws_tree.specs.Move.{move-onward, moves-of, split-any}
-use Rattle.qfs_laws_tree.specs.Stands.{added-onward, at_path-off, closing-onward, emptied-onward, removed-onward, without_file-onward}
+use Rattle.qfs_laws_tree.specs.Stands.{added-onward, at_path-off, closing-onward, emptied-onward}
+use Rattle.qfs_laws_tree.specs.Stands.{removed-onward, without_file-onward}
 use Rattle.qfs_laws_tree.specs.TreeChanges.{any-added}
 use Rattle.qfs_laws_tree.specs.TreeFacts.{kind_in, look-closed, rmdir-empty}
-use Rattle.qfs_model_meta.specs.Apply.{add_file, apply, bring_up, finish_lease, grant_slot, with_slots, write_entry}
+use Rattle.qfs_model_meta.specs.Apply.{add_file, apply, bring_up, finish_lease, grant_slot}
+use Rattle.qfs_model_meta.specs.Apply.{with_slots, write_entry}
 use Rattle.qfs_model_meta.specs.Past.{Past}
-use Rattle.qfs_model_meta.specs.TreeRows.{close_file, close_row, closed_file, directory_row, file_row, file_stands, has_file, is_unclosed, is_unclosed_of, is_unclosed_row, move_path, standing, take_file, take_path, unclosed_file}
-use Rattle.std.proofs.Common.{Bool, List, Some, [], ap, arith, false, filter, not, refl, subst, sym, true, ℕ, ◌&&◌, ◌<◌, ◌==◌, ◌||◌, ◌∙◌, ◌≡◌, ◌≤◌}
+use Rattle.qfs_model_meta.specs.TreeRows.{close_file, close_row, closed_file, directory_row}
+use Rattle.qfs_model_meta.specs.TreeRows.{file_row, file_stands, has_file, is_unclosed}
+use Rattle.qfs_model_meta.specs.TreeRows.{is_unclosed_of, is_unclosed_row, move_path, standing}
+use Rattle.qfs_model_meta.specs.TreeRows.{take_file, take_path, unclosed_file}
+use Rattle.std.proofs.Common.{Bool, List, Some, [], ap, arith, false, filter, not, refl, subst, sym}
+use Rattle.std.proofs.Common.{true, ℕ, ◌&&◌, ◌<◌, ◌==◌, ◌||◌, ◌∙◌, ◌≡◌, ◌≤◌}
 use Rattle.std.proofs.lemmas.Bool.{and_parts, eq-eqb, ne_eqb, true≢false}
 use Rattle.std.specs.List.{list_any}
 use Rattle.std.specs.Prelude.{IsTrue, is_some}
@@ -145,7 +155,8 @@ moving-on actor file from to m may f =
 pub still-writes : (past : Past) (m : MetaImage) (change : Change) → MayMake past m change → Fits m
     → (actor file : ℕ) → (EndsFile change file → ⊥) → Writes m actor file
     → Writes (apply m change) actor file
-unfolding apply write_entry add_file with_slots grant_slot finish_lease bring_up directory_row file_row
+unfolding apply write_entry add_file with_slots grant_slot finish_lease bring_up directory_row
+    file_row
 still-writes past m (AddDirectory path) may f actor file ends is =
     onward actor file m.tree _ (λ any. any-added (unclosed_test actor file) (directory_row path)
     m.tree may.free ∙ or-on _ _ any) is
@@ -165,7 +176,8 @@ still-writes past m (AbortFile other) may f actor file ends is =
 still-writes past m (MovePath from to) may f actor file ends is =
     moving-on actor file from to m may f is
 still-writes past m (FailGrant block slot) may f actor file ends is =
-    subst (λ (n : MetaImage). Writes n actor file) (sym (losing-frame m (FailGrant block slot) tt).is)
+    subst (λ (n : MetaImage). Writes n actor file) (sym (losing-frame m
+    (FailGrant block slot) tt).is)
     is
 still-writes past m (GiveUp block slot) may f actor file ends is =
     subst (λ (n : MetaImage). Writes n actor file) (sym (losing-frame m (GiveUp block slot) tt).is)
@@ -184,7 +196,8 @@ still-writes past m _ may f actor file ends is = is
 pub still-closed : (past : Past) (m : MetaImage) (change : Change) → MayMake past m change → Fits m
     → (file : ℕ) → (EndsFile change file → ⊥) → IsClosedIn m file
     → IsClosedIn (apply m change) file
-unfolding apply write_entry add_file with_slots grant_slot finish_lease bring_up directory_row file_row
+unfolding apply write_entry add_file with_slots grant_slot finish_lease bring_up directory_row
+    file_row
 still-closed past m (AddDirectory path) may f file ends is =
     (added-onward (directory_row path) m.tree may.free file).1 is
 still-closed past m (AddFile path by command len) may f file ends is =

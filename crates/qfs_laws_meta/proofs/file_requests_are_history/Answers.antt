@@ -1,4 +1,5 @@
-use Rattle.qfs_laws_meta.specs.FileRequests.{file-requests-write, tree-bears-replies}
+use Rattle.qfs_laws_tree.specs.TreeReplies.{tree-bears-replies}
+use Rattle.qfs_laws_meta.specs.FileRequests.{file-requests-write}
 use Rattle.qfs_laws_meta.specs.StepParts.{drops-write, others-write-nothing}
 use Rattle.qfs_laws_meta.proofs.file_requests_are_history.Goals as goal
 
