@@ -291,5 +291,5 @@ pub above_later : (lease : Lease) (before later : List Lease)
 above_later lease [] later rising =
     each_weaker (λ it. lease_cmp lease it ≡ Less) _
     (λ it above. let below : lease.lease < it.lease = ranked lease.lease it.lease Less (sym above) in
-      omega arith) later rising.0
+    omega arith) later rising.0
 above_later lease (first ∷ before) later rising = above_later lease before later rising.1

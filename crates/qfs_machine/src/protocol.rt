@@ -64,7 +64,9 @@ impl<P: Protocol> Model for Session<P> {
     ghost use Rattle.qfs_machine.specs.Asking.{IsPrepared};
 
     ghost view = { λ it. record {
-        protocol = it.protocol; readiness = it.pending.readiness } };
+      protocol = it.protocol;
+      readiness = it.pending.readiness;
+    } };
 
     ghost invariant = { λ it. IsPrepared P.may_ask (P.rest it.protocol)
         it.pending.readiness it.pending.request };

@@ -51,7 +51,7 @@ impl Model for Reader {
     ghost invariant = { λ it.
         IsGetStage it.get it.stage
         × IsPrepared IsAskable (rest_of_get it.get it.stage) it.pending.readiness
-            it.pending.request
+        it.pending.request
         × IsSuppliedWhile it.pending.readiness it.get it.stage };
 }
 

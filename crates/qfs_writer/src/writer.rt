@@ -50,7 +50,7 @@ impl Model for Writer {
     ghost invariant = { λ it.
         IsPutStage it.put it.stage
         × IsPrepared IsAskable (rest_of_put it.put it.stage) it.pending.readiness
-            it.pending.request };
+        it.pending.request };
 }
 
 impl Writer {

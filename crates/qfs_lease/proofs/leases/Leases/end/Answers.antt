@@ -19,9 +19,9 @@ invariant_of-self c =
     c.remove-in-Some-2.new.self c.args.lease c.in-Some.row (sym numbers.row ∙ c.in-Some.is)
     numbers.rows
     (files.rows ∙ ap (λ row. without (has_key (index_cmp row)) c.self.inside.by_file.rows)
-      (c.by_file.ensures ∙ ap (row_by file_of) c.lease-lease.ensures))
+    (c.by_file.ensures ∙ ap (row_by file_of) c.lease-lease.ensures))
     (ends.rows ∙ ap (λ row. without (has_key (index_cmp row)) c.self.inside.by_end.rows)
-      (c.by_end.ensures ∙ ap (row_by end_of) c.lease-lease.ensures))
+    (c.by_end.ensures ∙ ap (row_by end_of) c.lease-lease.ensures))
     numbers.spare files.spare ends.spare
 
 pub invariant_of-self-in-None : goal.invariant_of-self-in-None

@@ -18,7 +18,7 @@ loop-lease-preserved c =
     record {
       left = ap (without (has_run_out c.args.clock)) c.end.ensures.leases
           ∙ without_after (is_lease c.in-Some.lease) (has_run_out c.args.clock)
-            c.loop-lease.self.leases c.in-Some.ensures.over
+          c.loop-lease.self.leases c.in-Some.ensures.over
           ∙ was.left;
       next = c.end.ensures.next ∙ was.next;
       spare = c.end.ensures.spare ∙ was.spare;

@@ -17,4 +17,4 @@ returns-clause-below c =
     (sym c.get.ensures ∙ ap option_copied c.in_ok-row.was) c.self.invariant.numbers).0 in
     subst (λ (lease : Lease). lease.lease < c.args.self.now.next) (sym c.lease.ensures)
     (subst (λ (next : ℕ). c.in_ok-row.row.now.lease < next)
-      (ap (λ (it : LiveLeases). it.next) c.self.view_is) below)
+    (ap (λ (it : LiveLeases). it.next) c.self.view_is) below)

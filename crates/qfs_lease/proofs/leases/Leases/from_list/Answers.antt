@@ -52,10 +52,10 @@ invariant_of-leases c =
     let was = c.leases-2.invariant in
     let loop = c.loop-lease in
     let none = nil_from_length (into_iter_items loop.lease-iterator)
-        (sym loop.lease-iterator.rest.ok.0 ∙ c.in-None.ensures.steps.0) in
+    (sym loop.lease-iterator.rest.ok.0 ∙ c.in-None.ensures.steps.0) in
     let rows = ap (λ (it : LiveLeases). it.leases) c.leases-2.view_is
-        ∙ sym (append-nil loop.leases.leases)
-        ∙ ap (λ rest. loop.leases.leases ++ rest) (sym none) ∙ loop.invariant.joined in
+    ∙ sym (append-nil loop.leases.leases)
+    ∙ ap (λ rest. loop.leases.leases ++ rest) (sym none) ∙ loop.invariant.joined in
     record {
       in_order = was.in_order;
       numbers = subst (Each (λ (lease : Lease). lease.lease < c.args.next)) (sym rows) c.requires.numbers;
@@ -70,7 +70,7 @@ pub returns-clause-leases : goal.returns-clause-leases
 returns-clause-leases c =
     let loop = c.loop-lease in
     let none = nil_from_length (into_iter_items loop.lease-iterator)
-        (sym loop.lease-iterator.rest.ok.0 ∙ c.in-None.ensures.steps.0) in
+    (sym loop.lease-iterator.rest.ok.0 ∙ c.in-None.ensures.steps.0) in
     ap (λ (it : LiveLeases). it.leases) c.leases-2.view_is
     ∙ sym (append-nil loop.leases.leases)
     ∙ ap (λ rest. loop.leases.leases ++ rest) (sym none)

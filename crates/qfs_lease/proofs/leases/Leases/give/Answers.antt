@@ -9,4 +9,4 @@ unfolding give_lease
 returns-clause-leases c =
     c.put.ensures.leases
     ∙ ap (λ (it : LiveLeases). give_lease it.next c.args.actor c.args.file c.args.until
-      c.args.self.now.leases) c.self.view_is
+    c.args.self.now.leases) c.self.view_is

@@ -13,7 +13,7 @@ returns-in-Some c =
     let seen = ap (λ (it : LiveLeases). holds_lease c.args.actor c.args.lease it.leases) c.self.view_is in
     ap (λ (lease : Lease). lease.actor == c.args.actor) c.lease.ensures
     ∙ held_as_found c.args.actor c.args.lease c.in-Some.row.now c.self.inside.by_number.rows
-      c.self.invariant.in_order (sym c.get.ensures ∙ ap option_copied c.in-Some.is)
+    c.self.invariant.in_order (sym c.get.ensures ∙ ap option_copied c.in-Some.is)
     ∙ seen
 
 pub returns-in-None : goal.returns-in-None

@@ -37,6 +37,11 @@ returns-clause-spare c =
     let seen = ap (λ (it : LiveLeases). it.next) c.self.view_is in
     let high : c.self.inside.next ≤ c.args.lease.lease = omega (arith, seen, c.requires.number) in
     let last = c.insert-2.ensures.rows ∙ ap (λ lease. place lease_cmp lease rows) c.new.ensures
-        ∙ given_last c.self.invariant c.args.lease high in
-    omega (arith, c.insert-2.ensures.spare, ap length last, length-append rows (c.args.lease ∷ []),
-      ap (λ (it : LiveLeases). it.spare) c.self.view_is)
+    ∙ given_last c.self.invariant c.args.lease high in
+    omega (
+      arith,
+      c.insert-2.ensures.spare,
+      ap length last,
+      length-append rows (c.args.lease ∷ []),
+      ap (λ (it : LiveLeases). it.spare) c.self.view_is,
+    )

@@ -10,5 +10,5 @@ returns c =
     let seen = ap (λ (it : LiveLeases). is_held_below c.args.file c.args.below it.leases) c.self.view_is in
     c.is_some.ensures ∙ some_copied c.get.result ∙ ap is_some c.get.ensures
     ∙ held_below c.args.file c.args.below c.self.inside.by_file.rows c.self.inside.by_number.rows
-      c.self.invariant.files
+    c.self.invariant.files
     ∙ seen
