@@ -1,8 +1,7 @@
 -- What an actor's command holds: what replies of the metaserver gave it and its requests haven't
 -- given back; and what is to hold of that at the metaserver. Cited by the sound world and by the
 -- laws of the metaserver.
-use Rattle.std.specs.Prelude.{ℕ, ◌≡◌, ◌<◌, ◌⊎◌, ◌==◌, ◌&&◌, Bool, true, false, not, List, []}
-use Rattle.std.specs.Prelude.{◌∷◌, ◌++◌, filter, Option, Some, None, IfSome, is_some, IsTrue}
+use Rattle.std.specs.Prelude.{ℕ, ◌≡◌, ◌<◌, ◌⊎◌, ◌==◌, ◌&&◌, Bool, true, false, not, List, [], ◌∷◌, ◌++◌, filter, Option, Some, None, IfSome, is_some, IsTrue}
 use Rattle.std.specs.List.{list_any}
 use Rattle.qfs_base.specs.Table.{Each}
 use Rattle.qfs_base.specs.declared.image.Lease.{Lease}
@@ -35,9 +34,7 @@ is_same_slot a b = same_block a.block b.block && (a.slot == b.slot)
 -- a grant takes the place of one for its slot
 unfoldable pub with_grant_held : Granted → Holding → Holding
 with_grant_held g holding =
-    record holding {
-      grants = filter (λ (other : Granted). not (is_same_slot g other)) holding.grants ++ g ∷ [];
-    }
+    record holding { grants = filter (λ (other : Granted). not (is_same_slot g other)) holding.grants ++ g ∷ [] }
 
 -- a lease takes the place of the one before
 abbrev pub with_lease_held : ℕ → ℕ → ℕ → Holding → Holding
@@ -52,8 +49,7 @@ with_lease_of actor g holding false = with_lease_held g.lease actor g.block.file
 -- what is held after a reply that gives something
 unfoldable pub taken_up : ℕ → Holding → MetaReply → Holding
 taken_up actor holding (Told.Created file place) = record holding { file = Some file }
-taken_up actor holding (Told.Granted g) =
-    with_lease_of actor g (with_grant_held g holding) (is_of_put g)
+taken_up actor holding (Told.Granted g) = with_lease_of actor g (with_grant_held g holding) (is_of_put g)
 taken_up actor holding (Told.Opened o) = with_lease_held o.lease actor o.file holding
 taken_up actor holding reply = holding
 
@@ -122,15 +118,13 @@ KeepsGrant m actor g =
 unfoldable pub is_given : GivenLease → GivenLease → Bool
 is_given a b = (a.lease == b.lease) && (a.actor == b.actor) && (a.file == b.file)
 
-pub record KeepsLease (past : Past) (ended : ℕ → Bool) (m : MetaImage)
-    (lease : GivenLease) : Type 0 where
+pub record KeepsLease (past : Past) (ended : ℕ → Bool) (m : MetaImage) (lease : GivenLease) : Type 0 where
   pub given : IsTrue (list_any (is_given lease) past.leases)
   pub live : IsTrue (is_live_lease lease.lease m.leases) ⊎ IsTrue (ended lease.lease)
 
 -- what a command got and hasn't given back is there and its actor's own. `ended`: the leases that
 -- ticks ended
-pub record KeepsHolding (past : Past) (ended : ℕ → Bool) (m : MetaImage) (actor : ℕ)
-    (holding : Holding) : Type 0 where
+pub record KeepsHolding (past : Past) (ended : ℕ → Bool) (m : MetaImage) (actor : ℕ) (holding : Holding) : Type 0 where
   pub file : IfSome holding.file (λ file. IsTrue (is_some (unclosed_file actor file m.tree)))
   pub lease : IfSome holding.lease (KeepsLease past ended m)
   pub grants : Each (KeepsGrant m actor) holding.grants
