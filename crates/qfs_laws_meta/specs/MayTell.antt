@@ -390,7 +390,7 @@ TellsRestarted m (Told.Restarted turn) = turn ≡ m.turn
 TellsRestarted m reply = ⊥
 
 -- what a request of an actor may be answered in this state, and when, but for the answers that any
--- request may get. No two answers of a request come in one state
+-- request may get: the refusals that come before an answer don't hold where it comes
 abbrev pub MayTell : Rules → ℕ → MetaImage → MetaReply → MetaRequest → Type 0
 MayTell rules actor m reply (Ask.Mkdir path) =
     TellsChange (add_refusal (standing m.tree) path) (length m.history) reply
