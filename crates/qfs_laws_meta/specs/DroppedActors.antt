@@ -65,7 +65,11 @@ use Rattle.qfs_model_meta.specs.TreeRequests.{remove_changes, decide_rename, dec
 use Rattle.qfs_model_meta.specs.TreeRows.{file_stands, unclosed_files, row_at}
 use Rattle.qfs_laws_tables.specs.Keys.{key-is}
 use Rattle.qfs_laws_slots.specs.Losing.{losing-frame, stray-frame}
-use Rattle.qfs_laws_tables.specs.Placed.{find-apart}
+use Rattle.qfs_laws_tables.specs.Placed.{find-apart, find-placed}
+use Rattle.std.proofs.Common.{arith, ◌<◌}
+use Rattle.std.proofs.lemmas.Bool.{eq-eqb, ne_eqb}
+use Rattle.qfs_laws_tables.specs.EachRow.{each_of_all}
+use Rattle.std.specs.declared.cmp.Ordering.TheVariants.{Greater}
 
 -- ---- what is told
 
@@ -385,12 +389,12 @@ added-behind dropped turn who ds none =
         (λ row tie. key-is who row.actor ∙ ap (λ k. k == who)
         (sym (ranked dropped row.actor Equal (sym tie))) ∙ differs))
 
-dropping-leaves : (dropped who : ℕ) (m : MetaImage) (reply : MetaReply) (o : Option ℕ)
-    → dropped_at dropped m.dropped ≡ o
-    → Behind dropped who m.dropped (apply_all (changes_unless_dropped dropped m o) m).dropped
+-- the list of dropped actors behind the changes of a drop
+drop-list : (dropped : ℕ) (m : MetaImage)
+    → (apply_all (changes_unless_dropped dropped m None) m).dropped
+    ≡ add_dropped dropped m.turn m.dropped
 unfolding changes_unless_dropped drop_changes recovery_changes unclosed_changes apply_all apply
-dropping-leaves dropped who m reply (Some turn) is = ((λ t at. at), (λ at. inl at))
-dropping-leaves dropped who m reply None is =
+drop-list dropped m =
     let n : MetaImage = record m { dropped = add_dropped dropped m.turn m.dropped } in
     let rest : List Change = map EndLease (leases_of dropped m.leases) ++ map
     (λ (row : SlotRow). GiveUp row.block row.slot)
@@ -404,17 +408,55 @@ dropping-leaves dropped who m reply None is =
     (none-map EndLease (λ lease. tt) (leases_of dropped m.leases))
     (none-map (λ (row : SlotRow). GiveUp row.block row.slot) (λ row. tt)
     (filter (is_recovery_of dropped m.tree) m.slots)))
-    (none-flat (λ file. abort_changes file m.slots) (λ file. aborting m file)
+    (none-flat (λ file. abort_changes file m.slots) (λ file. aborting file)
     (unclosed_files dropped m.tree)) in
-    subst (Behind dropped who m.dropped) (sym (same-all rest n none))
-    (added-behind dropped m.turn who m.dropped is)
+    same-all rest n none
   where
-    aborting : (m : MetaImage) (file : ℕ) → Each DropsNone (abort_changes file m.slots)
-    aborting m file =
+    aborting : (file : ℕ) → Each DropsNone (abort_changes file m.slots)
+    aborting file =
         unfold abort_changes in each_append DropsNone
         (map (λ (row : SlotRow). GiveUp row.block row.slot) (slots_of file m.slots)) _
         (none-map (λ (row : SlotRow). GiveUp row.block row.slot) (λ row. tt)
         (slots_of file m.slots)) (tt, tt)
+
+-- who is dropped counts as dropped from then on
+added-counts : (who turn : ℕ) (ds : List DroppedActor)
+    → dropped_at who (add_dropped who turn ds) ≡ Some turn
+unfolding add_dropped dropped_at dropped_cmp
+added-counts who turn ds =
+    ap (option_map (λ (d : DroppedActor). d.turn))
+    (find-placed dropped_cmp (has_key (dropped_order who)) (record { actor = who; turn = turn }) ds
+    (key-is who who ∙ eq-eqb who who refl)
+    (each_of_all (λ (row : DroppedActor). dropped_cmp (record { actor = who; turn = turn }) row
+    ≡ Greater → has_key (dropped_order who) row ≡ false)
+    (λ row after. key-is who row.actor ∙ apart row.actor (ranked who row.actor Greater
+    (sym after))) ds))
+  where
+    apart : (a : ℕ) → a < who → (a == who) ≡ false
+    apart a low = ne_eqb a who (λ e. omega arith)
+
+pub drop-counts : (who : ℕ) (m : MetaImage)
+    → dropped_at who (apply_all (changes_unless_dropped who m (dropped_at who m.dropped))
+    m).dropped ≡ None → ⊥
+drop-counts who m none = one (dropped_at who m.dropped) refl none
+  where
+    no-none : {turn : ℕ} → Some turn ≡ None → ⊥
+    no-none e = cc
+
+    one : (o : Option ℕ) → dropped_at who m.dropped ≡ o
+        → dropped_at who (apply_all (changes_unless_dropped who m o) m).dropped ≡ None → ⊥
+    one (Some turn) is none = no-none (sym is ∙ (unfold changes_unless_dropped apply_all in none))
+    one None is none = no-none (sym (added-counts who m.turn m.dropped)
+        ∙ ap (dropped_at who) (sym (drop-list who m)) ∙ none)
+
+dropping-leaves : (dropped who : ℕ) (m : MetaImage) (reply : MetaReply) (o : Option ℕ)
+    → dropped_at dropped m.dropped ≡ o
+    → Behind dropped who m.dropped (apply_all (changes_unless_dropped dropped m o) m).dropped
+unfolding changes_unless_dropped drop_changes recovery_changes unclosed_changes apply_all apply
+dropping-leaves dropped who m reply (Some turn) is = ((λ t at. at), (λ at. inl at))
+dropping-leaves dropped who m reply None is =
+    subst (Behind dropped who m.dropped) (sym (drop-list dropped m))
+    (added-behind dropped m.turn who m.dropped is)
 
 drop-stays : (rules : Rules) (actor dropped : ℕ) (outcome : Outcome) (m : MetaImage) (who : ℕ)
     → DroppedBehind (Ask.Drop dropped) m (meta_step rules actor (Ask.Drop dropped) outcome m).meta

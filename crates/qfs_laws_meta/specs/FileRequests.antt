@@ -166,7 +166,7 @@ losing-history : (m : MetaImage) (change : Change) → IsLosing change
     → (apply m change).history ≡ m.history
 losing-history m change is = ap (λ (n : MetaImage). n.history) (losing-frame m change is).is
 
-lost-history : (change : SlotRow → Change) → ((row : SlotRow) → IsLosing (change row))
+pub lost-history : (change : SlotRow → Change) → ((row : SlotRow) → IsLosing (change row))
     → (rows : List SlotRow) (m : MetaImage) → (apply_all (map change rows) m).history ≡ m.history
 unfolding apply_all
 lost-history change is [] m = refl

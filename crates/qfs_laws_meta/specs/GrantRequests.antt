@@ -194,7 +194,7 @@ pending-quiet actor past None reply is = absurd (cc)
 pending-quiet actor past (Some g) reply is =
     let e : Told.Taken g.copy.version ≡ reply = cc in subst (Quiet actor past) e refl
 
-pending-none : (o : Option Grant) → pending_refusal o ≡ None → o ≡ None
+pub pending-none : (o : Option Grant) → pending_refusal o ≡ None → o ≡ None
 unfolding pending_refusal
 pending-none None e = refl
 pending-none (Some g) e = absurd (cc)
@@ -212,7 +212,7 @@ found-closed : (path : PathNames) (tree : List TreeRow) (row : TreeRow)
 found-closed path tree row found is =
     found-any _ (closed_test row.file) tree row found (closed-passes row is)
 
-closed-at : (next : ℕ) (path : PathNames) (tree : List TreeRow)
+pub closed-at : (next : ℕ) (path : PathNames) (tree : List TreeRow)
     → look_refusal (standing tree) path ≡ None → HasTree next tree
     → IsTrue (is_some (closed_file (row_at tree path).file tree))
 unfolding row_at

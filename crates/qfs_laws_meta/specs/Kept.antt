@@ -107,7 +107,7 @@ pub record Keeps (past : Past) (m : MetaImage) : Type 0 where
 
 -- ---- files that are closed or given up
 
-unclosed-of : (m : MetaImage) (file actor command : ℕ) → MayClose m file actor command → Fits m
+pub unclosed-of : (m : MetaImage) (file actor command : ℕ) → MayClose m file actor command → Fits m
     → IsUnclosedFile file m.tree × Each
     (λ (row : TreeRow). row.file ≡ file → (row.actor ≡ actor) × (row.command ≡ command)) m.tree
     × IsActor actor × (command ≤ LAST_U16)
@@ -136,7 +136,7 @@ unclosed-of m file actor command may f =
     numbered : may.row.file ≡ file → 0 < file → may.row.file ≢ 0
     numbered own some z = omega arith
 
-aborted-of : (m : MetaImage) (file : ℕ) → MayAbort m file → Fits m → IsUnclosedFile file m.tree
+pub aborted-of : (m : MetaImage) (file : ℕ) → MayAbort m file → Fits m → IsUnclosedFile file m.tree
 aborted-of m file may f =
     one (find (λ (row : TreeRow). is_unclosed_row row && (has_file file row)) m.tree) refl
   where
@@ -591,7 +591,7 @@ after-some m file is other f stands =
     (stands-below m.next_file other (close_file file m.tree)
     (tree-closed m.next_file file m.tree is.some f.tree) stands).1
 
-tree-back : (past : Past) (m : MetaImage) (change : Change) → MayMake past m change → Fits m
+pub tree-back : (past : Past) (m : MetaImage) (change : Change) → MayMake past m change → Fits m
     → TreeBack m change
 unfolding apply write_entry add_file with_slots finish_lease bring_up directory_row file_row
 tree-back past m (AddDirectory path) may f =

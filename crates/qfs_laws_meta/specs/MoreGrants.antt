@@ -72,14 +72,14 @@ use Rattle.qfs_laws_slots.specs.Choice.{IsNumbered, census-length, chosen-is, en
 
 -- ---- lists of slots
 
-abbrev IsSlotOf : ℕ → SlotId → Type 0
+abbrev pub IsSlotOf : ℕ → SlotId → Type 0
 IsSlotOf file id = (id.block.file ≡ file) × (id.slot < 9)
 
 small-slots : (k n : ℕ) → k + n ≤ 9 → Each (λ slot. slot < 9) (range_with_len k n)
 small-slots k zero high = tt
 small-slots k (suc n) high = (omega arith, small-slots (k + 1) n (omega arith))
 
-file-slots : (file count : ℕ) → Each (IsSlotOf file) (file_slots file count)
+pub file-slots : (file count : ℕ) → Each (IsSlotOf file) (file_slots file count)
 unfolding file_slots block_slots
 file-slots file count =
     each_flat (λ _. Unit {0}) (IsSlotOf file)
@@ -90,7 +90,7 @@ file-slots file count =
     (range_with_len 0 count) (each_of_all _ (λ _. tt) (range_with_len 0 count))
 
 -- what is healed is a slot of a closed file
-abbrev IsOfClosed : List TreeRow → SlotId → Type 0
+abbrev pub IsOfClosed : List TreeRow → SlotId → Type 0
 IsOfClosed tree id = IsTrue (is_some (closed_file id.block.file tree)) × (id.slot < 9)
 
 own-closed : (rows : List TreeRow)
@@ -121,7 +121,7 @@ closed-files tree =
     (each_both (λ row. is_closed_row row ≡ true) _ (filter is_closed_row tree)
     (each_passes is_closed_row tree) (each_filter _ is_closed_row tree (own-closed tree)))) tt
 
-closed-slots : (layout : Shape) (tree : List TreeRow)
+pub closed-slots : (layout : Shape) (tree : List TreeRow)
     → Each (IsOfClosed tree) (closed_slots layout tree)
 unfolding closed_slots slots_of_closed
 closed-slots layout tree =
@@ -148,14 +148,15 @@ heal-fine layout term actor past m after f who left =
 
 -- ---- moves that are found
 
-source-current : (slots : List SlotRow) (row : SlotRow) (o : Option Copy)
+pub source-current : (slots : List SlotRow) (row : SlotRow) (o : Option Copy)
     → (slot_at slots row.block row.slot).current ≡ o
     → AreCurrent slots row.block (move_source row.slot o)
 unfolding move_source
 source-current slots row None is = none-current slots row.block
 source-current slots row (Some copy) is = one-current slots row.block row.slot copy is
 
-at-rest : (layout : Shape) (tree : List TreeRow) (row : SlotRow) → is_at_rest layout tree row ≡ true
+pub at-rest : (layout : Shape) (tree : List TreeRow) (row : SlotRow)
+    → is_at_rest layout tree row ≡ true
     → (row.state.grant ≡ None) × IsTrue (is_some (closed_file row.block.file tree))
 unfolding is_at_rest has_block
 at-rest layout tree row is =
@@ -167,7 +168,7 @@ at-rest layout tree row is =
     one (Some r) e = refl
 
 -- a row of the table that is found is what is known of its slot
-row-of : (m : MetaImage) (test : SlotRow → Bool) (row : SlotRow) → Fits m
+pub row-of : (m : MetaImage) (test : SlotRow → Bool) (row : SlotRow) → Fits m
     → find test m.slots ≡ Some row
     → (row.slot < 9) × (slot_at m.slots row.block row.slot ≡ row.state) × (test row ≡ true)
 row-of m test row f found =
@@ -245,7 +246,8 @@ taken-quiet actor past true (Some g) reply is = absurd (cc)
 taken-quiet actor past false (Some g) reply is =
     let e : Told.Taken g.copy.version ≡ reply = cc in subst (Quiet actor past) e refl
 
-unclosed-stands : (file : ℕ) (row : TreeRow) → is_unclosed_row row ≡ true → has_file file row ≡ true
+pub unclosed-stands : (file : ℕ) (row : TreeRow) → is_unclosed_row row ≡ true
+    → has_file file row ≡ true
     → stands_test file row ≡ true
 unclosed-stands file row is own =
     and_from (is_closed_row row || is_unclosed_row row) (has_file file row)

@@ -45,6 +45,13 @@ unfolding apply_all
 make-append past m [] ys a b = b
 make-append past m (x ∷ xs) ys a b = (a.0, make-append (told x m past) (apply m x) xs ys a.1 b)
 
+pub make-split : (past : Past) (m : MetaImage) (xs ys : List Change) → AllMake past m (xs ++ ys)
+    → AllMake past m xs × AllMake (told_all xs m past) (apply_all xs m) ys
+unfolding apply_all
+make-split past m [] ys may = (tt, may)
+make-split past m (x ∷ xs) ys may =
+    let rest = make-split (told x m past) (apply m x) xs ys may.1 in ((may.0, rest.0), rest.1)
+
 pub apply-append : (m : MetaImage) (xs ys : List Change)
     → apply_all (xs ++ ys) m ≡ apply_all ys (apply_all xs m)
 unfolding apply_all

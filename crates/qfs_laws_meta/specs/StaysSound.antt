@@ -310,15 +310,22 @@ versions-left past m left h =
     each_weaker (λ (row : SlotRow). row.state.next ≤ length past.granted + 1)
     (λ (row : SlotRow). row.state.next < LAST_U32) (λ row o. omega arith) m.slots h.knows.counted
 
-pub stays-sound : StaysSound
-unfolding meta_step decide remember
-stays-sound rules actor request outcome past m sound left a may =
+-- what is decided on a request that may be asked, in its range or not
+pub decide-fine : (rules : Rules) (actor : ℕ) (past : Past) (m : MetaImage) (request : MetaRequest)
+    → IsSound past m → length past.granted + 1 < LAST_U32 → IsActor actor → MayAsk past request
+    → Fine actor past m (decide rules actor m request)
+unfolding decide remember
+decide-fine rules actor past m request sound left a may =
     let h = keeps-of past m sound in
-    let c = sound.image.counters in
-    let fine = unless-fine actor past m (in_range (length m.servers) request) Told.Nothing
+    unless-fine actor past m (in_range (length m.servers) request) Told.Nothing
     (decide_request rules actor m request) refl
-    (λ range. request-fine rules actor past m request h c (versions-left past m left h) a may
-    range) in
+    (λ range. request-fine rules actor past m request h sound.image.counters
+    (versions-left past m left h) a may range)
+
+pub stays-sound : StaysSound
+unfolding meta_step
+stays-sound rules actor request outcome past m sound left a may =
     let s = step-stays actor past m (decide rules actor m request) outcome
-    (dropped_at actor m.dropped) fine h c in
+    (dropped_at actor m.dropped) (decide-fine rules actor past m request sound left a may)
+    (keeps-of past m sound) sound.image.counters in
     sound-of _ _ s.counters s.keeps
