@@ -12,7 +12,8 @@ use Rattle.qfs_model_script.specs.InScript.{blocks_in, chunk_bytes_in, chunk_byt
 use Rattle.qfs_model_grammar.specs.SoFar.{chunk_bytes_of}
 
 -- so many equal terms and one more
-sum_equal : (term : ℕ → ℕ) (each last : ℕ) (from count : ℕ) → ((k : ℕ) → from ≤ k → k < from + count → term k ≡ each) → term (from + count) ≡ last
+sum_equal : (term : ℕ → ℕ) (each last : ℕ) (from count : ℕ)
+    → ((k : ℕ) → from ≤ k → k < from + count → term k ≡ each) → term (from + count) ≡ last
     → sum_by term (range_with_len from (suc count)) ≡ count * each + last
 sum_equal term each last from zero same ends =
     sum_by-cons term from [] ∙ omega (arith, ends, ap term (from_only from))
@@ -21,18 +22,21 @@ sum_equal term each last from zero same ends =
     from_only n = omega arith
 sum_equal term each last from (suc count) same ends =
     let first : term from ≡ each = same from (omega arith) (omega arith) in
-    let rest = sum_equal term each last (from + 1) count (λ k above below. same k (omega arith) (omega arith)) (ap term (moved from count) ∙ ends) in
+    let rest = sum_equal term each last (from + 1) count
+        (λ k above below. same k (omega arith) (omega arith)) (ap term (moved from count) ∙ ends) in
     sum_by-cons term from (range_with_len (from + 1) (suc count)) ∙ grind (arith, first, rest)
   where
     moved : (a b : ℕ) → a + 1 + b ≡ a + suc b
     moved a b = omega arith
 
-all_equal : (term : ℕ → ℕ) (each : ℕ) (from count : ℕ) → ((k : ℕ) → from ≤ k → k < from + count → term k ≡ each)
+all_equal : (term : ℕ → ℕ) (each : ℕ) (from count : ℕ)
+    → ((k : ℕ) → from ≤ k → k < from + count → term k ≡ each)
     → sum_by term (range_with_len from count) ≡ count * each
 all_equal term each from zero same = omega arith
 all_equal term each from (suc count) same =
     let first : term from ≡ each = same from (omega arith) (omega arith) in
-    let rest = all_equal term each (from + 1) count (λ k above below. same k (omega arith) (omega arith)) in
+    let rest = all_equal term each (from + 1) count
+        (λ k above below. same k (omega arith) (omega arith)) in
     sum_by-cons term from (range_with_len (from + 1) count) ∙ grind (arith, first, rest)
 
 -- ---- whole blocks, and what is left
@@ -80,8 +84,10 @@ module _ (layout : Shape) (len : ℕ) (stripe : 1 ≤ layout.s) (some : 1 ≤ la
   of_last =
       let here : 0 + len / block ≡ len / block = omega arith in
       let left : min (len - len / block * block) block ≡ len % block =
-      omega (arith, mod-eq-sub-div-mul len block, mod-lt len (wide_block layout.s layout.r stripe some)) in
-      ap (chunk_bytes_of_block layout len) here ∙ ap (λ bytes. SLOTS * (div_ceil bytes row * layout.s)) left
+      omega (arith, mod-eq-sub-div-mul len block, mod-lt len
+          (wide_block layout.s layout.r stripe some)) in
+      ap (chunk_bytes_of_block layout len) here
+          ∙ ap (λ bytes. SLOTS * (div_ceil bytes row * layout.s)) left
 
   in_whole_blocks : len % block ≡ 0 → chunk_bytes_in layout len ≡ chunk_bytes_of layout len
   in_whole_blocks none =
@@ -102,7 +108,8 @@ module _ (layout : Shape) (len : ℕ) (stripe : 1 ≤ layout.s) (some : 1 ≤ la
       ∙ sum_equal (chunk_bytes_of_block layout len) whole last 0 (len / block) of_whole of_last
       ∙ together (len / block) layout.r layout.s (div_ceil (len % block) row)
     where
-      together : (q r s rows : ℕ) → q * (SLOTS * (r * s)) + SLOTS * (rows * s) ≡ SLOTS * ((q * r + rows) * s)
+      together : (q r s rows : ℕ) → q * (SLOTS * (r * s)) + SLOTS * (rows * s) ≡ SLOTS *
+          ((q * r + rows) * s)
       together q r s rows = grind arith
 
   by_rest : (rest : ℕ) → len % block ≡ rest → chunk_bytes_in layout len ≡ chunk_bytes_of layout len

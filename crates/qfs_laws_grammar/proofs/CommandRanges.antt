@@ -21,8 +21,10 @@ use Rattle.qfs_laws_grammar.proofs.Steps.{gives, gives_any, gives_weaker}
 use Rattle.qfs_laws_grammar.proofs.WordRanges.{IsIn, AreBytes, number_gives, path_gives, bytes_give}
 
 -- of the words of a line nothing needs to be known
-words_then : {A : Type 0} (Q : Command → Type 0) (words : Said A) (next : A → Said Command) → ((found : A) → IfOk (next found) Q) → IfOk (words >>= next) Q
-words_then Q words next behind = gives (λ found. ⊤) Q words next (gives_any words) (λ found known. behind found)
+words_then : {A : Type 0} (Q : Command → Type 0) (words : Said A) (next : A → Said Command)
+    → ((found : A) → IfOk (next found) Q) → IfOk (words >>= next) Q
+words_then Q words next behind = gives (λ found. ⊤) Q words next (gives_any words)
+    (λ found known. behind found)
 
 -- ---- kinds of words
 
@@ -31,15 +33,19 @@ Path names = IsPath names
 
 slot_gives : (word : List ℕ) → IfOk (slot_in word) IsSlot
 unfolding slot_in
-slot_gives word = gives_weaker (IsIn 0 (SLOTS - 1)) IsSlot (number_in 0 (SLOTS - 1) word) (λ slot within. omega (arith, within.1)) (number_gives 0 (SLOTS - 1) word)
+slot_gives word = gives_weaker (IsIn 0 (SLOTS - 1)) IsSlot (number_in 0 (SLOTS - 1) word)
+    (λ slot within. omega (arith, within.1)) (number_gives 0 (SLOTS - 1) word)
 
 index_gives : (word : List ℕ) → IfOk (index_in word) IsIndex
 unfolding index_in
-index_gives word = gives_weaker (IsIn 0 LAST_INDEX) IsIndex (number_in 0 LAST_INDEX word) (λ index within. within.1) (number_gives 0 LAST_INDEX word)
+index_gives word = gives_weaker (IsIn 0 LAST_INDEX) IsIndex (number_in 0 LAST_INDEX word)
+    (λ index within. within.1) (number_gives 0 LAST_INDEX word)
 
 len_gives : (word : List ℕ) → IfOk (len_in word) (λ len. len ≤ MOST_FILE_BYTES)
 unfolding len_in
-len_gives word = gives_weaker (IsIn 0 MOST_FILE_BYTES) (λ len. len ≤ MOST_FILE_BYTES) (number_in 0 MOST_FILE_BYTES word) (λ len within. within.1) (number_gives 0 MOST_FILE_BYTES word)
+len_gives word = gives_weaker (IsIn 0 MOST_FILE_BYTES) (λ len. len ≤ MOST_FILE_BYTES)
+    (number_in 0 MOST_FILE_BYTES word) (λ len within. within.1)
+    (number_gives 0 MOST_FILE_BYTES word)
 
 budget_gives : (word : List ℕ) → IfOk (budget_in word) IsBudget
 unfolding budget_in
@@ -55,34 +61,43 @@ module _ (servers : ℕ) where
   abbrev Is : Command → Type 0
   Is command = IsCommand servers command
 
-  path_commands : (command : PathNames → Command) → ((path : PathNames) → IsPath path → Is (command path)) → (words : Words)
+  path_commands : (command : PathNames → Command)
+      → ((path : PathNames) → IsPath path → Is (command path)) → (words : Words)
       → IfOk (path_command command words) Is
   unfolding path_command
   path_commands command are words =
-      words_then Is (one_word words) _ (λ word. gives Path Is (path_in word) _ (path_gives word) are)
+      words_then Is (one_word words) _
+          (λ word. gives Path Is (path_in word) _ (path_gives word) are)
 
-  bare_commands : (command : Command) → Is command → (words : Words) → IfOk (bare_command command words) Is
+  bare_commands : (command : Command) → Is command → (words : Words)
+      → IfOk (bare_command command words) Is
   unfolding bare_command
   bare_commands command is words = words_then Is (no_word words) _ (λ none. is)
 
-  budget_commands : (command : ℕ → Command) → ((budget : ℕ) → IsBudget budget → Is (command budget)) → (words : Words)
+  budget_commands : (command : ℕ → Command) → ((budget : ℕ) → IsBudget budget → Is (command budget))
+      → (words : Words)
       → IfOk (budget_command command words) Is
   unfolding budget_command
   budget_commands command are words =
-      words_then Is (one_word words) _ (λ word. gives IsBudget Is (budget_in word) _ (budget_gives word) are)
+      words_then Is (one_word words) _
+          (λ word. gives IsBudget Is (budget_in word) _ (budget_gives word) are)
 
-  server_commands : (command : ℕ → Command) → ((server : ℕ) → IsFromOne servers server → Is (command server)) → (words : Words)
+  server_commands : (command : ℕ → Command)
+      → ((server : ℕ) → IsFromOne servers server → Is (command server)) → (words : Words)
       → IfOk (server_command servers command words) Is
   unfolding server_command
   server_commands command are words =
-      words_then Is (one_word words) _ (λ word. gives (IsFromOne servers) Is (server_in servers word) _ (server_gives servers word) are)
+      words_then Is (one_word words) _
+          (λ word. gives (IsFromOne servers) Is (server_in servers word) _
+          (server_gives servers word) are)
 
   rename_commands : (words : Words) → IfOk (rename_command words) Is
   unfolding rename_command
   rename_commands words =
       words_then Is (two_words words) _
       (λ words. gives Path Is (path_in words.0) _ (path_gives words.0)
-      (λ from is_from. gives Path Is (path_in words.1) _ (path_gives words.1) (λ to is_to. (is_from, is_to))))
+      (λ from is_from. gives Path Is (path_in words.1) _ (path_gives words.1)
+          (λ to is_to. (is_from, is_to))))
 
   whole_gets : (word : List ℕ) → IfOk (get_whole word) Is
   unfolding get_whole
@@ -130,11 +145,13 @@ module _ (servers : ℕ) where
   pattern_puts path words =
       words_then Is (two_words words) _
       (λ words. gives Path Is (path_in path) _ (path_gives path)
-      (λ names is. gives (IsIn 0 LAST_U32) Is (number_in 0 LAST_U32 words.0) _ (number_gives 0 LAST_U32 words.0)
+      (λ names is. gives (IsIn 0 LAST_U32) Is (number_in 0 LAST_U32 words.0) _
+          (number_gives 0 LAST_U32 words.0)
       (λ start fits. gives (λ len. len ≤ MOST_FILE_BYTES) Is (len_in words.1) _ (len_gives words.1)
       (λ len few. (is, few, omega (arith, fits.1))))))
 
-  either : (test : Bool) (first second : Said Command) → IfOk first Is → IfOk second Is → IfOk (if test then first else second) Is
+  either : (test : Bool) (first second : Said Command) → IfOk first Is → IfOk second Is
+      → IfOk (if test then first else second) Is
   either true first second of_first of_second = of_first
   either false first second of_first of_second = of_second
 
@@ -153,7 +170,8 @@ module _ (servers : ℕ) where
       words_then Is (three_words words) _
       (λ words. gives Path Is (path_in words.0) _ (path_gives words.0)
       (λ path is. gives IsIndex Is (index_in words.1) _ (index_gives words.1)
-      (λ index low. gives IsSlot Is (slot_in words.2) _ (slot_gives words.2) (λ slot few. (is, low, few)))))
+      (λ index low. gives IsSlot Is (slot_in words.2) _ (slot_gives words.2)
+          (λ slot few. (is, low, few)))))
 
   move_commands : (words : Words) → IfOk (move_command servers words) Is
   unfolding move_command
@@ -162,49 +180,66 @@ module _ (servers : ℕ) where
       (λ words. gives Path Is (path_in words.0) _ (path_gives words.0)
       (λ path is. gives IsIndex Is (index_in words.1) _ (index_gives words.1)
       (λ index low. gives IsSlot Is (slot_in words.2) _ (slot_gives words.2)
-      (λ slot few. gives (IsFromOne servers) Is (server_in servers words.3) _ (server_gives servers words.3)
+      (λ slot few. gives (IsFromOne servers) Is (server_in servers words.3) _
+          (server_gives servers words.3)
       (λ server there. (is, low, few, there))))))
 
   evacuate_commands : (words : Words) → IfOk (evacuate_command servers words) Is
   unfolding evacuate_command
   evacuate_commands words =
       words_then Is (two_words words) _
-      (λ words. gives (IsFromOne servers) Is (server_in servers words.0) _ (server_gives servers words.0)
-      (λ server there. gives IsBudget Is (budget_in words.1) _ (budget_gives words.1) (λ budget few. (there, few))))
+      (λ words. gives (IsFromOne servers) Is (server_in servers words.0) _
+          (server_gives servers words.0)
+      (λ server there. gives IsBudget Is (budget_in words.1) _ (budget_gives words.1)
+          (λ budget few. (there, few))))
 
   hibernate_commands : (words : Words) → IfOk (hibernate_command servers words) Is
   unfolding hibernate_command
   hibernate_commands words =
       words_then Is (two_words words) _
-      (λ words. gives (IsFromOne servers) Is (server_in servers words.0) _ (server_gives servers words.0)
-      (λ server there. gives IsTicks Is (number_in 1 MOST_TICKS words.1) _ (number_gives 1 MOST_TICKS words.1) (λ ticks few. (there, few))))
+      (λ words. gives (IsFromOne servers) Is (server_in servers words.0) _
+          (server_gives servers words.0)
+      (λ server there. gives IsTicks Is (number_in 1 MOST_TICKS words.1) _
+          (number_gives 1 MOST_TICKS words.1) (λ ticks few. (there, few))))
 
   drop_commands : (words : Words) → IfOk (drop_command words) Is
   unfolding drop_command
   drop_commands words =
       words_then Is (one_word words) _
-      (λ word. gives IsActorNumber Is (number_in 1 MOST_ACTORS word) _ (number_gives 1 MOST_ACTORS word) (λ actor there. there))
+      (λ word. gives IsActorNumber Is (number_in 1 MOST_ACTORS word) _
+          (number_gives 1 MOST_ACTORS word) (λ actor there. there))
 
   pub command_gives : (word : CommandWord) (words : Words) → IfOk (command_of servers word words) Is
   unfolding command_of
-  command_gives Word.Mkdir words = path_commands (λ path. Does.File (File.Mkdir path)) (λ path is. is) words
-  command_gives Word.Rmdir words = path_commands (λ path. Does.File (File.Rmdir path)) (λ path is. is) words
-  command_gives Word.Remove words = path_commands (λ path. Does.File (File.Remove path)) (λ path is. is) words
+  command_gives Word.Mkdir words = path_commands (λ path. Does.File (File.Mkdir path))
+      (λ path is. is) words
+  command_gives Word.Rmdir words = path_commands (λ path. Does.File (File.Rmdir path))
+      (λ path is. is) words
+  command_gives Word.Remove words = path_commands (λ path. Does.File (File.Remove path))
+      (λ path is. is) words
   command_gives Word.Rename words = rename_commands words
-  command_gives Word.List words = path_commands (λ path. Does.File (File.List path)) (λ path is. is) words
+  command_gives Word.List words = path_commands (λ path. Does.File (File.List path)) (λ path is. is)
+      words
   command_gives Word.Put words = put_commands words
   command_gives Word.Get words = get_commands words
   command_gives Word.Recover words = recover_commands words
   command_gives Word.Move words = move_commands words
-  command_gives Word.Heal words = budget_commands (λ budget. Does.Heal budget) (λ budget is. is) words
-  command_gives Word.Rebalance words = budget_commands (λ budget. Does.Rebalance budget) (λ budget is. is) words
+  command_gives Word.Heal words = budget_commands (λ budget. Does.Heal budget) (λ budget is. is)
+      words
+  command_gives Word.Rebalance words = budget_commands (λ budget. Does.Rebalance budget)
+      (λ budget is. is) words
   command_gives Word.Evacuate words = evacuate_commands words
-  command_gives Word.Sweep words = budget_commands (λ budget. Does.Sweep budget) (λ budget is. is) words
-  command_gives Word.Stop words = server_commands (λ server. Does.Stop server) (λ server is. is) words
-  command_gives Word.Start words = server_commands (λ server. Does.Start server) (λ server is. is) words
-  command_gives Word.Wipe words = server_commands (λ server. Does.Wipe server) (λ server is. is) words
+  command_gives Word.Sweep words = budget_commands (λ budget. Does.Sweep budget) (λ budget is. is)
+      words
+  command_gives Word.Stop words = server_commands (λ server. Does.Stop server) (λ server is. is)
+      words
+  command_gives Word.Start words = server_commands (λ server. Does.Start server) (λ server is. is)
+      words
+  command_gives Word.Wipe words = server_commands (λ server. Does.Wipe server) (λ server is. is)
+      words
   command_gives Word.Hibernate words = hibernate_commands words
-  command_gives Word.Upgrade words = server_commands (λ server. Does.Upgrade server) (λ server is. is) words
+  command_gives Word.Upgrade words = server_commands (λ server. Does.Upgrade server)
+      (λ server is. is) words
   command_gives Word.Tick words = bare_commands Does.Tick tt words
   command_gives Word.Drop words = drop_commands words
   command_gives Word.Checkpoint words = bare_commands Does.Checkpoint tt words

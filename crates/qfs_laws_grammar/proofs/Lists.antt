@@ -16,18 +16,23 @@ module _ {X : Type 0} where
   each_back P (x ∷ xs) ys each = each_back P xs ys each.1
 
   behind_first : (change : X → X) (first : X) (items : List X) (last : X)
-      → change_last change (first ∷ items ++ last ∷ []) ≡ first ∷ change_last change (items ++ last ∷ [])
+      → change_last change (first ∷ items ++ last ∷ []) ≡ first ∷ change_last change
+          (items ++ last ∷ [])
   behind_first change first [] last = refl
   behind_first change first (item ∷ items) last = refl
 
-  pub changed : (change : X → X) (items : List X) (last : X) → change_last change (items ++ last ∷ []) ≡ items ++ change last ∷ []
+  pub changed : (change : X → X) (items : List X) (last : X)
+      → change_last change (items ++ last ∷ []) ≡ items ++ change last ∷ []
   changed change [] last = refl
-  changed change (item ∷ items) last = behind_first change item items last ∙ ap (λ more. item ∷ more) (changed change items last)
+  changed change (item ∷ items) last = behind_first change item items last
+      ∙ ap (λ more. item ∷ more) (changed change items last)
 
   -- the items of lists, of which one more stands behind the others
-  pub flat_push : (lists : List (List X)) (last : List X) → flat_map (λ xs. xs) (lists ++ last ∷ []) ≡ flat_map (λ xs. xs) lists ++ last
+  pub flat_push : (lists : List (List X)) (last : List X) → flat_map (λ xs. xs) (lists ++ last ∷ [])
+      ≡ flat_map (λ xs. xs) lists ++ last
   flat_push lists last =
-      flat_map-append (λ (xs : List X). xs) lists (last ∷ []) ∙ ap (λ more. flat_map (λ xs. xs) lists ++ more) (append-nil last)
+      flat_map-append (λ (xs : List X). xs) lists (last ∷ [])
+          ∙ ap (λ more. flat_map (λ xs. xs) lists ++ more) (append-nil last)
 
   -- a list that isn't empty has a last item
   pub record Ends (items : List X) : Type 0 where
@@ -36,9 +41,11 @@ module _ {X : Type 0} where
     pub is : items ≡ front ++ last ∷ []
 
   ends_behind : (first : X) (items : List X) → Ends items → Ends (first ∷ items)
-  ends_behind first items ends = record { front = first ∷ ends.front; last = ends.last; is = ap (λ more. first ∷ more) ends.is }
+  ends_behind first items ends = record { front = first ∷ ends.front; last = ends.last; is =
+      ap (λ more. first ∷ more) ends.is }
 
   pub ends : (items : List X) → 1 ≤ length items → Ends items
   ends [] some = absurd (omega arith)
   ends (item ∷ []) some = record { front = []; last = item; is = refl }
-  ends (item ∷ next ∷ items) some = ends_behind item (next ∷ items) (ends (next ∷ items) (omega arith))
+  ends (item ∷ next ∷ items) some = ends_behind item (next ∷ items)
+      (ends (next ∷ items) (omega arith))

@@ -32,7 +32,8 @@ use Rattle.qfs_laws_grammar.proofs.PlainWords.{IsPlain, plain}
 use Rattle.qfs_laws_grammar.proofs.PrintedWords.{plain_number, number_back, plain_path, path_back, plain_hex, bytes_back}
 
 -- the second step, behind a first one that gave a value
-pub on : {A B : Type 0} (read : Said A) (value : A) (next : A → Said B) → read ≡ Ok value → (read >>= next) ≡ next value
+pub on : {A B : Type 0} (read : Said A) (value : A) (next : A → Said B) → read ≡ Ok value
+    → (read >>= next) ≡ next value
 on read value next is = ap (λ (r : Said _). r >>= next) is
 
 -- a first word as it is written, which begins no remark
@@ -65,11 +66,14 @@ index_back index is = number_back 0 LAST_INDEX index (omega (arith, is)) (omega 
 
 slot_back : (slot : ℕ) → IsSlot slot → slot_in (decimal slot) ≡ Ok slot
 unfolding slot_in
-slot_back slot is = number_back 0 (SLOTS - 1) slot (omega (arith, is)) (omega arith) (omega (arith, is))
+slot_back slot is = number_back 0 (SLOTS - 1) slot (omega (arith, is)) (omega arith)
+    (omega (arith, is))
 
-server_back : (servers server : ℕ) → servers < 2 ^ 64 → IsFromOne servers server → server_in servers (decimal server) ≡ Ok server
+server_back : (servers server : ℕ) → servers < 2 ^ 64 → IsFromOne servers server
+    → server_in servers (decimal server) ≡ Ok server
 unfolding server_in
-server_back servers server fits is = number_back 1 servers server (omega (arith, is.1, fits)) is.0 is.1
+server_back servers server fits is = number_back 1 servers server (omega (arith, is.1, fits)) is.0
+    is.1
 
 budget_back : (budget : ℕ) → IsBudget budget → budget_in (decimal budget) ≡ Ok budget
 unfolding budget_in
@@ -81,92 +85,152 @@ len_back len is = number_back 0 MOST_FILE_BYTES len (omega (arith, is)) (omega a
 
 -- ---- kinds of commands
 
-path_says : (command : PathNames → Command) (path : PathNames) → IsPath path → path_command command (path_text path ∷ []) ≡ Ok (command path)
+path_says : (command : PathNames → Command) (path : PathNames) → IsPath path
+    → path_command command (path_text path ∷ []) ≡ Ok (command path)
 unfolding path_command one_word
-path_says command path is = on (path_in (path_text path)) path (λ path. Ok (command path)) (path_back path is)
+path_says command path is = on (path_in (path_text path)) path (λ path. Ok (command path))
+    (path_back path is)
 
-budget_says : (command : ℕ → Command) (budget : ℕ) → IsBudget budget → budget_command command (decimal budget ∷ []) ≡ Ok (command budget)
+budget_says : (command : ℕ → Command) (budget : ℕ) → IsBudget budget
+    → budget_command command (decimal budget ∷ []) ≡ Ok (command budget)
 unfolding budget_command one_word
-budget_says command budget is = on (budget_in (decimal budget)) budget (λ budget. Ok (command budget)) (budget_back budget is)
+budget_says command budget is = on (budget_in (decimal budget)) budget
+    (λ budget. Ok (command budget)) (budget_back budget is)
 
-server_says : (servers : ℕ) (command : ℕ → Command) (server : ℕ) → servers < 2 ^ 64 → IsFromOne servers server
+server_says : (servers : ℕ) (command : ℕ → Command) (server : ℕ) → servers < 2 ^ 64
+    → IsFromOne servers server
     → server_command servers command (decimal server ∷ []) ≡ Ok (command server)
 unfolding server_command one_word
 server_says servers command server fits is =
-    on (server_in servers (decimal server)) server (λ server. Ok (command server)) (server_back servers server fits is)
+    on (server_in servers (decimal server)) server (λ server. Ok (command server))
+        (server_back servers server fits is)
 
-rename_says : (from to : PathNames) → IsPath from → IsPath to → rename_command (path_text from ∷ path_text to ∷ []) ≡ Ok (Does.File (File.Rename from to))
+rename_says : (from to : PathNames) → IsPath from → IsPath to
+    → rename_command (path_text from ∷ path_text to ∷ []) ≡ Ok (Does.File (File.Rename from to))
 unfolding rename_command two_words
 rename_says from to is_from is_to =
-    on (path_in (path_text from)) from (λ from. path_in (path_text to) >>= (λ to. Ok (Does.File (File.Rename from to)))) (path_back from is_from)
-    ∙ on (path_in (path_text to)) to (λ to. Ok (Does.File (File.Rename from to))) (path_back to is_to)
+    on (path_in (path_text from)) from
+        (λ from. path_in (path_text to) >>= (λ to. Ok (Does.File (File.Rename from to))))
+        (path_back from is_from)
+    ∙ on (path_in (path_text to)) to (λ to. Ok (Does.File (File.Rename from to)))
+        (path_back to is_to)
 
-whole_says : (path : PathNames) → IsPath path → get_command (path_text path ∷ []) ≡ Ok (Does.File (File.Get path None))
+whole_says : (path : PathNames) → IsPath path
+    → get_command (path_text path ∷ []) ≡ Ok (Does.File (File.Get path None))
 unfolding get_command get_whole
-whole_says path is = on (path_in (path_text path)) path (λ path. Ok (Does.File (File.Get path None))) (path_back path is)
+whole_says path is = on (path_in (path_text path)) path
+    (λ path. Ok (Does.File (File.Get path None))) (path_back path is)
 
 range_says : (path : PathNames) (range : Range) → IsPath path → IsRange range
-    → get_command (path_text path ∷ decimal range.from ∷ decimal range.count ∷ []) ≡ Ok (Does.File (File.Get path (Some range)))
+    → get_command (path_text path ∷ decimal range.from ∷ decimal range.count ∷ [])
+        ≡ Ok (Does.File (File.Get path (Some range)))
 unfolding get_command get_range
 range_says path range is within =
-    let last = λ (path : PathNames) (from count : ℕ). Ok (Does.File (File.Get path (Some (record { from = from; count = count })))) in
-    on (path_in (path_text path)) path (λ path. len_in (decimal range.from) >>= (λ from. len_in (decimal range.count) >>= (λ count. last path from count))) (path_back path is)
-    ∙ on (len_in (decimal range.from)) range.from (λ from. len_in (decimal range.count) >>= (λ count. last path from count)) (len_back range.from within.0)
-    ∙ on (len_in (decimal range.count)) range.count (λ count. last path range.from count) (len_back range.count within.1)
+    let last = λ (path : PathNames) (from count : ℕ). Ok
+        (Does.File (File.Get path (Some (record { from = from; count = count })))) in
+    on (path_in (path_text path)) path
+        (λ path. len_in (decimal range.from) >>=
+        (λ from. len_in (decimal range.count) >>= (λ count. last path from count)))
+        (path_back path is)
+    ∙ on (len_in (decimal range.from)) range.from
+        (λ from. len_in (decimal range.count) >>= (λ count. last path from count))
+        (len_back range.from within.0)
+    ∙ on (len_in (decimal range.count)) range.count (λ count. last path range.from count)
+        (len_back range.count within.1)
 
 put_says : (path : PathNames) (recipe : Form) → IsPath path → IsRecipe recipe → HasBytes recipe
     → put_command (path_text path ∷ recipe_words recipe) ≡ Ok (Does.File (File.Put path recipe))
 unfolding put_command recipe_words hex_put fill_put pattern_put one_word two_words
 put_says path (Told.Hex bytes) is few are =
-    on (path_in (path_text path)) path (λ path. bytes_in 1 32 (encode_lower bytes) >>= (λ bytes. Ok (Does.File (File.Put path (Told.Hex bytes))))) (path_back path is)
-    ∙ on (bytes_in 1 32 (encode_lower bytes)) bytes (λ bytes. Ok (Does.File (File.Put path (Told.Hex bytes)))) (bytes_back 1 32 bytes are few.0 few.1)
+    on (path_in (path_text path)) path (λ path. bytes_in 1 32 (encode_lower bytes) >>=
+        (λ bytes. Ok (Does.File (File.Put path (Told.Hex bytes))))) (path_back path is)
+    ∙ on (bytes_in 1 32 (encode_lower bytes)) bytes
+        (λ bytes. Ok (Does.File (File.Put path (Told.Hex bytes))))
+        (bytes_back 1 32 bytes are few.0 few.1)
 put_says path (Told.Fill byte len) is few are =
-    let last = λ (path : PathNames) (bytes : List ℕ) (len : ℕ). Ok (Does.File (File.Put path (Told.Fill (slice_index bytes 0) len))) in
-    on (path_in (path_text path)) path (λ path. bytes_in 1 1 (encode_lower (byte ∷ [])) >>= (λ bytes. len_in (decimal len) >>= (λ len. last path bytes len))) (path_back path is)
-    ∙ on (bytes_in 1 1 (encode_lower (byte ∷ []))) (byte ∷ []) (λ bytes. len_in (decimal len) >>= (λ len. last path bytes len)) (bytes_back 1 1 (byte ∷ []) (are, tt) (omega arith) (omega arith))
+    let last = λ (path : PathNames) (bytes : List ℕ) (len : ℕ). Ok
+        (Does.File (File.Put path (Told.Fill (slice_index bytes 0) len))) in
+    on (path_in (path_text path)) path (λ path. bytes_in 1 1 (encode_lower (byte ∷ [])) >>=
+        (λ bytes. len_in (decimal len) >>= (λ len. last path bytes len))) (path_back path is)
+    ∙ on (bytes_in 1 1 (encode_lower (byte ∷ []))) (byte ∷ [])
+        (λ bytes. len_in (decimal len) >>= (λ len. last path bytes len))
+        (bytes_back 1 1 (byte ∷ []) (are, tt) (omega arith) (omega arith))
     ∙ on (len_in (decimal len)) len (λ len. last path (byte ∷ []) len) (len_back len few)
 put_says path (Told.Pattern start len) is few are =
-    let last = λ (path : PathNames) (start len : ℕ). Ok (Does.File (File.Put path (Told.Pattern start len))) in
-    on (path_in (path_text path)) path (λ path. number_in 0 LAST_U32 (decimal start) >>= (λ start. len_in (decimal len) >>= (λ len. last path start len))) (path_back path is)
-    ∙ on (number_in 0 LAST_U32 (decimal start)) start (λ start. len_in (decimal len) >>= (λ len. last path start len)) (number_back 0 LAST_U32 start (omega (arith, are)) (omega arith) (omega (arith, are)))
+    let last = λ (path : PathNames) (start len : ℕ). Ok
+        (Does.File (File.Put path (Told.Pattern start len))) in
+    on (path_in (path_text path)) path (λ path. number_in 0 LAST_U32 (decimal start) >>=
+        (λ start. len_in (decimal len) >>= (λ len. last path start len))) (path_back path is)
+    ∙ on (number_in 0 LAST_U32 (decimal start)) start
+        (λ start. len_in (decimal len) >>= (λ len. last path start len))
+        (number_back 0 LAST_U32 start (omega (arith, are)) (omega arith) (omega (arith, are)))
     ∙ on (len_in (decimal len)) len (λ len. last path start len) (len_back len few)
 
 recover_says : (path : PathNames) (index slot : ℕ) → IsPath path → IsIndex index → IsSlot slot
-    → recover_command (path_text path ∷ decimal index ∷ decimal slot ∷ []) ≡ Ok (Does.Recover path index slot)
+    → recover_command (path_text path ∷ decimal index ∷ decimal slot ∷ [])
+        ≡ Ok (Does.Recover path index slot)
 unfolding recover_command three_words
 recover_says path index slot is low few =
-    on (path_in (path_text path)) path (λ path. index_in (decimal index) >>= (λ index. slot_in (decimal slot) >>= (λ slot. Ok (Does.Recover path index slot)))) (path_back path is)
-    ∙ on (index_in (decimal index)) index (λ index. slot_in (decimal slot) >>= (λ slot. Ok (Does.Recover path index slot))) (index_back index low)
-    ∙ on (slot_in (decimal slot)) slot (λ slot. Ok (Does.Recover path index slot)) (slot_back slot few)
+    on (path_in (path_text path)) path
+        (λ path. index_in (decimal index) >>=
+        (λ index. slot_in (decimal slot) >>= (λ slot. Ok (Does.Recover path index slot))))
+        (path_back path is)
+    ∙ on (index_in (decimal index)) index
+        (λ index. slot_in (decimal slot) >>= (λ slot. Ok (Does.Recover path index slot)))
+        (index_back index low)
+    ∙ on (slot_in (decimal slot)) slot (λ slot. Ok (Does.Recover path index slot))
+        (slot_back slot few)
 
-move_says : (servers : ℕ) (path : PathNames) (index slot server : ℕ) → servers < 2 ^ 64 → IsPath path → IsIndex index → IsSlot slot → IsFromOne servers server
-    → move_command servers (path_text path ∷ decimal index ∷ decimal slot ∷ decimal server ∷ []) ≡ Ok (Does.Move path index slot server)
+move_says : (servers : ℕ) (path : PathNames) (index slot server : ℕ) → servers < 2 ^ 64
+    → IsPath path → IsIndex index → IsSlot slot → IsFromOne servers server
+    → move_command servers (path_text path ∷ decimal index ∷ decimal slot ∷ decimal server ∷ [])
+        ≡ Ok (Does.Move path index slot server)
 unfolding move_command four_words
 move_says servers path index slot server fits is low few there =
-    let last = λ (path : PathNames) (index slot server : ℕ). Ok (Does.Move path index slot server) in
-    on (path_in (path_text path)) path (λ path. index_in (decimal index) >>= (λ index. slot_in (decimal slot) >>= (λ slot. server_in servers (decimal server) >>= (λ server. last path index slot server)))) (path_back path is)
-    ∙ on (index_in (decimal index)) index (λ index. slot_in (decimal slot) >>= (λ slot. server_in servers (decimal server) >>= (λ server. last path index slot server))) (index_back index low)
-    ∙ on (slot_in (decimal slot)) slot (λ slot. server_in servers (decimal server) >>= (λ server. last path index slot server)) (slot_back slot few)
-    ∙ on (server_in servers (decimal server)) server (λ server. last path index slot server) (server_back servers server fits there)
+    let last = λ (path : PathNames) (index slot server : ℕ). Ok (Does.Move path index slot server)
+        in
+    on (path_in (path_text path)) path
+        (λ path. index_in (decimal index) >>=
+        (λ index. slot_in (decimal slot) >>= (λ slot. server_in servers (decimal server) >>=
+        (λ server. last path index slot server)))) (path_back path is)
+    ∙ on (index_in (decimal index)) index
+        (λ index. slot_in (decimal slot) >>= (λ slot. server_in servers (decimal server) >>=
+        (λ server. last path index slot server))) (index_back index low)
+    ∙ on (slot_in (decimal slot)) slot (λ slot. server_in servers (decimal server) >>=
+        (λ server. last path index slot server)) (slot_back slot few)
+    ∙ on (server_in servers (decimal server)) server (λ server. last path index slot server)
+        (server_back servers server fits there)
 
-evacuate_says : (servers server budget : ℕ) → servers < 2 ^ 64 → IsFromOne servers server → IsBudget budget
-    → evacuate_command servers (decimal server ∷ decimal budget ∷ []) ≡ Ok (Does.Evacuate server budget)
+evacuate_says : (servers server budget : ℕ) → servers < 2 ^ 64 → IsFromOne servers server
+    → IsBudget budget
+    → evacuate_command servers (decimal server ∷ decimal budget ∷ [])
+        ≡ Ok (Does.Evacuate server budget)
 unfolding evacuate_command two_words
 evacuate_says servers server budget fits there few =
-    on (server_in servers (decimal server)) server (λ server. budget_in (decimal budget) >>= (λ budget. Ok (Does.Evacuate server budget))) (server_back servers server fits there)
-    ∙ on (budget_in (decimal budget)) budget (λ budget. Ok (Does.Evacuate server budget)) (budget_back budget few)
+    on (server_in servers (decimal server)) server
+        (λ server. budget_in (decimal budget) >>= (λ budget. Ok (Does.Evacuate server budget)))
+        (server_back servers server fits there)
+    ∙ on (budget_in (decimal budget)) budget (λ budget. Ok (Does.Evacuate server budget))
+        (budget_back budget few)
 
-hibernate_says : (servers server ticks : ℕ) → servers < 2 ^ 64 → IsFromOne servers server → IsTicks ticks
-    → hibernate_command servers (decimal server ∷ decimal ticks ∷ []) ≡ Ok (Does.Hibernate server ticks)
+hibernate_says : (servers server ticks : ℕ) → servers < 2 ^ 64 → IsFromOne servers server
+    → IsTicks ticks
+    → hibernate_command servers (decimal server ∷ decimal ticks ∷ [])
+        ≡ Ok (Does.Hibernate server ticks)
 unfolding hibernate_command two_words
 hibernate_says servers server ticks fits there few =
-    on (server_in servers (decimal server)) server (λ server. number_in 1 MOST_TICKS (decimal ticks) >>= (λ ticks. Ok (Does.Hibernate server ticks))) (server_back servers server fits there)
-    ∙ on (number_in 1 MOST_TICKS (decimal ticks)) ticks (λ ticks. Ok (Does.Hibernate server ticks)) (number_back 1 MOST_TICKS ticks (omega (arith, few.1)) few.0 few.1)
+    on (server_in servers (decimal server)) server
+        (λ server. number_in 1 MOST_TICKS (decimal ticks) >>=
+        (λ ticks. Ok (Does.Hibernate server ticks))) (server_back servers server fits there)
+    ∙ on (number_in 1 MOST_TICKS (decimal ticks)) ticks (λ ticks. Ok (Does.Hibernate server ticks))
+        (number_back 1 MOST_TICKS ticks (omega (arith, few.1)) few.0 few.1)
 
-drop_says : (actor : ℕ) → IsActorNumber actor → drop_command (decimal actor ∷ []) ≡ Ok (Does.Drop actor)
+drop_says : (actor : ℕ) → IsActorNumber actor
+    → drop_command (decimal actor ∷ []) ≡ Ok (Does.Drop actor)
 unfolding drop_command one_word
 drop_says actor is =
-    on (number_in 1 MOST_ACTORS (decimal actor)) actor (λ actor. Ok (Does.Drop actor)) (number_back 1 MOST_ACTORS actor (omega (arith, is.1)) is.0 is.1)
+    on (number_in 1 MOST_ACTORS (decimal actor)) actor (λ actor. Ok (Does.Drop actor))
+        (number_back 1 MOST_ACTORS actor (omega (arith, is.1)) is.0 is.1)
 
 bare_says : (command : Command) → bare_command command [] ≡ Ok command
 unfolding bare_command no_word
@@ -174,27 +238,34 @@ bare_says command = refl
 
 -- ---- the words behind a put's and a get's path
 
-plain_recipe : (recipe : Form) → IsRecipe recipe → HasBytes recipe → Each IsPlain (recipe_words recipe)
+plain_recipe : (recipe : Form) → IsRecipe recipe → HasBytes recipe
+    → Each IsPlain (recipe_words recipe)
 unfolding recipe_words
 plain_recipe (Told.Hex bytes) few are = (plain (codes "hex") refl, (plain_hex bytes few.0 are, tt))
 plain_recipe (Told.Fill byte len) few are =
-    (plain (codes "fill") refl, (plain_hex (byte ∷ []) (omega arith) (are, tt), (plain_to MOST_FILE_BYTES len few (omega arith), tt)))
+    (plain (codes "fill") refl, (plain_hex (byte ∷ []) (omega arith) (are, tt),
+        (plain_to MOST_FILE_BYTES len few (omega arith), tt)))
 plain_recipe (Told.Pattern start len) few are =
-    (plain (codes "pattern") refl, (plain_number start (omega (arith, are)), (plain_to MOST_FILE_BYTES len few (omega arith), tt)))
+    (plain (codes "pattern") refl,
+        (plain_number start (omega (arith, are)),
+        (plain_to MOST_FILE_BYTES len few (omega arith), tt)))
 
 -- ---- each command
 
-spelled : (word : List ℕ) (first : FirstWord) → IsPlain word → first_word word ≡ Some first → begins_remark word ≡ false → Spells word first
+spelled : (word : List ℕ) (first : FirstWord) → IsPlain word → first_word word ≡ Some first
+    → begins_remark word ≡ false → Spells word first
 spelled word first is found no_remark = record { plain = is; first = found; no_remark = no_remark }
 
-file_told : (servers : ℕ) (command : FileCommand) → IsFileCommand command → Tells servers (Does.File command) (file_command_line command)
+file_told : (servers : ℕ) (command : FileCommand) → IsFileCommand command
+    → Tells servers (Does.File command) (file_command_line command)
 unfolding file_command_line range_words command_of first_word begins_remark
 file_told servers (File.Mkdir path) is = record {
   word = codes "mkdir";
   words = path_text path ∷ [];
   kind = Word.Mkdir;
   is = refl;
-  spelled = spelled (codes "mkdir") (First.Command Word.Mkdir) (plain (codes "mkdir") refl) refl refl;
+  spelled = spelled (codes "mkdir") (First.Command Word.Mkdir) (plain (codes "mkdir") refl) refl
+      refl;
   plain = (plain_path path is, tt);
   says = path_says (λ path. Does.File (File.Mkdir path)) path is;
 }
@@ -203,7 +274,8 @@ file_told servers (File.Rmdir path) is = record {
   words = path_text path ∷ [];
   kind = Word.Rmdir;
   is = refl;
-  spelled = spelled (codes "rmdir") (First.Command Word.Rmdir) (plain (codes "rmdir") refl) refl refl;
+  spelled = spelled (codes "rmdir") (First.Command Word.Rmdir) (plain (codes "rmdir") refl) refl
+      refl;
   plain = (plain_path path is, tt);
   says = path_says (λ path. Does.File (File.Rmdir path)) path is;
 }
@@ -212,7 +284,8 @@ file_told servers (File.Remove path) is = record {
   words = path_text path ∷ [];
   kind = Word.Remove;
   is = refl;
-  spelled = spelled (codes "remove") (First.Command Word.Remove) (plain (codes "remove") refl) refl refl;
+  spelled = spelled (codes "remove") (First.Command Word.Remove) (plain (codes "remove") refl) refl
+      refl;
   plain = (plain_path path is, tt);
   says = path_says (λ path. Does.File (File.Remove path)) path is;
 }
@@ -221,7 +294,8 @@ file_told servers (File.Rename from to) is = record {
   words = path_text from ∷ path_text to ∷ [];
   kind = Word.Rename;
   is = refl;
-  spelled = spelled (codes "rename") (First.Command Word.Rename) (plain (codes "rename") refl) refl refl;
+  spelled = spelled (codes "rename") (First.Command Word.Rename) (plain (codes "rename") refl) refl
+      refl;
   plain = (plain_path from is.0, (plain_path to is.1, tt));
   says = rename_says from to is.0 is.1;
 }
@@ -258,7 +332,8 @@ file_told servers (File.Get path (Some range)) is = record {
   kind = Word.Get;
   is = refl;
   spelled = spelled (codes "get") (First.Command Word.Get) (plain (codes "get") refl) refl refl;
-  plain = (plain_path path is.0, (plain_to MOST_FILE_BYTES range.from is.1.0 (omega arith), (plain_to MOST_FILE_BYTES range.count is.1.1 (omega arith), tt)));
+  plain = (plain_path path is.0, (plain_to MOST_FILE_BYTES range.from is.1.0 (omega arith),
+      (plain_to MOST_FILE_BYTES range.count is.1.1 (omega arith), tt)));
   says = range_says path range is.0 is.1;
 }
 
@@ -273,7 +348,8 @@ module _ (servers : ℕ) (fits : servers < 2 ^ 64) where
   plain_slot : (slot : ℕ) → IsSlot slot → IsPlain (decimal slot)
   plain_slot slot is = plain_number slot (omega (arith, is))
 
-  pub command_told : (command : Command) → IsCommand servers command → Tells servers command (command_line command)
+  pub command_told : (command : Command) → IsCommand servers command
+      → Tells servers command (command_line command)
   unfolding command_line command_of first_word begins_remark
   command_told (Does.File command) is = file_told servers command is
   command_told (Does.Recover path index slot) is = record {
@@ -281,8 +357,10 @@ module _ (servers : ℕ) (fits : servers < 2 ^ 64) where
     words = path_text path ∷ decimal index ∷ decimal slot ∷ [];
     kind = Word.Recover;
     is = refl;
-    spelled = spelled (codes "recover") (First.Command Word.Recover) (plain (codes "recover") refl) refl refl;
-    plain = (plain_path path is.0, (plain_to LAST_INDEX index is.1 (omega arith), (plain_slot slot is.2, tt)));
+    spelled = spelled (codes "recover") (First.Command Word.Recover) (plain (codes "recover") refl)
+        refl refl;
+    plain = (plain_path path is.0,
+        (plain_to LAST_INDEX index is.1 (omega arith), (plain_slot slot is.2, tt)));
     says = recover_says path index slot is.0 is.1 is.2;
   }
   command_told (Does.Move path index slot server) is = record {
@@ -290,8 +368,11 @@ module _ (servers : ℕ) (fits : servers < 2 ^ 64) where
     words = path_text path ∷ decimal index ∷ decimal slot ∷ decimal server ∷ [];
     kind = Word.Move;
     is = refl;
-    spelled = spelled (codes "move") (First.Command Word.Move) (plain (codes "move") refl) refl refl;
-    plain = (plain_path path is.0, (plain_to LAST_INDEX index is.1 (omega arith), (plain_slot slot is.2, (plain_server server is.3, tt))));
+    spelled = spelled (codes "move") (First.Command Word.Move) (plain (codes "move") refl) refl
+        refl;
+    plain = (plain_path path is.0,
+        (plain_to LAST_INDEX index is.1 (omega arith),
+        (plain_slot slot is.2, (plain_server server is.3, tt))));
     says = move_says servers path index slot server fits is.0 is.1 is.2 is.3;
   }
   command_told (Does.Heal budget) is = record {
@@ -299,7 +380,8 @@ module _ (servers : ℕ) (fits : servers < 2 ^ 64) where
     words = decimal budget ∷ [];
     kind = Word.Heal;
     is = refl;
-    spelled = spelled (codes "heal") (First.Command Word.Heal) (plain (codes "heal") refl) refl refl;
+    spelled = spelled (codes "heal") (First.Command Word.Heal) (plain (codes "heal") refl) refl
+        refl;
     plain = (plain_budget budget is, tt);
     says = budget_says (λ budget. Does.Heal budget) budget is;
   }
@@ -308,7 +390,8 @@ module _ (servers : ℕ) (fits : servers < 2 ^ 64) where
     words = decimal budget ∷ [];
     kind = Word.Rebalance;
     is = refl;
-    spelled = spelled (codes "rebalance") (First.Command Word.Rebalance) (plain (codes "rebalance") refl) refl refl;
+    spelled = spelled (codes "rebalance") (First.Command Word.Rebalance)
+        (plain (codes "rebalance") refl) refl refl;
     plain = (plain_budget budget is, tt);
     says = budget_says (λ budget. Does.Rebalance budget) budget is;
   }
@@ -317,7 +400,8 @@ module _ (servers : ℕ) (fits : servers < 2 ^ 64) where
     words = decimal server ∷ decimal budget ∷ [];
     kind = Word.Evacuate;
     is = refl;
-    spelled = spelled (codes "evacuate") (First.Command Word.Evacuate) (plain (codes "evacuate") refl) refl refl;
+    spelled = spelled (codes "evacuate") (First.Command Word.Evacuate)
+        (plain (codes "evacuate") refl) refl refl;
     plain = (plain_server server is.0, (plain_budget budget is.1, tt));
     says = evacuate_says servers server budget fits is.0 is.1;
   }
@@ -326,7 +410,8 @@ module _ (servers : ℕ) (fits : servers < 2 ^ 64) where
     words = decimal budget ∷ [];
     kind = Word.Sweep;
     is = refl;
-    spelled = spelled (codes "sweep") (First.Command Word.Sweep) (plain (codes "sweep") refl) refl refl;
+    spelled = spelled (codes "sweep") (First.Command Word.Sweep) (plain (codes "sweep") refl) refl
+        refl;
     plain = (plain_budget budget is, tt);
     says = budget_says (λ budget. Does.Sweep budget) budget is;
   }
@@ -335,7 +420,8 @@ module _ (servers : ℕ) (fits : servers < 2 ^ 64) where
     words = decimal server ∷ [];
     kind = Word.Stop;
     is = refl;
-    spelled = spelled (codes "stop") (First.Command Word.Stop) (plain (codes "stop") refl) refl refl;
+    spelled = spelled (codes "stop") (First.Command Word.Stop) (plain (codes "stop") refl) refl
+        refl;
     plain = (plain_server server is, tt);
     says = server_says servers (λ server. Does.Stop server) server fits is;
   }
@@ -344,7 +430,8 @@ module _ (servers : ℕ) (fits : servers < 2 ^ 64) where
     words = decimal server ∷ [];
     kind = Word.Start;
     is = refl;
-    spelled = spelled (codes "start") (First.Command Word.Start) (plain (codes "start") refl) refl refl;
+    spelled = spelled (codes "start") (First.Command Word.Start) (plain (codes "start") refl) refl
+        refl;
     plain = (plain_server server is, tt);
     says = server_says servers (λ server. Does.Start server) server fits is;
   }
@@ -353,7 +440,8 @@ module _ (servers : ℕ) (fits : servers < 2 ^ 64) where
     words = decimal server ∷ [];
     kind = Word.Wipe;
     is = refl;
-    spelled = spelled (codes "wipe") (First.Command Word.Wipe) (plain (codes "wipe") refl) refl refl;
+    spelled = spelled (codes "wipe") (First.Command Word.Wipe) (plain (codes "wipe") refl) refl
+        refl;
     plain = (plain_server server is, tt);
     says = server_says servers (λ server. Does.Wipe server) server fits is;
   }
@@ -362,7 +450,8 @@ module _ (servers : ℕ) (fits : servers < 2 ^ 64) where
     words = decimal server ∷ decimal ticks ∷ [];
     kind = Word.Hibernate;
     is = refl;
-    spelled = spelled (codes "hibernate") (First.Command Word.Hibernate) (plain (codes "hibernate") refl) refl refl;
+    spelled = spelled (codes "hibernate") (First.Command Word.Hibernate)
+        (plain (codes "hibernate") refl) refl refl;
     plain = (plain_server server is.0, (plain_to MOST_TICKS ticks is.1.1 (omega arith), tt));
     says = hibernate_says servers server ticks fits is.0 is.1;
   }
@@ -371,7 +460,8 @@ module _ (servers : ℕ) (fits : servers < 2 ^ 64) where
     words = decimal server ∷ [];
     kind = Word.Upgrade;
     is = refl;
-    spelled = spelled (codes "upgrade") (First.Command Word.Upgrade) (plain (codes "upgrade") refl) refl refl;
+    spelled = spelled (codes "upgrade") (First.Command Word.Upgrade) (plain (codes "upgrade") refl)
+        refl refl;
     plain = (plain_server server is, tt);
     says = server_says servers (λ server. Does.Upgrade server) server fits is;
   }
@@ -380,7 +470,8 @@ module _ (servers : ℕ) (fits : servers < 2 ^ 64) where
     words = [];
     kind = Word.Tick;
     is = refl;
-    spelled = spelled (codes "tick") (First.Command Word.Tick) (plain (codes "tick") refl) refl refl;
+    spelled = spelled (codes "tick") (First.Command Word.Tick) (plain (codes "tick") refl) refl
+        refl;
     plain = tt;
     says = bare_says Does.Tick;
   }
@@ -389,7 +480,8 @@ module _ (servers : ℕ) (fits : servers < 2 ^ 64) where
     words = decimal actor ∷ [];
     kind = Word.Drop;
     is = refl;
-    spelled = spelled (codes "drop") (First.Command Word.Drop) (plain (codes "drop") refl) refl refl;
+    spelled = spelled (codes "drop") (First.Command Word.Drop) (plain (codes "drop") refl) refl
+        refl;
     plain = (plain_to MOST_ACTORS actor is.1 (omega arith), tt);
     says = drop_says actor is;
   }
@@ -398,7 +490,8 @@ module _ (servers : ℕ) (fits : servers < 2 ^ 64) where
     words = [];
     kind = Word.Checkpoint;
     is = refl;
-    spelled = spelled (codes "checkpoint") (First.Command Word.Checkpoint) (plain (codes "checkpoint") refl) refl refl;
+    spelled = spelled (codes "checkpoint") (First.Command Word.Checkpoint)
+        (plain (codes "checkpoint") refl) refl refl;
     plain = tt;
     says = bare_says Does.Checkpoint;
   }
@@ -407,7 +500,8 @@ module _ (servers : ℕ) (fits : servers < 2 ^ 64) where
     words = [];
     kind = Word.Restart;
     is = refl;
-    spelled = spelled (codes "restart") (First.Command Word.Restart) (plain (codes "restart") refl) refl refl;
+    spelled = spelled (codes "restart") (First.Command Word.Restart) (plain (codes "restart") refl)
+        refl refl;
     plain = tt;
     says = bare_says Does.Restart;
   }

@@ -34,7 +34,8 @@ use Rattle.qfs_laws_grammar.proofs.WordRanges.{OfActor}
 abbrev behind : Outcome → ℕ → List ℕ
 behind outcome count = outcome_mark outcome ++ 120 ∷ decimal count
 
-word_is : (step : Step) (count : ℕ) → run_word step count ≡ decimal step.actor ++ behind step.outcome count
+word_is : (step : Step) (count : ℕ)
+    → run_word step count ≡ decimal step.actor ++ behind step.outcome count
 word_is step count =
     append_assoc (decimal step.actor ++ outcome_mark step.outcome) (codes "x") (decimal count)
     ∙ append_assoc (decimal step.actor) (outcome_mark step.outcome) (120 ∷ decimal count)
@@ -47,24 +48,29 @@ record Apart (front rest : List ℕ) : Type 0 where
 no_digit : (rest : List ℕ) → take_while is_digit rest ≡ [] → Apart [] rest
 no_digit rest none = record { digits = none; rest_is = refl }
 
-digit_first : (byte : ℕ) (front rest : List ℕ) → is_digit byte ≡ true → Apart front rest → Apart (byte ∷ front) rest
+digit_first : (byte : ℕ) (front rest : List ℕ) → is_digit byte ≡ true → Apart front rest
+    → Apart (byte ∷ front) rest
 digit_first byte front rest is apart = record {
   digits = first (is_digit byte) is ∙ ap (λ more. byte ∷ more) apart.digits;
   rest_is = apart.rest_is;
 }
   where
     first : (test : Bool) → test ≡ true
-        → take (cond test (1 + prefix_len is_digit (front ++ rest)) 0) (byte ∷ front ++ rest) ≡ byte ∷ take_while is_digit (front ++ rest)
-    first true passes = ap (λ n. take n (byte ∷ front ++ rest)) (next (prefix_len is_digit (front ++ rest)))
+        → take (cond test (1 + prefix_len is_digit (front ++ rest)) 0) (byte ∷ front ++ rest)
+            ≡ byte ∷ take_while is_digit (front ++ rest)
+    first true passes = ap (λ n. take n (byte ∷ front ++ rest))
+        (next (prefix_len is_digit (front ++ rest)))
       where
         next : (n : ℕ) → 1 + n ≡ suc n
         next n = omega arith
     first false passes = cc
 
-digits_apart : (front rest : List ℕ) → Each IsDigit front → take_while is_digit rest ≡ [] → Apart front rest
+digits_apart : (front rest : List ℕ) → Each IsDigit front → take_while is_digit rest ≡ []
+    → Apart front rest
 digits_apart [] rest each none = no_digit rest none
 digits_apart (byte ∷ front) rest each none =
-    digit_first byte front rest (and_from _ _ (le-leb _ _ each.0.0) (le-leb _ _ each.0.1)) (digits_apart front rest each.1 none)
+    digit_first byte front rest (and_from _ _ (le-leb _ _ each.0.0) (le-leb _ _ each.0.1))
+        (digits_apart front rest each.1 none)
 
 mark_first : (outcome : Outcome) (count : ℕ) → take_while is_digit (behind outcome count) ≡ []
 unfolding outcome_mark
@@ -75,7 +81,9 @@ mark_first Ended.NoMemory count = refl
 no_times : (count : ℕ) → count < 2 ^ 64 → All (λ byte. is_times byte ≡ false) (decimal count)
 no_times count small =
     each_all (λ byte. is_times byte ≡ false) (decimal count)
-    (each_weaker IsDigit (λ byte. is_times byte ≡ false) (λ byte digit. ne_eqb byte 120 (λ same. omega (arith, same, digit.1))) (decimal count) (digits_of count small))
+    (each_weaker IsDigit (λ byte. is_times byte ≡ false)
+        (λ byte digit. ne_eqb byte 120 (λ same. omega (arith, same, digit.1))) (decimal count)
+        (digits_of count small))
 
 no_times_in_mark : (outcome : Outcome) → All (λ byte. is_times byte ≡ false) (outcome_mark outcome)
 unfolding outcome_mark
@@ -83,10 +91,13 @@ no_times_in_mark Ended.Done = each_all (λ byte. is_times byte ≡ false) [] tt
 no_times_in_mark Ended.Failed = each_all (λ byte. is_times byte ≡ false) (codes "f") (refl, tt)
 no_times_in_mark Ended.NoMemory = each_all (λ byte. is_times byte ≡ false) (codes "m") (refl, tt)
 
-parts_are : (outcome : Outcome) (count : ℕ) → count < 2 ^ 64 → slice_split is_times (behind outcome count) ≡ outcome_mark outcome ∷ decimal count ∷ []
+parts_are : (outcome : Outcome) (count : ℕ) → count < 2 ^ 64
+    → slice_split is_times (behind outcome count) ≡ outcome_mark outcome ∷ decimal count ∷ []
 parts_are outcome count small =
-    slice_split_at is_times (outcome_mark outcome) 120 (decimal count) (no_times_in_mark outcome) refl
-    ∙ ap (λ more. outcome_mark outcome ∷ more) (slice_split_none is_times (decimal count) (no_times count small))
+    slice_split_at is_times (outcome_mark outcome) 120 (decimal count) (no_times_in_mark outcome)
+        refl
+    ∙ ap (λ more. outcome_mark outcome ∷ more)
+        (slice_split_none is_times (decimal count) (no_times count small))
 
 mark_back : (outcome : Outcome) → outcome_of_mark (outcome_mark outcome) ≡ Some outcome
 unfolding outcome_of_mark outcome_mark
@@ -101,29 +112,40 @@ pub record Fits (step : Step) (count : ℕ) : Type 0 where
   pub few : count ≤ LONGEST_RUN
 
 abbrev made : ℕ → Outcome → ℕ → StepRun
-made actor outcome count = record { step = record { actor = actor; outcome = outcome }; count = count }
+made actor outcome count = record { step = record { actor = actor; outcome = outcome }; count =
+    count }
 
 parts_say : (step : Step) (count : ℕ) → Fits step count
-    → run_of (decimal step.actor) (outcome_mark step.outcome ∷ decimal count ∷ []) ≡ Ok (record { step = step; count = count })
+    → run_of (decimal step.actor) (outcome_mark step.outcome ∷ decimal count ∷ [])
+        ≡ Ok (record { step = step; count = count })
 unfolding run_of
 parts_say step count fits =
     let said = λ (actor : ℕ). ok_or (outcome_of_mark (outcome_mark step.outcome)) Cause.Number
-    >>= (λ outcome. number_in 1 LONGEST_RUN (decimal count) >>= (λ count. Ok (made actor outcome count))) in
-    on (number_in 1 MOST_ACTORS (decimal step.actor)) step.actor said (number_back 1 MOST_ACTORS step.actor (omega (arith, fits.actor.1)) fits.actor.0 fits.actor.1)
+    >>= (λ outcome. number_in 1 LONGEST_RUN (decimal count) >>=
+        (λ count. Ok (made actor outcome count))) in
+    on (number_in 1 MOST_ACTORS (decimal step.actor)) step.actor said
+        (number_back 1 MOST_ACTORS step.actor (omega (arith, fits.actor.1)) fits.actor.0
+        fits.actor.1)
     ∙ on (ok_or (outcome_of_mark (outcome_mark step.outcome)) Cause.Number) step.outcome
-    (λ outcome. number_in 1 LONGEST_RUN (decimal count) >>= (λ count. Ok (made step.actor outcome count)))
+    (λ outcome. number_in 1 LONGEST_RUN (decimal count) >>=
+        (λ count. Ok (made step.actor outcome count)))
     (ap (λ (found : Option Outcome). ok_or found Cause.Number) (mark_back step.outcome))
-    ∙ on (number_in 1 LONGEST_RUN (decimal count)) count (λ count. Ok (made step.actor step.outcome count))
+    ∙ on (number_in 1 LONGEST_RUN (decimal count)) count
+        (λ count. Ok (made step.actor step.outcome count))
     (number_back 1 LONGEST_RUN count (omega (arith, fits.few)) fits.some fits.few)
 
-run_back : (step : Step) (count : ℕ) → Fits step count → run_in (run_word step count) ≡ Ok (record { step = step; count = count })
+run_back : (step : Step) (count : ℕ) → Fits step count
+    → run_in (run_word step count) ≡ Ok (record { step = step; count = count })
 unfolding run_in
 run_back step count fits =
     let front = decimal step.actor in
     let rest = behind step.outcome count in
-    let apart = digits_apart front rest (digits_of step.actor (omega (arith, fits.actor.1))) (mark_first step.outcome count) in
-    ap (λ word. run_of (take_while is_digit word) (slice_split is_times (drop (length (take_while is_digit word)) word))) (word_is step count)
-    ∙ ap (λ digits. run_of digits (slice_split is_times (drop (length digits) (front ++ rest)))) apart.digits
+    let apart = digits_apart front rest (digits_of step.actor (omega (arith, fits.actor.1)))
+        (mark_first step.outcome count) in
+    ap (λ word. run_of (take_while is_digit word)
+        (slice_split is_times (drop (length (take_while is_digit word)) word))) (word_is step count)
+    ∙ ap (λ digits. run_of digits (slice_split is_times (drop (length digits) (front ++ rest))))
+        apart.digits
     ∙ ap (λ text. run_of front (slice_split is_times text)) apart.rest_is
     ∙ ap (run_of front) (parts_are step.outcome count (omega (arith, fits.few)))
     ∙ parts_say step count fits
@@ -139,10 +161,12 @@ plain_run step count fits =
     let actor = plain_number step.actor (omega (arith, fits.actor.1)) in
     let counted = plain_number count (omega (arith, fits.few)) in
     subst IsPlain (sym (word_is step count)) (record {
-      some = omega (arith, length-append (decimal step.actor) (behind step.outcome count), actor.some);
+      some = omega (arith, length-append (decimal step.actor) (behind step.outcome count),
+          actor.some);
       visible =
           each_append IsVisible (decimal step.actor) (behind step.outcome count) actor.visible
-          (each_append IsVisible (outcome_mark step.outcome) (120 ∷ decimal count) (visible_mark step.outcome) ((omega arith, omega arith), counted.visible));
+          (each_append IsVisible (outcome_mark step.outcome) (120 ∷ decimal count)
+              (visible_mark step.outcome) ((omega arith, omega arith), counted.visible));
     })
 
 -- ---- the runs of an order
@@ -154,15 +178,18 @@ pub record Tells (words : Words) (steps : List Step) : Type 0 where
   pub says : read_each run_in words ≡ Ok found
   pub stands : steps_of_runs found ≡ steps
 
-one_run : (step : Step) (count : ℕ) → Fits step count → (words : Words) (steps : List Step) → Tells words steps
+one_run : (step : Step) (count : ℕ) → Fits step count → (words : Words) (steps : List Step)
+    → Tells words steps
     → Tells (run_word step count ∷ words) (replicate count step ++ steps)
 unfolding read_each steps_of_runs
 one_run step count fits words steps tells = record {
   plain = (plain_run step count fits, tells.plain);
   found = record { step = step; count = count } ∷ tells.found;
   says =
-      on (run_in (run_word step count)) (record { step = step; count = count }) (λ run. read_each run_in words >>= (λ runs. Ok (run ∷ runs))) (run_back step count fits)
-      ∙ on (read_each run_in words) tells.found (λ runs. Ok (record { step = step; count = count } ∷ runs)) tells.says;
+      on (run_in (run_word step count)) (record { step = step; count = count })
+          (λ run. read_each run_in words >>= (λ runs. Ok (run ∷ runs))) (run_back step count fits)
+      ∙ on (read_each run_in words) tells.found
+          (λ runs. Ok (record { step = step; count = count } ∷ runs)) tells.says;
   stands = ap (λ more. replicate count step ++ more) tells.stands;
 }
 
@@ -178,7 +205,8 @@ record GoesOn (of_run : Step) (count : ℕ) (step : Step) : Type 0 where
 abbrev made_step : ℕ → Outcome → Step
 made_step actor outcome = record { actor = actor; outcome = outcome }
 
-goes_on : (of_run : Step) (count : ℕ) (step : Step) → goes_on_run of_run count step ≡ true → GoesOn of_run count step
+goes_on : (of_run : Step) (count : ℕ) (step : Step) → goes_on_run of_run count step ≡ true
+    → GoesOn of_run count step
 goes_on of_run count step is =
     let first = and_parts _ _ is in
     let second = and_parts _ _ first.0 in
@@ -190,9 +218,11 @@ goes_on of_run count step is =
     }
 
 -- the runs from here on, with a step that goes on the run and with one that doesn't
-tells_next : (more : Bool) (of_run step : Step) (count : ℕ) (steps : List Step) (words : Words) → Fits of_run count
+tells_next : (more : Bool) (of_run step : Step) (count : ℕ) (steps : List Step) (words : Words)
+    → Fits of_run count
     → (more ≡ true → step ≡ of_run)
-    → Tells words (replicate (if more then count + 1 else 1) (if more then of_run else step) ++ steps)
+    → Tells words
+        (replicate (if more then count + 1 else 1) (if more then of_run else step) ++ steps)
     → Tells (ends_run more (run_word of_run count) words) (replicate count of_run ++ step ∷ steps)
 tells_next true of_run step count steps words fits same tells =
     subst (Tells words)
@@ -200,14 +230,19 @@ tells_next true of_run step count steps words fits same tells =
     ∙ append_assoc (replicate count of_run) (of_run ∷ []) steps
     ∙ ap (λ s. replicate count of_run ++ s ∷ steps) (sym (same refl)))
     tells
-tells_next false of_run step count steps words fits same tells = one_run of_run count fits words (step ∷ steps) tells
+tells_next false of_run step count steps words fits same tells = one_run of_run count fits words
+    (step ∷ steps) tells
 
-fits_next : (more : Bool) (of_run step : Step) (count : ℕ) → (more ≡ true → count < LONGEST_RUN) → Fits of_run count → OfActor step
+fits_next : (more : Bool) (of_run step : Step) (count : ℕ) → (more ≡ true → count < LONGEST_RUN)
+    → Fits of_run count → OfActor step
     → Fits (if more then of_run else step) (if more then count + 1 else 1)
-fits_next true of_run step count room fits is = let below : count < LONGEST_RUN = room refl in record { actor = fits.actor; some = omega arith; few = omega arith }
-fits_next false of_run step count room fits is = record { actor = is; some = omega arith; few = omega arith }
+fits_next true of_run step count room fits is = let below : count < LONGEST_RUN = room refl in
+    record { actor = fits.actor; some = omega arith; few = omega arith }
+fits_next false of_run step count room fits is =
+    record { actor = is; some = omega arith; few = omega arith }
 
-tells_after : (of_run : Step) (count : ℕ) (steps : List Step) → Fits of_run count → Each OfActor steps
+tells_after : (of_run : Step) (count : ℕ) (steps : List Step) → Fits of_run count
+    → Each OfActor steps
     → Tells (runs_after of_run count steps) (replicate count of_run ++ steps)
 unfolding runs_after
 tells_after of_run count [] fits each = one_run of_run count fits [] [] no_runs
@@ -215,9 +250,11 @@ tells_after of_run count (step ∷ steps) fits each =
     let more = goes_on_run of_run count step in
     tells_next more of_run step count steps _ fits (λ is. (goes_on of_run count step is).same)
     (tells_after (if more then of_run else step) (if more then count + 1 else 1) steps
-    (fits_next more of_run step count (λ is. (goes_on of_run count step is).room) fits each.0) each.1)
+    (fits_next more of_run step count (λ is. (goes_on of_run count step is).room) fits each.0)
+        each.1)
 
 pub order_told : (steps : List Step) → Each OfActor steps → Tells (runs steps) steps
 unfolding runs
 order_told [] each = no_runs
-order_told (step ∷ steps) each = tells_after step 1 steps (record { actor = each.0; some = omega arith; few = omega arith }) each.1
+order_told (step ∷ steps) each = tells_after step 1 steps
+    (record { actor = each.0; some = omega arith; few = omega arith }) each.1

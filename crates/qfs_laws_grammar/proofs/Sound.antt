@@ -60,53 +60,63 @@ Placed Behind.Order phases count = 1 ≤ length phases
 
 some_in : (phases : Phases) (count : ℕ) → EndsInActor phases count → 1 ≤ length phases
 some_in phases count ends =
-    omega (arith, ap length ends.is, length-append ends.earlier ((ends.front ++ ends.last ∷ []) ∷ []))
+    omega (arith, ap length ends.is, length-append ends.earlier
+        ((ends.front ++ ends.last ∷ []) ∷ []))
 
-behind_start : (place : LinePlace) (phases : Phases) (count : ℕ) → may_stand place First.Qfs ≡ true → Placed place phases count → phases ≡ []
+behind_start : (place : LinePlace) (phases : Phases) (count : ℕ) → may_stand place First.Qfs ≡ true
+    → Placed place phases count → phases ≡ []
 unfolding may_stand
 behind_start Behind.Start phases count stands placed = placed
 behind_start place phases count stands placed = cc
 
-behind_qfs : (place : LinePlace) (phases : Phases) (count : ℕ) → may_stand place First.Layout ≡ true → Placed place phases count → phases ≡ []
+behind_qfs : (place : LinePlace) (phases : Phases) (count : ℕ) → may_stand place First.Layout ≡ true
+    → Placed place phases count → phases ≡ []
 unfolding may_stand
 behind_qfs Behind.Qfs phases count stands placed = placed
 behind_qfs place phases count stands placed = cc
 
-behind_layout : (place : LinePlace) (phases : Phases) (count : ℕ) → may_stand place First.Servers ≡ true → Placed place phases count → phases ≡ []
+behind_layout : (place : LinePlace) (phases : Phases) (count : ℕ)
+    → may_stand place First.Servers ≡ true → Placed place phases count → phases ≡ []
 unfolding may_stand
 behind_layout Behind.Layout phases count stands placed = placed
 behind_layout place phases count stands placed = cc
 
-behind_servers : (place : LinePlace) (phases : Phases) (count : ℕ) → may_stand place First.Term ≡ true → Placed place phases count → phases ≡ []
+behind_servers : (place : LinePlace) (phases : Phases) (count : ℕ)
+    → may_stand place First.Term ≡ true → Placed place phases count → phases ≡ []
 unfolding may_stand
 behind_servers Behind.Servers phases count stands placed = placed
 behind_servers place phases count stands placed = cc
 
-before_audit : (place : LinePlace) (phases : Phases) (count : ℕ) → may_stand place First.Audit ≡ true → Placed place phases count → phases ≡ []
+before_audit : (place : LinePlace) (phases : Phases) (count : ℕ)
+    → may_stand place First.Audit ≡ true → Placed place phases count → phases ≡ []
 unfolding may_stand
 before_audit Behind.Servers phases count stands placed = placed
 before_audit Behind.Term phases count stands placed = placed
 before_audit place phases count stands placed = cc
 
-before_actor : (place : LinePlace) (phases : Phases) (count : ℕ) → may_stand place First.Actor ≡ true → Placed place phases count → 1 ≤ length phases
+before_actor : (place : LinePlace) (phases : Phases) (count : ℕ)
+    → may_stand place First.Actor ≡ true → Placed place phases count → 1 ≤ length phases
 unfolding may_stand
 before_actor Behind.Phase phases count stands placed = placed
 before_actor Behind.Actor phases count stands placed = some_in phases count placed
 before_actor place phases count stands placed = absurd (cc)
 
-before_order : (place : LinePlace) (phases : Phases) (count : ℕ) → may_stand place First.Order ≡ true → Placed place phases count → 1 ≤ length phases
+before_order : (place : LinePlace) (phases : Phases) (count : ℕ)
+    → may_stand place First.Order ≡ true → Placed place phases count → 1 ≤ length phases
 unfolding may_stand
 before_order Behind.Phase phases count stands placed = placed
 before_order Behind.Actor phases count stands placed = some_in phases count placed
 before_order place phases count stands placed = absurd (cc)
 
-before_command : (word : CommandWord) (place : LinePlace) (phases : Phases) (count : ℕ) → may_stand place (First.Command word) ≡ true → Placed place phases count
+before_command : (word : CommandWord) (place : LinePlace) (phases : Phases) (count : ℕ)
+    → may_stand place (First.Command word) ≡ true → Placed place phases count
     → EndsInActor phases count
 unfolding may_stand
 before_command word Behind.Actor phases count stands placed = placed
 before_command word place phases count stands placed = absurd (cc)
 
-before_end : (place : LinePlace) (phases : Phases) (count : ℕ) → may_be_last place ≡ true → Placed place phases count → 1 ≤ length phases
+before_end : (place : LinePlace) (phases : Phases) (count : ℕ) → may_be_last place ≡ true
+    → Placed place phases count → 1 ≤ length phases
 unfolding may_be_last
 before_end Behind.Phase phases count stands placed = placed
 before_end Behind.Actor phases count stands placed = some_in phases count placed
@@ -121,7 +131,8 @@ pub record Sound (so : SoFar) : Type 0 where
   pub servers : IsFromOne MOST_SERVERS so.script.servers
   pub term : so.script.term ≤ MOST_TICKS
   pub few_phases : length so.script.phases ≤ MOST_PHASES
-  pub body : Body so.script.layout so.script.servers (actors_in so.script.phases) so.actors so.blocks so.chunk_bytes
+  pub body : Body so.script.layout so.script.servers (actors_in so.script.phases) so.actors
+      so.blocks so.chunk_bytes
   pub order : IfSome so.script.order (Each OfActor)
   pub placed : Placed so.place so.script.phases so.commands
 
@@ -152,13 +163,16 @@ sound_start = record {
 rebuilt : (so : SoFar) (layout : Shape) (servers : ℕ) → Sound so → so.script.phases ≡ []
     → Body layout servers (actors_in so.script.phases) so.actors so.blocks so.chunk_bytes
 rebuilt so layout servers sound none =
-    let Of : Shape → ℕ → Phases → Type 0 = λ shape number phases. Body shape number (actors_in phases) so.actors so.blocks so.chunk_bytes in
+    let Of : Shape → ℕ → Phases → Type 0 = λ shape number phases. Body shape number
+        (actors_in phases) so.actors so.blocks so.chunk_bytes in
     subst (Of layout servers) (sym none)
-    (none_ask so.script.layout layout so.script.servers servers so.actors so.blocks so.chunk_bytes (subst (Of so.script.layout so.script.servers) none sound.body))
+    (none_ask so.script.layout layout so.script.servers servers so.actors so.blocks so.chunk_bytes
+        (subst (Of so.script.layout so.script.servers) none sound.body))
 
 -- ---- the lines of the head
 
-qfs_sound : (so : SoFar) (words : Words) → Sound so → so.script.phases ≡ [] → IfOk (take_qfs so words) Sound
+qfs_sound : (so : SoFar) (words : Words) → Sound so → so.script.phases ≡ []
+    → IfOk (take_qfs so words) Sound
 unfolding take_qfs with_head
 qfs_sound so words sound none =
     gives (λ word. ⊤) Sound (one_word words) _ (gives_any (one_word words))
@@ -174,12 +188,14 @@ qfs_sound so words sound none =
       placed = none;
     }))
 
-layout_sound : (so : SoFar) (words : Words) → Sound so → so.script.phases ≡ [] → IfOk (take_layout so words) Sound
+layout_sound : (so : SoFar) (words : Words) → Sound so → so.script.phases ≡ []
+    → IfOk (take_layout so words) Sound
 unfolding take_layout with_head
 layout_sound so words sound none =
     gives (λ words. ⊤) Sound (two_words words) _ (gives_any (two_words words))
     (λ words known. gives IsStripe Sound (stripe_in words.0) _ (stripe_gives words.0)
-    (λ stripe is_stripe. gives (IsIn 1 MOST_ROWS) Sound (number_in 1 MOST_ROWS words.1) _ (number_gives 1 MOST_ROWS words.1)
+    (λ stripe is_stripe. gives (IsIn 1 MOST_ROWS) Sound (number_in 1 MOST_ROWS words.1) _
+        (number_gives 1 MOST_ROWS words.1)
     (λ rows are_rows. record {
       stripe = is_stripe;
       rows = are_rows;
@@ -191,11 +207,13 @@ layout_sound so words sound none =
       placed = none;
     })))
 
-servers_sound : (so : SoFar) (words : Words) → Sound so → so.script.phases ≡ [] → IfOk (take_servers so words) Sound
+servers_sound : (so : SoFar) (words : Words) → Sound so → so.script.phases ≡ []
+    → IfOk (take_servers so words) Sound
 unfolding take_servers with_head
 servers_sound so words sound none =
     gives (λ word. ⊤) Sound (one_word words) _ (gives_any (one_word words))
-    (λ word known. gives (IsIn 1 MOST_SERVERS) Sound (number_in 1 MOST_SERVERS word) _ (number_gives 1 MOST_SERVERS word)
+    (λ word known. gives (IsIn 1 MOST_SERVERS) Sound (number_in 1 MOST_SERVERS word) _
+        (number_gives 1 MOST_SERVERS word)
     (λ servers are. record {
       stripe = sound.stripe;
       rows = sound.rows;
@@ -207,11 +225,13 @@ servers_sound so words sound none =
       placed = none;
     }))
 
-term_sound : (so : SoFar) (words : Words) → Sound so → so.script.phases ≡ [] → IfOk (take_term so words) Sound
+term_sound : (so : SoFar) (words : Words) → Sound so → so.script.phases ≡ []
+    → IfOk (take_term so words) Sound
 unfolding take_term with_head
 term_sound so words sound none =
     gives (λ word. ⊤) Sound (one_word words) _ (gives_any (one_word words))
-    (λ word known. gives (IsIn 1 MOST_TICKS) Sound (number_in 1 MOST_TICKS word) _ (number_gives 1 MOST_TICKS word)
+    (λ word known. gives (IsIn 1 MOST_TICKS) Sound (number_in 1 MOST_TICKS word) _
+        (number_gives 1 MOST_TICKS word)
     (λ ticks are. record {
       stripe = sound.stripe;
       rows = sound.rows;
@@ -223,7 +243,8 @@ term_sound so words sound none =
       placed = none;
     }))
 
-audit_sound : (so : SoFar) (words : Words) → Sound so → so.script.phases ≡ [] → IfOk (take_audit so words) Sound
+audit_sound : (so : SoFar) (words : Words) → Sound so → so.script.phases ≡ []
+    → IfOk (take_audit so words) Sound
 unfolding take_audit with_head
 audit_sound so words sound none =
     gives (λ nothing. ⊤) Sound (no_word words) _ (gives_any (no_word words))
@@ -252,8 +273,10 @@ phase_sound so words sound =
       term = sound.term;
       few_phases = omega (arith, ltb-true _ _ few, length-append so.script.phases ([] ∷ []));
       body =
-          subst (λ (actors : List (List Command)). Body so.script.layout so.script.servers actors so.actors so.blocks so.chunk_bytes)
-          (sym (flat_push so.script.phases [] ∙ append-nil (actors_in so.script.phases))) sound.body;
+          subst (λ (actors : List (List Command)). Body so.script.layout so.script.servers actors
+              so.actors so.blocks so.chunk_bytes)
+          (sym (flat_push so.script.phases [] ∙ append-nil (actors_in so.script.phases)))
+              sound.body;
       order = sound.order;
       placed = omega (arith, length-append so.script.phases ([] ∷ []));
     }))
@@ -274,7 +297,8 @@ with_actor_of phases ending =
           ap actors_in now
           ∙ flat_push ending.front (ending.last ++ [] ∷ [])
           ∙ sym (append_assoc (actors_in ending.front) ending.last ([] ∷ []))
-          ∙ ap (λ all. all ++ [] ∷ []) (sym (ap actors_in ending.is ∙ flat_push ending.front ending.last));
+          ∙ ap (λ all. all ++ [] ∷ [])
+              (sym (ap actors_in ending.is ∙ flat_push ending.front ending.last));
       few =
           omega (
             arith,
@@ -283,15 +307,19 @@ with_actor_of phases ending =
             length-append ending.front (ending.last ∷ []),
             length-append ending.front ((ending.last ++ [] ∷ []) ∷ []),
           );
-      ends = record { earlier = ending.front; front = ending.last; last = []; is = now; counted = refl };
+      ends = record { earlier = ending.front; front = ending.last; last = []; is = now; counted =
+          refl };
     }
 
-actor_sound : (so : SoFar) (words : Words) → Sound so → 1 ≤ length so.script.phases → IfOk (take_actor so words) Sound
+actor_sound : (so : SoFar) (words : Words) → Sound so → 1 ≤ length so.script.phases
+    → IfOk (take_actor so words) Sound
 unfolding take_actor with_next_actor
 actor_sound so words sound some =
     let has = with_actor_of so.script.phases (ends so.script.phases some) in
     gives (λ word. ⊤) Sound (one_word words) _ (gives_any (one_word words))
-    (λ word known. gives (IsIn (so.actors + 1) (so.actors + 1)) Sound (number_in (so.actors + 1) (so.actors + 1) word) _ (number_gives (so.actors + 1) (so.actors + 1) word)
+    (λ word known. gives (IsIn (so.actors + 1) (so.actors + 1)) Sound
+        (number_in (so.actors + 1) (so.actors + 1) word) _
+        (number_gives (so.actors + 1) (so.actors + 1) word)
     (λ number next. gives_kept Sound (nat_lt so.actors MOST_ACTORS) Cause.Limit _
     (λ room. record {
       stripe = sound.stripe;
@@ -300,25 +328,31 @@ actor_sound so words sound some =
       term = sound.term;
       few_phases = omega (arith, has.few, sound.few_phases);
       body =
-          subst (λ (actors : List (List Command)). Body so.script.layout so.script.servers actors (so.actors + 1) so.blocks so.chunk_bytes)
+          subst (λ (actors : List (List Command)). Body so.script.layout so.script.servers actors
+              (so.actors + 1) so.blocks so.chunk_bytes)
           (sym has.actors)
-          (actor_more so.script.layout so.script.servers (actors_in so.script.phases) so.actors so.blocks so.chunk_bytes sound.body (ltb-true _ _ room));
+          (actor_more so.script.layout so.script.servers (actors_in so.script.phases) so.actors
+              so.blocks so.chunk_bytes sound.body (ltb-true _ _ room));
       order = sound.order;
       placed = has.ends;
     })))
 
 -- phases whose last actor has a command more
-record HasCommand (command : Command) (phases : Phases) (count : ℕ) (ends : EndsInActor phases count) : Type 0 where
+record HasCommand (command : Command) (phases : Phases) (count : ℕ)
+    (ends : EndsInActor phases count) : Type 0 where
   before : actors_in phases ≡ (actors_in ends.earlier ++ ends.front) ++ ends.last ∷ []
-  actors : actors_in (with_command command phases) ≡ (actors_in ends.earlier ++ ends.front) ++ (ends.last ++ command ∷ []) ∷ []
+  actors : actors_in (with_command command phases)
+      ≡ (actors_in ends.earlier ++ ends.front) ++ (ends.last ++ command ∷ []) ∷ []
   few : length (with_command command phases) ≡ length phases
   again : EndsInActor (with_command command phases) (count + 1)
 
-with_command_of : (command : Command) (phases : Phases) (count : ℕ) (ends : EndsInActor phases count) → HasCommand command phases count ends
+with_command_of : (command : Command) (phases : Phases) (count : ℕ)
+    (ends : EndsInActor phases count) → HasCommand command phases count ends
 unfolding with_command
 with_command_of command phases count ends =
     let more : List Command → List Command = λ commands. commands ++ command ∷ [] in
-    let now : with_command command phases ≡ ends.earlier ++ (ends.front ++ (ends.last ++ command ∷ []) ∷ []) ∷ [] =
+    let now : with_command command phases
+        ≡ ends.earlier ++ (ends.front ++ (ends.last ++ command ∷ []) ∷ []) ∷ [] =
     ap (with_command command) ends.is
     ∙ changed (λ phase. change_last more phase) ends.earlier (ends.front ++ ends.last ∷ [])
     ∙ ap (λ phase. ends.earlier ++ phase ∷ []) (changed more ends.front ends.last) in
@@ -328,7 +362,8 @@ with_command_of command phases count ends =
           ∙ sym (append_assoc (actors_in ends.earlier) ends.front (ends.last ∷ []));
       actors =
           ap actors_in now ∙ flat_push ends.earlier (ends.front ++ (ends.last ++ command ∷ []) ∷ [])
-          ∙ sym (append_assoc (actors_in ends.earlier) ends.front ((ends.last ++ command ∷ []) ∷ []));
+          ∙ sym (append_assoc (actors_in ends.earlier) ends.front
+              ((ends.last ++ command ∷ []) ∷ []));
       few =
           omega (
             arith,
@@ -346,7 +381,8 @@ with_command_of command phases count ends =
       };
     }
 
-limits_kept : (so : SoFar) (command : Command) (front : List (List Command)) (last : List Command) → length last ≡ so.commands
+limits_kept : (so : SoFar) (command : Command) (front : List (List Command)) (last : List Command)
+    → length last ≡ so.commands
     → keeps_limits (with_next_command so command) command ≡ true
     → Keeps so.script.layout so.script.servers front last command so.actors so.blocks so.chunk_bytes
 unfolding keeps_limits with_next_command
@@ -361,16 +397,22 @@ limits_kept so command front last counted tested =
       few_bytes = leb-true _ _ first.1;
     }
 
-command_sound : (so : SoFar) (word : CommandWord) (words : Words) → Sound so → EndsInActor so.script.phases so.commands → IfOk (take_command so word words) Sound
+command_sound : (so : SoFar) (word : CommandWord) (words : Words) → Sound so
+    → EndsInActor so.script.phases so.commands → IfOk (take_command so word words) Sound
 unfolding take_command with_next_command
 command_sound so word words sound ends =
-    gives (IsCommand so.script.servers) Sound (command_of so.script.servers word words) _ (command_gives so.script.servers word words)
+    gives (IsCommand so.script.servers) Sound (command_of so.script.servers word words) _
+        (command_gives so.script.servers word words)
     (λ command is. gives_kept Sound _ Cause.Limit _
     (λ tested.
     let has = with_command_of command so.script.phases so.commands ends in
-    let keeps = limits_kept so command (actors_in ends.earlier ++ ends.front) ends.last ends.counted tested in
-    let body : Body so.script.layout so.script.servers ((actors_in ends.earlier ++ ends.front) ++ ends.last ∷ []) so.actors so.blocks so.chunk_bytes =
-    subst (λ (actors : List (List Command)). Body so.script.layout so.script.servers actors so.actors so.blocks so.chunk_bytes) has.before sound.body in
+    let keeps = limits_kept so command (actors_in ends.earlier ++ ends.front) ends.last ends.counted
+        tested in
+    let body : Body so.script.layout so.script.servers
+        ((actors_in ends.earlier ++ ends.front) ++ ends.last ∷ []) so.actors so.blocks
+        so.chunk_bytes =
+    subst (λ (actors : List (List Command)). Body so.script.layout so.script.servers actors
+        so.actors so.blocks so.chunk_bytes) has.before sound.body in
     record {
       stripe = sound.stripe;
       rows = sound.rows;
@@ -380,18 +422,22 @@ command_sound so word words sound ends =
       body =
           subst (λ (actors : List (List Command)).
           Body so.script.layout so.script.servers actors so.actors
-          (so.blocks + blocks_in so.script.layout (put_len command)) (so.chunk_bytes + chunk_bytes_of so.script.layout (put_len command)))
+          (so.blocks + blocks_in so.script.layout (put_len command))
+              (so.chunk_bytes + chunk_bytes_of so.script.layout (put_len command)))
           (sym has.actors)
-          (command_more so.script.layout so.script.servers (actors_in ends.earlier ++ ends.front) ends.last command so.actors so.blocks so.chunk_bytes
+          (command_more so.script.layout so.script.servers (actors_in ends.earlier ++ ends.front)
+              ends.last command so.actors so.blocks so.chunk_bytes
           (omega (arith, sound.stripe.0)) sound.rows.0 body is keeps);
       order = sound.order;
       placed = has.again;
     }))
 
-order_sound : (so : SoFar) (words : Words) → Sound so → 1 ≤ length so.script.phases → IfOk (take_order so words) Sound
+order_sound : (so : SoFar) (words : Words) → Sound so → 1 ≤ length so.script.phases
+    → IfOk (take_order so words) Sound
 unfolding take_order with_head
 order_sound so words sound some =
-    gives (Each RunsActor) Sound (read_each run_in words) _ (gives_each RunsActor run_in run_gives words)
+    gives (Each RunsActor) Sound (read_each run_in words) _
+        (gives_each RunsActor run_in run_gives words)
     (λ runs are. record {
       stripe = sound.stripe;
       rows = sound.rows;
@@ -405,18 +451,27 @@ order_sound so words sound some =
 
 -- ---- any line
 
-pub line_sound : (so : SoFar) (first : FirstWord) (words : Words) → Sound so → may_stand so.place first ≡ true → IfOk (take_line so first words) Sound
+pub line_sound : (so : SoFar) (first : FirstWord) (words : Words) → Sound so
+    → may_stand so.place first ≡ true → IfOk (take_line so first words) Sound
 unfolding take_line
-line_sound so First.Qfs words sound stands = qfs_sound so words sound (behind_start so.place so.script.phases so.commands stands sound.placed)
-line_sound so First.Layout words sound stands = layout_sound so words sound (behind_qfs so.place so.script.phases so.commands stands sound.placed)
-line_sound so First.Servers words sound stands = servers_sound so words sound (behind_layout so.place so.script.phases so.commands stands sound.placed)
-line_sound so First.Term words sound stands = term_sound so words sound (behind_servers so.place so.script.phases so.commands stands sound.placed)
-line_sound so First.Audit words sound stands = audit_sound so words sound (before_audit so.place so.script.phases so.commands stands sound.placed)
+line_sound so First.Qfs words sound stands = qfs_sound so words sound
+    (behind_start so.place so.script.phases so.commands stands sound.placed)
+line_sound so First.Layout words sound stands = layout_sound so words sound
+    (behind_qfs so.place so.script.phases so.commands stands sound.placed)
+line_sound so First.Servers words sound stands = servers_sound so words sound
+    (behind_layout so.place so.script.phases so.commands stands sound.placed)
+line_sound so First.Term words sound stands = term_sound so words sound
+    (behind_servers so.place so.script.phases so.commands stands sound.placed)
+line_sound so First.Audit words sound stands = audit_sound so words sound
+    (before_audit so.place so.script.phases so.commands stands sound.placed)
 line_sound so First.Phase words sound stands = phase_sound so words sound
-line_sound so First.Actor words sound stands = actor_sound so words sound (before_actor so.place so.script.phases so.commands stands sound.placed)
-line_sound so First.Order words sound stands = order_sound so words sound (before_order so.place so.script.phases so.commands stands sound.placed)
+line_sound so First.Actor words sound stands = actor_sound so words sound
+    (before_actor so.place so.script.phases so.commands stands sound.placed)
+line_sound so First.Order words sound stands = order_sound so words sound
+    (before_order so.place so.script.phases so.commands stands sound.placed)
 line_sound so (First.Command word) words sound stands =
-    command_sound so word words sound (before_command word so.place so.script.phases so.commands stands sound.placed)
+    command_sound so word words sound
+        (before_command word so.place so.script.phases so.commands stands sound.placed)
 
 -- what is sound and may end is a script
 pub script_of : (so : SoFar) → Sound so → may_be_last so.place ≡ true → IsScript so.script

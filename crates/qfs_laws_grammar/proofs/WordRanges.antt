@@ -29,10 +29,12 @@ use Rattle.qfs_laws_grammar.proofs.Steps.{gives, gives_kept, gives_some, gives_a
 abbrev pub IsIn : ℕ → ℕ → ℕ → Type 0
 IsIn first last number = (first ≤ number) × (number ≤ last)
 
-pub number_gives : (first last : ℕ) (word : List ℕ) → IfOk (number_in first last word) (IsIn first last)
+pub number_gives : (first last : ℕ) (word : List ℕ)
+    → IfOk (number_in first last word) (IsIn first last)
 unfolding number_in
 number_gives first last word =
-    gives (λ number. ⊤) (IsIn first last) (ok_or (number_of word) Cause.Number) _ (gives_any (ok_or (number_of word) Cause.Number))
+    gives (λ number. ⊤) (IsIn first last) (ok_or (number_of word) Cause.Number) _
+        (gives_any (ok_or (number_of word) Cause.Number))
     (λ number known. gives_kept (IsIn first last) _ Cause.Number number
     (λ tested. let parts = and_parts _ _ tested in (leb-true _ _ parts.0, leb-true _ _ parts.1)))
 
@@ -40,11 +42,13 @@ pub stripe_gives : (word : List ℕ) → IfOk (stripe_in word) IsStripe
 unfolding stripe_in
 stripe_gives word =
     gives (IsIn 16 65536) IsStripe (number_in 16 65536 word) _ (number_gives 16 65536 word)
-    (λ stripe within. gives_kept IsStripe (is_power_of_two stripe) Cause.Number stripe (λ tested. (within.0, within.1, tested)))
+    (λ stripe within. gives_kept IsStripe (is_power_of_two stripe) Cause.Number stripe
+        (λ tested. (within.0, within.1, tested)))
 
 -- ---- paths
 
-path_found : (word : List ℕ) (found : Option (List (List ℕ))) → path_of word ≡ found → IfSome found IsPath
+path_found : (word : List ℕ) (found : Option (List (List ℕ))) → path_of word ≡ found
+    → IfSome found IsPath
 path_found word (Some names) is = (spells word names is).0
 path_found word None is = tt
 
@@ -58,7 +62,8 @@ each_byte : (bytes : List ℕ) → ((k : ℕ) → get_or bytes k 0 < 256) → Ea
 each_byte [] are = tt
 each_byte (byte ∷ bytes) are = (are 0, each_byte bytes (λ k. are (suc k)))
 
-bytes_found : (word : List ℕ) (found : Result (List ℕ) FromHexError) → decode_of word ≡ found → IfSome (result_ok found) (Each IsByte)
+bytes_found : (word : List ℕ) (found : Result (List ℕ) FromHexError) → decode_of word ≡ found
+    → IfSome (result_ok found) (Each IsByte)
 bytes_found word (Ok bytes) is = each_byte bytes (λ k. (decode_of-ok word bytes is).3 k)
 bytes_found word (Err error) is = tt
 
@@ -67,13 +72,16 @@ pub record AreBytes (least most : ℕ) (bytes : List ℕ) : Type 0 where
   pub few : length bytes ≤ most
   pub each : Each IsByte bytes
 
-pub bytes_give : (least most : ℕ) (word : List ℕ) → IfOk (bytes_in least most word) (AreBytes least most)
+pub bytes_give : (least most : ℕ) (word : List ℕ)
+    → IfOk (bytes_in least most word) (AreBytes least most)
 unfolding bytes_in
 bytes_give least most word =
     gives (Each IsByte) (AreBytes least most) (ok_or (result_ok (decode_of word)) Cause.Hex) _
-    (gives_some (Each IsByte) (result_ok (decode_of word)) Cause.Hex (bytes_found word (decode_of word) refl))
+    (gives_some (Each IsByte) (result_ok (decode_of word)) Cause.Hex
+        (bytes_found word (decode_of word) refl))
     (λ bytes are. gives_kept (AreBytes least most) _ Cause.Hex bytes
-    (λ tested. let parts = and_parts _ _ tested in record { enough = leb-true _ _ parts.0; few = leb-true _ _ parts.1; each = are }))
+    (λ tested. let parts = and_parts _ _ tested in
+        record { enough = leb-true _ _ parts.0; few = leb-true _ _ parts.1; each = are }))
 
 -- ---- runs
 
@@ -85,15 +93,19 @@ unfolding run_of
 run_of_gives actor [] = tt
 run_of_gives actor (mark ∷ []) = tt
 run_of_gives actor (mark ∷ count ∷ []) =
-    gives IsActorNumber RunsActor (number_in 1 MOST_ACTORS actor) _ (number_gives 1 MOST_ACTORS actor)
-    (λ number within. gives (λ outcome. ⊤) RunsActor (ok_or (outcome_of_mark mark) Cause.Number) _ (gives_any (ok_or (outcome_of_mark mark) Cause.Number))
-    (λ outcome known. gives (IsIn 1 LONGEST_RUN) RunsActor (number_in 1 LONGEST_RUN count) _ (number_gives 1 LONGEST_RUN count)
+    gives IsActorNumber RunsActor (number_in 1 MOST_ACTORS actor) _
+        (number_gives 1 MOST_ACTORS actor)
+    (λ number within. gives (λ outcome. ⊤) RunsActor (ok_or (outcome_of_mark mark) Cause.Number) _
+        (gives_any (ok_or (outcome_of_mark mark) Cause.Number))
+    (λ outcome known. gives (IsIn 1 LONGEST_RUN) RunsActor (number_in 1 LONGEST_RUN count) _
+        (number_gives 1 LONGEST_RUN count)
     (λ counted fits. within)))
 run_of_gives actor (mark ∷ count ∷ more ∷ words) = tt
 
 pub run_gives : (word : List ℕ) → IfOk (run_in word) RunsActor
 unfolding run_in
-run_gives word = run_of_gives (take_while is_digit word) (slice_split is_times (drop (length (take_while is_digit word)) word))
+run_gives word = run_of_gives (take_while is_digit word)
+    (slice_split is_times (drop (length (take_while is_digit word)) word))
 
 -- the steps of an order are of actors
 abbrev pub OfActor : Step → Type 0
@@ -107,4 +119,5 @@ pub steps_give : (runs : List StepRun) → Each RunsActor runs → Each OfActor 
 unfolding steps_of_runs
 steps_give [] each = tt
 steps_give (run ∷ runs) each =
-    each_append OfActor (replicate run.count run.step) (steps_of_runs runs) (each_same run.count run.step each.0) (steps_give runs each.1)
+    each_append OfActor (replicate run.count run.step) (steps_of_runs runs)
+        (each_same run.count run.step each.0) (steps_give runs each.1)
