@@ -2,7 +2,7 @@
 use Rattle.std.proofs.Common.{ap, sym, ◌∙◌, length, subst, ◌<◌}
 use Rattle.qfs_base.specs.Table.{without}
 use Rattle.qfs_model_meta.specs.Leases.{end_lease, has_run_out, is_lease, is_live_lease}
-use Rattle.qfs_lease.proofs.LeaseLaws.{without_after, without_fewer}
+use Rattle.qfs_lease.proofs.RowLaws.{without_after, without_fewer}
 use Rattle.qfs_lease.proofs.leases.Leases.expire.Goals as goal
 
 pub loop-lease-smaller : goal.loop-lease-smaller
@@ -18,7 +18,7 @@ loop-lease-preserved c =
     record {
       left = ap (without (has_run_out c.args.clock)) c.end.ensures.leases
           ∙ without_after (is_lease c.in-Some.lease) (has_run_out c.args.clock)
-            c.loop-lease.self.leases c.in-Some.ensures.over
+          c.loop-lease.self.leases c.in-Some.ensures.over
           ∙ was.left;
       next = c.end.ensures.next ∙ was.next;
       spare = c.end.ensures.spare ∙ was.spare;

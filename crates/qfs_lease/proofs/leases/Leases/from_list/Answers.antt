@@ -1,5 +1,5 @@
 -- What the check leaves to show of `leases::Leases::from_list`.
-use Rattle.std.proofs.Common.{◌≡◌, ◌≤◌, ◌<◌, ◌+◌, ◌++◌, ◌∷◌, [], ap, sym, subst, ◌∙◌, arith, append_assoc}
+use Rattle.std.proofs.Common.{◌≡◌, ◌≤◌, ◌<◌, ◌++◌, ◌∷◌, [], ap, sym, subst, ◌∙◌, arith, append_assoc}
 use Rattle.std.proofs.lemmas.List.{append-nil, nil_from_length}
 use Rattle.std.specs.Vec.Iter.{into_iter_items}
 use Rattle.qfs_base.specs.declared.image.Lease.{Lease}
@@ -52,13 +52,14 @@ invariant_of-leases c =
     let was = c.leases-2.invariant in
     let loop = c.loop-lease in
     let none = nil_from_length (into_iter_items loop.lease-iterator)
-        (sym loop.lease-iterator.rest.ok.0 ∙ c.in-None.ensures.steps.0) in
+    (sym loop.lease-iterator.rest.ok.0 ∙ c.in-None.ensures.steps.0) in
     let rows = ap (λ (it : LiveLeases). it.leases) c.leases-2.view_is
-        ∙ sym (append-nil loop.leases.leases)
-        ∙ ap (λ rest. loop.leases.leases ++ rest) (sym none) ∙ loop.invariant.joined in
+    ∙ sym (append-nil loop.leases.leases)
+    ∙ ap (λ rest. loop.leases.leases ++ rest) (sym none) ∙ loop.invariant.joined in
     record {
       in_order = was.in_order;
-      numbers = subst (Each (λ (lease : Lease). lease.lease < c.args.next)) (sym rows) c.requires.numbers;
+      numbers = subst (Each (λ (lease : Lease). lease.lease < c.args.next)) (sym rows)
+          c.requires.numbers;
       files = was.files;
       ends = was.ends;
       last = omega (arith, c.ranges.next);
@@ -70,7 +71,7 @@ pub returns-clause-leases : goal.returns-clause-leases
 returns-clause-leases c =
     let loop = c.loop-lease in
     let none = nil_from_length (into_iter_items loop.lease-iterator)
-        (sym loop.lease-iterator.rest.ok.0 ∙ c.in-None.ensures.steps.0) in
+    (sym loop.lease-iterator.rest.ok.0 ∙ c.in-None.ensures.steps.0) in
     ap (λ (it : LiveLeases). it.leases) c.leases-2.view_is
     ∙ sym (append-nil loop.leases.leases)
     ∙ ap (λ rest. loop.leases.leases ++ rest) (sym none)
