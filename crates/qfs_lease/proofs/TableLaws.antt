@@ -1,5 +1,5 @@
 -- The tables of leases after a lease was given or ended. For the calls of `Leases`.
-use Rattle.std.proofs.Common.{◌≡◌, ◌<◌, ◌≤◌, ◌+◌, ◌∙◌, ap, sym, subst, arith, refl, ℕ, Bool, true, false, ◌&&◌, List, [], ◌∷◌, ◌++◌, length, find, Option, Some, None}
+use Rattle.std.proofs.Common.{◌≡◌, ◌<◌, ◌≤◌, ◌+◌, ◌∙◌, ap, sym, subst, arith, refl, ℕ, Bool, true, false, List, [], ◌∷◌, ◌++◌, find, Some, None}
 use Rattle.std.specs.List.{list_any}
 use Rattle.std.specs.Cmp.{nat_cmp_is}
 use Rattle.std.specs.declared.cmp.Ordering.TheVariants.{Less}
@@ -13,19 +13,19 @@ use Rattle.qfs_laws_tables.specs.EachRow.{each_push, none_found}
 use Rattle.qfs_laws_tables.specs.InOrder.{filter_rises, push_rises}
 use Rattle.qfs_table.specs.Tables.{Contents}
 use Rattle.qfs_lease.specs.declared.index.IndexRow.{IndexRow}
-use Rattle.qfs_lease.specs.Indexes.{IsIndex, end_of, file_of, has_end, is_any, place_end, row_by}
+use Rattle.qfs_lease.specs.Indexes.{IsIndex, end_of, file_of, has_end, has_row, is_any, place_end, row_by}
 use Rattle.qfs_lease.specs.IndexKeys.{index_cmp}
 use Rattle.qfs_lease.specs.LiveLeases.{AreLeases}
 use Rattle.qfs_lease.proofs.IndexLaws.{index_ended, index_given, index_passed}
-use Rattle.qfs_lease.proofs.LeaseLaws.{found_number, placed_last, without_none}
+use Rattle.qfs_lease.proofs.LeaseLaws.{found_number}
+use Rattle.qfs_lease.proofs.RowLaws.{placed_last, without_none}
 
 -- an index of equal rows and leases
 same_index : (has : Lease → Bool) (by : Lease → ℕ) (rows new_rows : List IndexRow)
     (leases new_leases : List Lease) → new_rows ≡ rows → new_leases ≡ leases
     → IsIndex has by rows leases → IsIndex has by new_rows new_leases
 same_index has by rows new_rows leases new_leases same alike is test =
-    ap (list_any test) same ∙ is test
-    ∙ ap (list_any (λ lease. has lease && test (row_by by lease))) (sym alike)
+    ap (list_any test) same ∙ is test ∙ ap (list_any (has_row has by test)) (sym alike)
 
 -- a lease above all others is placed behind them
 pub given_last : {by_number : Contents Lease} {by_file by_end : Contents IndexRow} {next : ℕ}
@@ -34,7 +34,8 @@ pub given_last : {by_number : Contents Lease} {by_file by_end : Contents IndexRo
 given_last {by_number = by_number} {next = next} are new high =
     placed_last (on_total (λ (lease : Lease). lease.lease) nat_cmp_total) new by_number.rows
     (each_weaker (λ (lease : Lease). lease.lease < next) _
-    (λ lease less. sym (nat_cmp_is lease.lease new.lease Less (omega arith))) by_number.rows are.numbers)
+    (λ lease less. sym (nat_cmp_is lease.lease new.lease Less (omega arith)))
+    by_number.rows are.numbers)
 
 module _ {by_number : Contents Lease} {by_file by_end : Contents IndexRow} {next : ℕ}
     (are : AreLeases by_number by_file by_end next)
@@ -85,7 +86,8 @@ module _ {by_number : Contents Lease} {by_file by_end : Contents IndexRow} {next
         in_order = subst (IsRising lease_cmp) (sym last)
             (push_rises lease_cmp by_number.rows new are.in_order less);
         numbers = subst (Each (λ (lease : Lease). lease.lease < new.lease + 1)) (sym last)
-            (each_push _ by_number.rows new (each_weaker (λ (lease : Lease). lease.lease < new.lease) _
+            (each_push _ by_number.rows new
+            (each_weaker (λ (lease : Lease). lease.lease < new.lease) _
             (λ lease under. omega arith) by_number.rows below) (omega arith));
         files = same_index is_any file_of _ files.rows _ numbers.rows f last
             (index_given is_any file_of new by_file.rows by_number.rows are.files below refl);
@@ -99,8 +101,10 @@ module _ {by_number : Contents Lease} {by_file by_end : Contents IndexRow} {next
       ends_given : (b : Bool) → has_end new ≡ b
           → Each (λ (lease : Lease). lease.lease < new.lease) by_number.rows
           → IsIndex has_end end_of (place_end new by_end.rows) (by_number.rows ++ new ∷ [])
-      ends_given true is below = rw is (index_given has_end end_of new by_end.rows by_number.rows are.ends below is)
-      ends_given false is below = rw is (index_passed has_end end_of new by_end.rows by_number.rows are.ends is)
+      ends_given true is below =
+          rw is (index_given has_end end_of new by_end.rows by_number.rows are.ends below is)
+      ends_given false is below =
+          rw is (index_passed has_end end_of new by_end.rows by_number.rows are.ends is)
 
 -- no lease has the number that was to end
 pub tables_kept : {by_number : Contents Lease} {by_file by_end : Contents IndexRow} {next : ℕ}

@@ -1,9 +1,9 @@
 -- The keys by which leases are found, with their laws: for the rows of the tables of leases.
-use Rattle.std.proofs.Common.{◌≡◌, ◌<◌, ◌≤◌, ◌⊎◌, inl, inr, ⊎_elim, ℕ, Bool, true, false, true≢false, nat_le, nat_lt, cond, sym, refl, arith, ap}
+use Rattle.std.proofs.Common.{◌≡◌, ◌<◌, ◌≤◌, ◌⊎◌, inl, inr, ⊎_elim, ℕ, Bool, true, false, true≢false, nat_le, nat_lt, cond, sym, refl, arith}
 use Rattle.std.proofs.lemmas.Bool.Decides.{nat_tests}
 use Rattle.std.proofs.lemmas.Cmp.{ranked, on_total, then_total, nat_cmp_total}
 use Rattle.std.specs.Cmp.{IsTotalOrder, nat_cmp_is}
-use Rattle.std.specs.Ordering.{is_ge, is_gt, nat_cmp, ordering_then}
+use Rattle.std.specs.Ordering.{nat_cmp, ordering_then}
 use Rattle.std.specs.declared.cmp.Ordering.{Ordering}
 use Rattle.std.specs.declared.cmp.Ordering.TheVariants.{Less, Equal, Greater}
 use Rattle.qfs_base.specs.declared.image.Lease.{Lease}
@@ -62,7 +62,8 @@ index_less a b =
     → ordering_then o (nat_cmp a.lease b.lease) ≡ Less
     → (a.by < b.by) ⊎ ((a.by ≡ b.by) × (a.lease < b.lease))) [
       | Less ↦ λ is _. inl (ranked a.by b.by Less (sym is))
-      | Equal ↦ λ is less. inr (ranked a.by b.by Equal (sym is), ranked a.lease b.lease Less (sym less))
+      | Equal ↦ λ is less. inr
+          (ranked a.by b.by Equal (sym is), ranked a.lease b.lease Less (sym less))
       | Greater ↦ λ is less. absurd cc
     ] refl
 
@@ -86,15 +87,14 @@ then_falls first Equal a b above same =
 
 pub below_falls : (by below : ℕ) → Follows index_cmp (below_order by below)
 below_falls by below a b less =
-    ⊎_elim
-    (λ before. then_falls (nat_cmp by a.by) (nat_cmp by b.by) _ _
-    (λ is. let over = ranked by b.by Greater (sym is) in sym (nat_cmp_is by a.by Greater (omega arith)))
-    (λ is. let same = ranked by b.by Equal (sym is) in inl (sym (nat_cmp_is by a.by Greater (omega arith)))))
-    (λ tied. let own = tied.0 in let before = tied.1 in
     then_falls (nat_cmp by a.by) (nat_cmp by b.by) _ _
-    (λ is. let over = ranked by b.by Greater (sym is) in sym (nat_cmp_is by a.by Greater (omega arith)))
-    (λ is. let same = ranked by b.by Equal (sym is) in inr (
+    (λ is. let over = ranked by b.by Greater (sym is) in
+    ⊎_elim (λ before. sym (nat_cmp_is by a.by Greater (omega arith)))
+    (λ tied. let same = tied.0 in sym (nat_cmp_is by a.by Greater (omega arith)))
+    (index_less a b less))
+    (λ is. let own = ranked by b.by Equal (sym is) in
+    ⊎_elim (λ before. inl (sym (nat_cmp_is by a.by Greater (omega arith))))
+    (λ tied. let same = tied.0 in let before = tied.1 in inr (
       sym (nat_cmp_is by a.by Equal (omega arith)),
       upper_falls (nat_lt a.lease below) (nat_lt b.lease below) (λ is. grind (arith, nat_tests)),
-    )))
-    (index_less a b less)
+    )) (index_less a b less))

@@ -28,8 +28,11 @@ row_by by lease = record { by = by lease; lease = lease.lease }
 abbrev pub place_end : Lease → List IndexRow → List IndexRow
 place_end lease rows = cond (has_end lease) (place index_cmp (row_by end_of lease) rows) rows
 
+-- whether an index has a lease, and its row passes a test
+abbrev pub has_row : (Lease → Bool) → (Lease → ℕ) → (IndexRow → Bool) → Lease → Bool
+has_row has by test lease = has lease && test (row_by by lease)
+
 -- an index has the rows of its leases and no others
 abbrev pub IsIndex : (Lease → Bool) → (Lease → ℕ) → List IndexRow → List Lease → Type 0
 IsIndex has by rows leases =
-    (test : IndexRow → Bool)
-    → list_any test rows ≡ list_any (λ lease. has lease && test (row_by by lease)) leases
+    (test : IndexRow → Bool) → list_any test rows ≡ list_any (has_row has by test) leases

@@ -1,5 +1,5 @@
 -- The live leases as the callers of `Leases` see them, and what its tables are.
-use Rattle.std.specs.Prelude.{◌≡◌, ◌<◌, ◌≤◌, ℕ, ◌==◌, nat_lt, Bool, true, List}
+use Rattle.std.specs.Prelude.{◌≡◌, ◌<◌, ◌≤◌, ℕ, ◌==◌, nat_lt, Bool, false, true, List}
 use Rattle.std.specs.List.{list_any}
 use Rattle.qfs_base.specs.declared.image.Lease.{Lease}
 use Rattle.qfs_base.specs.Sizes.{LAST_U64}
@@ -31,6 +31,11 @@ is_held_below file below leases = list_any (λ lease. nat_lt lease below) (lease
 abbrev pub AllRunOut : ℕ → ℕ → List Lease → Type 0
 AllRunOut clock number leases =
     Each (λ lease. is_lease number lease ≡ true → has_run_out clock lease ≡ true) leases
+
+-- no lease is an actor's that has a number below one
+abbrev pub HasPassed : ℕ → ℕ → List Lease → Type 0
+HasPassed actor from leases =
+    Each (λ (lease : Lease). lease.lease < from → is_of_actor actor lease ≡ false) leases
 
 -- the tables of leases have the same leases, with numbers below the next one, and each has room
 -- for as many more as the one by number

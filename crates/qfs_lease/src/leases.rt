@@ -4,7 +4,6 @@ ghost use Rattle.std.specs.Option.{IfNone, option_map};
 ghost use Rattle.qfs_base.specs.declared.image.Lease.{Lease};
 ghost use Rattle.qfs_base.specs.Sizes.{LAST_U64};
 ghost use Rattle.qfs_base.specs.Table.{Each, IsRising, without, has_key};
-ghost use Rattle.qfs_model_meta.specs.Grammar.{IsLeaseList};
 ghost use Rattle.qfs_model_meta.specs.Leases.{lease_cmp, is_lease, is_live_lease, holds_lease, give_lease, end_lease, has_run_out};
 ghost use Rattle.qfs_lease.specs.IndexKeys.{from_order};
 ghost use Rattle.qfs_lease.specs.LiveLeases.{is_of_actor, holder_of, is_held_below, AllRunOut};
@@ -71,7 +70,8 @@ impl Leases {
     /// The leases of a list, which are in the order of their numbers, with the number that the
     /// next one gets.
     pub fn from_list(alloc: Global, list: LeaseList, next: LeaseId) -> Result<Leases, AllocError>
-        requires { IsLeaseList next list }
+        requires in_order { IsRising lease_cmp list }
+        requires numbers { Each (λ lease. lease.lease < next) list }
         ensures leases { IfOk result (λ it. it.leases ≡ list) }
         ensures next { IfOk result (λ it. it.next ≡ next) }
         ensures spare { IfOk result (λ it. it.spare ≡ 0) }
@@ -87,7 +87,9 @@ impl Leases {
 
     /// All live leases, by number.
     pub fn list(&self, alloc: Global) -> Result<LeaseList, AllocError>
-        ensures { IfOk result (λ list. list ≡ self.now.leases) }
+        ensures leases { IfOk result (λ list. list ≡ self.now.leases) }
+        ensures in_order { IsRising lease_cmp self.now.leases }
+        ensures numbers { Each (λ lease. lease.lease < self.now.next) self.now.leases }
     {
         let mut list = Listing::with_capacity(alloc, self.by_number.len())?;
         for row in self.by_number.iter() {

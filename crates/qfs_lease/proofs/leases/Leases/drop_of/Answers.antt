@@ -1,10 +1,9 @@
 -- What the check leaves to show of `leases::Leases::drop_of`.
-use Rattle.std.proofs.Common.{◌≡◌, ◌==◌, ◌<◌, ◌≤◌, ◌+◌, ap, sym, subst, ◌∙◌, arith, false, true}
+use Rattle.std.proofs.Common.{◌≡◌, ◌+◌, ap, sym, subst, ◌∙◌, arith, false, true}
 use Rattle.std.proofs.lemmas.Bool.Decides.{nat_tests}
-use Rattle.qfs_base.specs.declared.image.Lease.{Lease}
-use Rattle.qfs_base.specs.Table.{Each, without}
-use Rattle.qfs_lease.specs.LiveLeases.{LiveLeases, is_of_actor}
-use Rattle.qfs_lease.proofs.LeaseLaws.{all_passed, beside_first, ended_anyway, ended_passed, other_passed}
+use Rattle.qfs_base.specs.Table.{without}
+use Rattle.qfs_lease.specs.LiveLeases.{HasPassed, LiveLeases, is_of_actor}
+use Rattle.qfs_lease.proofs.PassLaws.{all_passed, beside_first, ended_anyway, ended_passed, other_passed}
 use Rattle.qfs_lease.proofs.leases.Leases.drop_of.Goals as goal
 use Rattle.qfs_lease.proofs.leases.Leases.drop_of.Goals.{then-lease-actor, else-lease-actor}
 
@@ -40,8 +39,7 @@ loop-lease-preserved c =
           record {
             left = ap (without (is_of_actor actor)) now
                 ∙ ended_anyway actor from lease leases rising at own ∙ was.left;
-            passed = subst (Each (λ (it : Lease). it.lease < lease.lease + 1
-                → is_of_actor actor it ≡ false)) (sym now)
+            passed = subst (HasPassed actor (lease.lease + 1)) (sym now)
                 (ended_passed actor from lease leases rising at was.passed);
             next = ap (λ (it : LiveLeases). it.next) w.self-is ∙ w.end.ensures.next ∙ was.next;
             spare = ap (λ (it : LiveLeases). it.spare) w.self-is ∙ w.end.ensures.spare ∙ was.spare;
@@ -52,8 +50,7 @@ loop-lease-preserved c =
           let now = ap (λ (it : LiveLeases). it.leases) w.self-is in
           record {
             left = ap (without (is_of_actor actor)) now ∙ was.left;
-            passed = subst (Each (λ (it : Lease). it.lease < lease.lease + 1
-                → is_of_actor actor it ≡ false)) (sym now)
+            passed = subst (HasPassed actor (lease.lease + 1)) (sym now)
                 (other_passed actor from lease leases rising at was.passed other);
             next = ap (λ (it : LiveLeases). it.next) w.self-is ∙ was.next;
             spare = ap (λ (it : LiveLeases). it.spare) w.self-is ∙ was.spare;

@@ -2,7 +2,7 @@
 use Rattle.std.proofs.Common.{ap, sym, ◌∙◌}
 use Rattle.std.specs.Option.{is_some}
 use Rattle.qfs_base.specs.Table.{has_key, without}
-use Rattle.qfs_model_meta.specs.Leases.{end_lease, is_lease, is_live_lease, lease_order}
+use Rattle.qfs_model_meta.specs.Leases.{end_lease, is_lease, is_live_lease}
 use Rattle.qfs_laws_tables.specs.SomeRow.{some-any}
 use Rattle.qfs_lease.specs.Indexes.{end_of, file_of, row_by}
 use Rattle.qfs_lease.specs.IndexKeys.{index_cmp}
@@ -41,7 +41,8 @@ returns-in-Some-clause-live c =
 pub returns-in-Some-clause-leases : goal.returns-in-Some-clause-leases
 unfolding end_lease is_lease
 returns-in-Some-clause-leases c =
-    c.remove.ensures.rows ∙ ap (end_lease c.args.lease) (ap (λ (it : LiveLeases). it.leases) c.self.view_is)
+    c.remove.ensures.rows
+    ∙ ap (λ (it : LiveLeases). end_lease c.args.lease it.leases) c.self.view_is
 
 pub returns-in-None-clause-live : goal.returns-in-None-clause-live
 unfolding is_live_lease is_lease
@@ -54,4 +55,5 @@ returns-in-None-clause-live c =
 pub returns-in-None-clause-leases : goal.returns-in-None-clause-leases
 unfolding end_lease is_lease
 returns-in-None-clause-leases c =
-    c.remove.ensures.rows ∙ ap (end_lease c.args.lease) (ap (λ (it : LiveLeases). it.leases) c.self.view_is)
+    c.remove.ensures.rows
+    ∙ ap (λ (it : LiveLeases). end_lease c.args.lease it.leases) c.self.view_is

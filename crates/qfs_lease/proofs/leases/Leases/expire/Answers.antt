@@ -2,7 +2,7 @@
 use Rattle.std.proofs.Common.{ap, sym, ◌∙◌, length, subst, ◌<◌}
 use Rattle.qfs_base.specs.Table.{without}
 use Rattle.qfs_model_meta.specs.Leases.{end_lease, has_run_out, is_lease, is_live_lease}
-use Rattle.qfs_lease.proofs.LeaseLaws.{without_after, without_fewer}
+use Rattle.qfs_lease.proofs.RowLaws.{without_after, without_fewer}
 use Rattle.qfs_lease.proofs.leases.Leases.expire.Goals as goal
 
 pub loop-lease-smaller : goal.loop-lease-smaller

@@ -12,8 +12,8 @@ use Rattle.qfs_lease.proofs.leases.Leases.first_from.Goals as goal
 pub returns-clause-below : goal.returns-clause-below
 returns-clause-below c =
     let below : c.in_ok-row.row.now.lease < c.self.inside.next =
-    (found_has (λ (lease : Lease). lease.lease < c.self.inside.next) (has_key (from_order c.args.from))
-    c.self.inside.by_number.rows c.in_ok-row.row.now
+    (found_has (λ (lease : Lease). lease.lease < c.self.inside.next)
+    (has_key (from_order c.args.from)) c.self.inside.by_number.rows c.in_ok-row.row.now
     (sym c.get.ensures ∙ ap option_copied c.in_ok-row.was) c.self.invariant.numbers).0 in
     subst (λ (lease : Lease). lease.lease < c.args.self.now.next) (sym c.lease.ensures)
     (subst (λ (next : ℕ). c.in_ok-row.row.now.lease < next)

@@ -4,7 +4,7 @@ use Rattle.std.specs.Option.{option_copied, IfNone}
 use Rattle.qfs_base.specs.Table.{without}
 use Rattle.qfs_model_meta.specs.Leases.{has_run_out, is_live_lease}
 use Rattle.qfs_lease.specs.LiveLeases.{AllRunOut, LiveLeases}
-use Rattle.qfs_lease.proofs.IndexLaws.{over_all, over_live, over_none}
+use Rattle.qfs_lease.proofs.LookLaws.{over_all, over_live, over_none}
 use Rattle.qfs_lease.proofs.leases.Leases.first_over.Goals as goal
 
 pub returns-in_err-row-clause-none : goal.returns-in_err-row-clause-none

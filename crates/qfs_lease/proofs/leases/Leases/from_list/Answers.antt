@@ -1,5 +1,5 @@
 -- What the check leaves to show of `leases::Leases::from_list`.
-use Rattle.std.proofs.Common.{◌≡◌, ◌≤◌, ◌<◌, ◌+◌, ◌++◌, ◌∷◌, [], ap, sym, subst, ◌∙◌, arith, append_assoc}
+use Rattle.std.proofs.Common.{◌≡◌, ◌≤◌, ◌<◌, ◌++◌, ◌∷◌, [], ap, sym, subst, ◌∙◌, arith, append_assoc}
 use Rattle.std.proofs.lemmas.List.{append-nil, nil_from_length}
 use Rattle.std.specs.Vec.Iter.{into_iter_items}
 use Rattle.qfs_base.specs.declared.image.Lease.{Lease}
@@ -58,7 +58,8 @@ invariant_of-leases c =
     ∙ ap (λ rest. loop.leases.leases ++ rest) (sym none) ∙ loop.invariant.joined in
     record {
       in_order = was.in_order;
-      numbers = subst (Each (λ (lease : Lease). lease.lease < c.args.next)) (sym rows) c.requires.numbers;
+      numbers = subst (Each (λ (lease : Lease). lease.lease < c.args.next)) (sym rows)
+          c.requires.numbers;
       files = was.files;
       ends = was.ends;
       last = omega (arith, c.ranges.next);

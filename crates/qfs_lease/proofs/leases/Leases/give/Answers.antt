@@ -1,5 +1,5 @@
 -- What the check leaves to show of `leases::Leases::give`.
-use Rattle.std.proofs.Common.{ap, ◌∙◌, ◌++◌, ◌∷◌, []}
+use Rattle.std.proofs.Common.{ap, ◌∙◌}
 use Rattle.qfs_model_meta.specs.Leases.{give_lease}
 use Rattle.qfs_lease.specs.LiveLeases.{LiveLeases}
 use Rattle.qfs_lease.proofs.leases.Leases.give.Goals as goal

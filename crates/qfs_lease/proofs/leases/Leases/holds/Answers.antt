@@ -10,7 +10,8 @@ use Rattle.qfs_lease.proofs.leases.Leases.holds.Goals as goal
 pub returns-in-Some : goal.returns-in-Some
 unfolding is_lease
 returns-in-Some c =
-    let seen = ap (λ (it : LiveLeases). holds_lease c.args.actor c.args.lease it.leases) c.self.view_is in
+    let seen = ap (λ (it : LiveLeases). holds_lease c.args.actor c.args.lease it.leases)
+    c.self.view_is in
     ap (λ (lease : Lease). lease.actor == c.args.actor) c.lease.ensures
     ∙ held_as_found c.args.actor c.args.lease c.in-Some.row.now c.self.inside.by_number.rows
     c.self.invariant.in_order (sym c.get.ensures ∙ ap option_copied c.in-Some.is)
@@ -19,6 +20,7 @@ returns-in-Some c =
 pub returns-in-None : goal.returns-in-None
 unfolding is_lease
 returns-in-None c =
-    let seen = ap (λ (it : LiveLeases). holds_lease c.args.actor c.args.lease it.leases) c.self.view_is in
+    let seen = ap (λ (it : LiveLeases). holds_lease c.args.actor c.args.lease it.leases)
+    c.self.view_is in
     held_by_none c.args.actor c.args.lease c.self.inside.by_number.rows
     (sym c.get.ensures ∙ ap option_copied c.in-None.is) ∙ seen

@@ -22,8 +22,8 @@ loop-row-preserved c =
     ∙ ap (λ rows. list ++ rows) (sym c.in-Some.ensures.steps)
     ∙ c.loop-row.invariant
 
-pub returns : goal.returns
-returns c =
+pub returns-clause-leases : goal.returns-clause-leases
+returns-clause-leases c =
     sym (append-nil c.loop-row.list)
     ∙ ap (λ rows. c.loop-row.list ++ rows) (sym c.in-None.ensures.steps.0)
     ∙ c.loop-row.invariant

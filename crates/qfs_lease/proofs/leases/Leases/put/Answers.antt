@@ -1,8 +1,7 @@
 -- What the check leaves to show of `leases::Leases::put`.
-use Rattle.std.proofs.Common.{◌≡◌, ◌≤◌, ◌+◌, ◌++◌, ◌∷◌, [], ap, sym, ◌∙◌, arith, length, length-append}
+use Rattle.std.proofs.Common.{◌≤◌, ◌++◌, ◌∷◌, [], ap, ◌∙◌, arith, length, length-append}
 use Rattle.qfs_base.specs.Table.{place}
 use Rattle.qfs_model_meta.specs.Leases.{lease_cmp}
-use Rattle.qfs_lease.specs.Indexes.{file_of, row_by}
 use Rattle.qfs_lease.specs.IndexKeys.{index_cmp}
 use Rattle.qfs_lease.specs.LiveLeases.{LiveLeases}
 use Rattle.qfs_lease.proofs.TableLaws.{given_last, tables_given}
@@ -17,9 +16,15 @@ invariant_of-self c =
     let last = placed ∙ given_last c.self.invariant c.args.lease high in
     tables_given c.self.invariant c.insert-2.new.self c.insert.new.self c.put_end.new.by_end
     c.args.lease high c.requires.last placed
-    (c.insert.ensures.rows ∙ ap (λ row. place index_cmp row c.self.inside.by_file.rows) c.by_file.ensures)
+    (c.insert.ensures.rows
+    ∙ ap (λ row. place index_cmp row c.self.inside.by_file.rows) c.by_file.ensures)
     c.put_end.ensures.rows
-    (omega (arith, c.insert-2.ensures.spare, ap length last, length-append rows (c.args.lease ∷ [])))
+    (omega (
+      arith,
+      c.insert-2.ensures.spare,
+      ap length last,
+      length-append rows (c.args.lease ∷ []),
+    ))
     c.insert.ensures.few c.put_end.ensures.spare
 
 pub returns-clause-leases : goal.returns-clause-leases
