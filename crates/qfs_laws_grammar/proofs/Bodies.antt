@@ -61,7 +61,7 @@ pub actor_more : (layout : Shape) (servers : ℕ) (actors : List (List Command))
     → count < MOST_ACTORS → Body layout servers (actors ++ [] ∷ []) (count + 1) blocks bytes
 actor_more layout servers actors count blocks bytes body room =
     let same : puts_in (actors ++ [] ∷ []) ≡ puts_in actors = ap (filter_map len_put)
-        (flat_push actors [] ∙ append-nil (flat_map (λ commands. commands) actors)) in
+    (flat_push actors [] ∙ append-nil (flat_map (λ commands. commands) actors)) in
     record {
       counted = omega (arith, length-append actors ([] ∷ []), body.counted);
       few = omega (arith, room);
@@ -108,7 +108,7 @@ one_put_of : (layout : Shape) (command : Command) → 1 ≤ layout.s → 1 ≤ l
     → OnePut layout command
 one_put_of layout command stripe rows (inl some) =
     let all : filter_map len_put (command ∷ []) ≡ put_len command ∷ [] =
-        ap (λ put. cons_option put []) some in
+    ap (λ put. cons_option put []) some in
     record {
       few = λ small. subst (Each (λ len. blocks_in layout len ≤ MOST_BLOCKS_OF_PUT)) (sym all)
           (small, tt);
@@ -141,14 +141,14 @@ one_put layout command stripe rows = one_put_of layout command stripe rows (put_
 -- the puts of actors with a command more
 pub puts_more : (front : List (List Command)) (last : List Command) (command : Command)
     → puts_in (front ++ (last ++ command ∷ []) ∷ [])
-        ≡ puts_in (front ++ last ∷ []) ++ filter_map len_put (command ∷ [])
+    ≡ puts_in (front ++ last ∷ []) ++ filter_map len_put (command ∷ [])
 puts_more front last command =
     ap (filter_map len_put)
     (flat_push front (last ++ command ∷ [])
     ∙ sym (append_assoc (flat_map (λ commands. commands) front) last (command ∷ []))
     ∙ ap (λ all. all ++ command ∷ []) (sym (flat_push front last)))
     ∙ filter_map-append len_put (flat_map (λ commands. commands) (front ++ last ∷ []))
-        (command ∷ [])
+    (command ∷ [])
 
 module _ (layout : Shape) (servers : ℕ) (front : List (List Command)) (last : List Command)
     (command : Command) (count blocks bytes : ℕ) where
@@ -168,41 +168,48 @@ module _ (layout : Shape) (servers : ℕ) (front : List (List Command)) (last : 
   pub command_more : 1 ≤ layout.s → 1 ≤ layout.r → Body layout servers before count blocks bytes
       → IsCommand servers command → Keeps
       → Body layout servers after count (blocks + blocks_in layout (put_len command))
-          (bytes + chunk_bytes_of layout (put_len command))
+      (bytes + chunk_bytes_of layout (put_len command))
   command_more stripe rows body is keeps =
       let one = one_put layout command stripe rows in
       let puts = puts_more front last command in
       let Few : List Command → Type 0 = λ commands. length commands ≤ MOST_COMMANDS in
       let InRange : List Command → Type 0 = Each (IsCommand servers) in
       record {
-        counted = omega (arith, length-append front (last ∷ []), length-append front
-            ((last ++ command ∷ []) ∷ []), body.counted);
+        counted = omega (
+          arith,
+          length-append front (last ∷ []),
+          length-append front
+              ((last ++ command ∷ []) ∷ []),
+          body.counted,
+        );
         few = body.few;
         few_commands =
             each_append Few front ((last ++ command ∷ []) ∷ [])
-                (each_front Few front (last ∷ []) body.few_commands)
+            (each_front Few front (last ∷ []) body.few_commands)
             (omega (arith, length-append last (command ∷ []), keeps.few_commands), tt);
         commands =
             each_append InRange front ((last ++ command ∷ []) ∷ [])
-                (each_front InRange front (last ∷ []) body.commands)
-            (each_append (IsCommand servers) last (command ∷ [])
-                (each_back InRange front (last ∷ []) body.commands).0 (is, tt), tt);
+            (each_front InRange front (last ∷ []) body.commands) (
+              each_append (IsCommand servers) last (command ∷ [])
+                  (each_back InRange front (last ∷ []) body.commands).0 (is, tt),
+              tt,
+            );
         blocks_of_put =
             subst (Each (λ len. blocks_in layout len ≤ MOST_BLOCKS_OF_PUT)) (sym puts)
             (each_append (λ len. blocks_in layout len ≤ MOST_BLOCKS_OF_PUT) (puts_in before)
-                (filter_map len_put (command ∷ [])) body.blocks_of_put (one.few keeps.few_of_put));
+            (filter_map len_put (command ∷ [])) body.blocks_of_put (one.few keeps.few_of_put));
         blocks_are =
             ap (sum_by (blocks_in layout)) puts
             ∙ sum_by-append (blocks_in layout) (puts_in before) (filter_map len_put (command ∷ []))
             ∙ joined (sum_by (blocks_in layout) (puts_in before)) blocks _ _ body.blocks_are
-                one.blocks;
+            one.blocks;
         few_blocks = keeps.few_blocks;
         bytes_are =
             ap (sum_by (chunk_bytes_in layout)) puts
             ∙ sum_by-append (chunk_bytes_in layout) (puts_in before)
-                (filter_map len_put (command ∷ []))
+            (filter_map len_put (command ∷ []))
             ∙ joined (sum_by (chunk_bytes_in layout) (puts_in before)) bytes _ _ body.bytes_are
-                one.bytes;
+            one.bytes;
         few_bytes = keeps.few_bytes;
       }
     where

@@ -23,7 +23,7 @@ sum_equal term each last from zero same ends =
 sum_equal term each last from (suc count) same ends =
     let first : term from ≡ each = same from (omega arith) (omega arith) in
     let rest = sum_equal term each last (from + 1) count
-        (λ k above below. same k (omega arith) (omega arith)) (ap term (moved from count) ∙ ends) in
+    (λ k above below. same k (omega arith) (omega arith)) (ap term (moved from count) ∙ ends) in
     sum_by-cons term from (range_with_len (from + 1) (suc count)) ∙ grind (arith, first, rest)
   where
     moved : (a b : ℕ) → a + 1 + b ≡ a + suc b
@@ -36,7 +36,7 @@ all_equal term each from zero same = omega arith
 all_equal term each from (suc count) same =
     let first : term from ≡ each = same from (omega arith) (omega arith) in
     let rest = all_equal term each (from + 1) count
-        (λ k above below. same k (omega arith) (omega arith)) in
+    (λ k above below. same k (omega arith) (omega arith)) in
     sum_by-cons term from (range_with_len (from + 1) count) ∙ grind (arith, first, rest)
 
 -- ---- whole blocks, and what is left
@@ -84,10 +84,14 @@ module _ (layout : Shape) (len : ℕ) (stripe : 1 ≤ layout.s) (some : 1 ≤ la
   of_last =
       let here : 0 + len / block ≡ len / block = omega arith in
       let left : min (len - len / block * block) block ≡ len % block =
-      omega (arith, mod-eq-sub-div-mul len block, mod-lt len
-          (wide_block layout.s layout.r stripe some)) in
+      omega (
+        arith,
+        mod-eq-sub-div-mul len block,
+        mod-lt len
+            (wide_block layout.s layout.r stripe some),
+      ) in
       ap (chunk_bytes_of_block layout len) here
-          ∙ ap (λ bytes. SLOTS * (div_ceil bytes row * layout.s)) left
+      ∙ ap (λ bytes. SLOTS * (div_ceil bytes row * layout.s)) left
 
   in_whole_blocks : len % block ≡ 0 → chunk_bytes_in layout len ≡ chunk_bytes_of layout len
   in_whole_blocks none =

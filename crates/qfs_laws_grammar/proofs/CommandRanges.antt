@@ -67,7 +67,7 @@ module _ (servers : ℕ) where
   unfolding path_command
   path_commands command are words =
       words_then Is (one_word words) _
-          (λ word. gives Path Is (path_in word) _ (path_gives word) are)
+      (λ word. gives Path Is (path_in word) _ (path_gives word) are)
 
   bare_commands : (command : Command) → Is command → (words : Words)
       → IfOk (bare_command command words) Is
@@ -80,7 +80,7 @@ module _ (servers : ℕ) where
   unfolding budget_command
   budget_commands command are words =
       words_then Is (one_word words) _
-          (λ word. gives IsBudget Is (budget_in word) _ (budget_gives word) are)
+      (λ word. gives IsBudget Is (budget_in word) _ (budget_gives word) are)
 
   server_commands : (command : ℕ → Command)
       → ((server : ℕ) → IsFromOne servers server → Is (command server)) → (words : Words)
@@ -88,8 +88,8 @@ module _ (servers : ℕ) where
   unfolding server_command
   server_commands command are words =
       words_then Is (one_word words) _
-          (λ word. gives (IsFromOne servers) Is (server_in servers word) _
-          (server_gives servers word) are)
+      (λ word. gives (IsFromOne servers) Is (server_in servers word) _
+      (server_gives servers word) are)
 
   rename_commands : (words : Words) → IfOk (rename_command words) Is
   unfolding rename_command
@@ -97,7 +97,7 @@ module _ (servers : ℕ) where
       words_then Is (two_words words) _
       (λ words. gives Path Is (path_in words.0) _ (path_gives words.0)
       (λ from is_from. gives Path Is (path_in words.1) _ (path_gives words.1)
-          (λ to is_to. (is_from, is_to))))
+      (λ to is_to. (is_from, is_to))))
 
   whole_gets : (word : List ℕ) → IfOk (get_whole word) Is
   unfolding get_whole
@@ -146,7 +146,7 @@ module _ (servers : ℕ) where
       words_then Is (two_words words) _
       (λ words. gives Path Is (path_in path) _ (path_gives path)
       (λ names is. gives (IsIn 0 LAST_U32) Is (number_in 0 LAST_U32 words.0) _
-          (number_gives 0 LAST_U32 words.0)
+      (number_gives 0 LAST_U32 words.0)
       (λ start fits. gives (λ len. len ≤ MOST_FILE_BYTES) Is (len_in words.1) _ (len_gives words.1)
       (λ len few. (is, few, omega (arith, fits.1))))))
 
@@ -171,7 +171,7 @@ module _ (servers : ℕ) where
       (λ words. gives Path Is (path_in words.0) _ (path_gives words.0)
       (λ path is. gives IsIndex Is (index_in words.1) _ (index_gives words.1)
       (λ index low. gives IsSlot Is (slot_in words.2) _ (slot_gives words.2)
-          (λ slot few. (is, low, few)))))
+      (λ slot few. (is, low, few)))))
 
   move_commands : (words : Words) → IfOk (move_command servers words) Is
   unfolding move_command
@@ -181,7 +181,7 @@ module _ (servers : ℕ) where
       (λ path is. gives IsIndex Is (index_in words.1) _ (index_gives words.1)
       (λ index low. gives IsSlot Is (slot_in words.2) _ (slot_gives words.2)
       (λ slot few. gives (IsFromOne servers) Is (server_in servers words.3) _
-          (server_gives servers words.3)
+      (server_gives servers words.3)
       (λ server there. (is, low, few, there))))))
 
   evacuate_commands : (words : Words) → IfOk (evacuate_command servers words) Is
@@ -189,25 +189,25 @@ module _ (servers : ℕ) where
   evacuate_commands words =
       words_then Is (two_words words) _
       (λ words. gives (IsFromOne servers) Is (server_in servers words.0) _
-          (server_gives servers words.0)
+      (server_gives servers words.0)
       (λ server there. gives IsBudget Is (budget_in words.1) _ (budget_gives words.1)
-          (λ budget few. (there, few))))
+      (λ budget few. (there, few))))
 
   hibernate_commands : (words : Words) → IfOk (hibernate_command servers words) Is
   unfolding hibernate_command
   hibernate_commands words =
       words_then Is (two_words words) _
       (λ words. gives (IsFromOne servers) Is (server_in servers words.0) _
-          (server_gives servers words.0)
+      (server_gives servers words.0)
       (λ server there. gives IsTicks Is (number_in 1 MOST_TICKS words.1) _
-          (number_gives 1 MOST_TICKS words.1) (λ ticks few. (there, few))))
+      (number_gives 1 MOST_TICKS words.1) (λ ticks few. (there, few))))
 
   drop_commands : (words : Words) → IfOk (drop_command words) Is
   unfolding drop_command
   drop_commands words =
       words_then Is (one_word words) _
       (λ word. gives IsActorNumber Is (number_in 1 MOST_ACTORS word) _
-          (number_gives 1 MOST_ACTORS word) (λ actor there. there))
+      (number_gives 1 MOST_ACTORS word) (λ actor there. there))
 
   pub command_gives : (word : CommandWord) (words : Words) → IfOk (command_of servers word words) Is
   unfolding command_of

@@ -22,16 +22,16 @@ first_gives : (place : LinePlace) (word : List ℕ)
 unfolding first_in
 first_gives place word =
     gives (λ first. ⊤) (λ first. may_stand place first ≡ true) (ok_or (first_word word) Cause.Word)
-        _ (gives_any (ok_or (first_word word) Cause.Word))
+    _ (gives_any (ok_or (first_word word) Cause.Word))
     (λ first known. gives_kept (λ first. may_stand place first ≡ true) (may_stand place first)
-        Cause.Word first (λ stands. stands))
+    Cause.Word first (λ stands. stands))
 
 more_sound : (so : SoFar) (word : List ℕ) (words : Words) → Sound so
     → IfOk (first_and_more so word words) Sound
 unfolding first_and_more
 more_sound so word words sound =
     gives (λ first. may_stand so.place first ≡ true) Sound (first_in so.place word) _
-        (first_gives so.place word)
+    (first_gives so.place word)
     (λ first stands. line_sound so first words sound stands)
 
 either : (test : Bool) (first second : Said SoFar) → IfOk first Sound → IfOk second Sound
@@ -50,9 +50,9 @@ read_sound : (so : SoFar) (number : ℕ) (line : List ℕ) → Sound so
 unfolding read_line
 read_sound so number line sound =
     gives (λ text. ⊤) Sound (if_kept (is_text line) Cause.NotText line) _
-        (gives_any (if_kept (is_text line) Cause.NotText line))
+    (gives_any (if_kept (is_text line) Cause.NotText line))
     (λ text known. gives Sound Sound (read_words so (line_words text)) _
-        (words_sound so (line_words text) sound)
+    (words_sound so (line_words text) sound)
     (λ next holds. gives_kept Sound (nat_le number MOST_LINES) Cause.Limit next (λ few. holds)))
 
 -- ---- all lines
@@ -68,7 +68,7 @@ unfolding read_lines
 lines_sound so number [] sound = sound
 lines_sound so number (line ∷ lines) sound =
     gives Sound Sound (at_line number (read_line so number line)) _
-        (at_its_line Sound number (read_line so number line) (read_sound so number line sound))
+    (at_its_line Sound number (read_line so number line) (read_sound so number line sound))
     (λ next holds. lines_sound next (number + 1) lines holds)
 
 some_order : (replays : Bool) (order : Option (List Step)) → not (replays && is_none order) ≡ true
@@ -83,13 +83,16 @@ ended replays so sound = at_end (may_be_last so.place) refl
   where
     at_end : (last : Bool) → may_be_last so.place ≡ last
         → IfOk (if_kept last Cause.Word so.script >>=
-            (λ ended. if_kept (not (replays && is_none ended.order)) Cause.NoOrder ended))
-            (IsRead replays)
+        (λ ended. if_kept (not (replays && is_none ended.order)) Cause.NoOrder ended))
+        (IsRead replays)
     at_end true is =
         gives_kept (IsRead replays) (not (replays && is_none so.script.order)) Cause.NoOrder
-            so.script
-        (λ tested. record { is_script = script_of so sound is; order =
-            some_order replays so.script.order tested })
+        so.script
+        (λ tested. record {
+          is_script = script_of so sound is;
+          order =
+              some_order replays so.script.order tested;
+        })
     at_end false is = tt
 
 lines_give : (replays : Bool) (lines : List (List ℕ))
@@ -97,15 +100,15 @@ lines_give : (replays : Bool) (lines : List (List ℕ))
 unfolding script_of_lines
 lines_give replays lines =
     gives Sound (IsRead replays) (read_lines nothing_yet 1 lines) _
-        (lines_sound nothing_yet 1 lines sound_start)
+    (lines_sound nothing_yet 1 lines sound_start)
     (λ so sound. at_its_line (IsRead replays) (length lines + 1) (whole_script replays so)
-        (ended replays so sound))
+    (ended replays so sound))
 
 text_gives : (replays : Bool) (text : List ℕ) → IfOk (read_script replays text) (IsRead replays)
 unfolding read_script
 text_gives replays text =
     gives (λ small. ⊤) (IsRead replays)
-        (at_line 0 (if_kept (nat_le (length text) MOST_TEXT_BYTES) Cause.TooBig text)) _
+    (at_line 0 (if_kept (nat_le (length text) MOST_TEXT_BYTES) Cause.TooBig text)) _
     (gives_any (at_line 0 (if_kept (nat_le (length text) MOST_TEXT_BYTES) Cause.TooBig text)))
     (λ small known. lines_give replays (text_lines small))
 

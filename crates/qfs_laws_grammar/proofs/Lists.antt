@@ -17,7 +17,7 @@ module _ {X : Type 0} where
 
   behind_first : (change : X → X) (first : X) (items : List X) (last : X)
       → change_last change (first ∷ items ++ last ∷ []) ≡ first ∷ change_last change
-          (items ++ last ∷ [])
+      (items ++ last ∷ [])
   behind_first change first [] last = refl
   behind_first change first (item ∷ items) last = refl
 
@@ -32,7 +32,7 @@ module _ {X : Type 0} where
       ≡ flat_map (λ xs. xs) lists ++ last
   flat_push lists last =
       flat_map-append (λ (xs : List X). xs) lists (last ∷ [])
-          ∙ ap (λ more. flat_map (λ xs. xs) lists ++ more) (append-nil last)
+      ∙ ap (λ more. flat_map (λ xs. xs) lists ++ more) (append-nil last)
 
   -- a list that isn't empty has a last item
   pub record Ends (items : List X) : Type 0 where
@@ -41,8 +41,12 @@ module _ {X : Type 0} where
     pub is : items ≡ front ++ last ∷ []
 
   ends_behind : (first : X) (items : List X) → Ends items → Ends (first ∷ items)
-  ends_behind first items ends = record { front = first ∷ ends.front; last = ends.last; is =
-      ap (λ more. first ∷ more) ends.is }
+  ends_behind first items ends = record {
+    front = first ∷ ends.front;
+    last = ends.last;
+    is =
+        ap (λ more. first ∷ more) ends.is;
+  }
 
   pub ends : (items : List X) → 1 ≤ length items → Ends items
   ends [] some = absurd (omega arith)

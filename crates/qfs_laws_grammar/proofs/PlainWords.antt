@@ -43,7 +43,7 @@ no_blank : (word : List ℕ) → Each IsVisible word → All (λ byte. is_blank 
 no_blank word each =
     each_all (λ byte. is_blank byte ≡ false) word
     (each_weaker IsVisible (λ byte. is_blank byte ≡ false)
-        (λ byte is. ne_eqb byte 32 (λ same. omega (arith, same, is.0))) word each)
+    (λ byte is. ne_eqb byte 32 (λ same. omega (arith, same, is.0))) word each)
 
 split_words : (word : List ℕ) (words : Words) → IsPlain word → Each IsPlain words
     → slice_split is_blank (word ++ more_words words) ≡ word ∷ words
@@ -86,9 +86,11 @@ of_word word is = each_weaker IsVisible IsLineByte
 
 of_words : (words : Words) → Each IsPlain words → Each IsLineByte (more_words words)
 of_words [] are = tt
-of_words (word ∷ words) are =
-    ((omega arith, omega arith), each_append IsLineByte word (more_words words) (of_word word are.0)
-        (of_words words are.1))
+of_words (word ∷ words) are = (
+  (omega arith, omega arith),
+  each_append IsLineByte word (more_words words) (of_word word are.0)
+      (of_words words are.1),
+)
 
 line_bytes : (word : List ℕ) (words : Words) → IsPlain word → Each IsPlain words
     → Each IsLineByte (word ++ more_words words)
@@ -116,7 +118,7 @@ pub line_has_no_end : (word : List ℕ) (words : Words) → IsPlain word → Eac
 line_has_no_end word words is are =
     each_all (λ byte. is_line_end byte ≡ false) (word ++ more_words words)
     (each_weaker IsLineByte (λ byte. is_line_end byte ≡ false)
-        (λ byte in_line. ne_eqb byte 10 (λ same. omega (arith, same, in_line.0)))
+    (λ byte in_line. ne_eqb byte 10 (λ same. omega (arith, same, in_line.0)))
     (word ++ more_words words) (line_bytes word words is are))
 
 -- each of these lines with its end

@@ -103,17 +103,17 @@ server_says : (servers : ℕ) (command : ℕ → Command) (server : ℕ) → ser
 unfolding server_command one_word
 server_says servers command server fits is =
     on (server_in servers (decimal server)) server (λ server. Ok (command server))
-        (server_back servers server fits is)
+    (server_back servers server fits is)
 
 rename_says : (from to : PathNames) → IsPath from → IsPath to
     → rename_command (path_text from ∷ path_text to ∷ []) ≡ Ok (Does.File (File.Rename from to))
 unfolding rename_command two_words
 rename_says from to is_from is_to =
     on (path_in (path_text from)) from
-        (λ from. path_in (path_text to) >>= (λ to. Ok (Does.File (File.Rename from to))))
-        (path_back from is_from)
+    (λ from. path_in (path_text to) >>= (λ to. Ok (Does.File (File.Rename from to))))
+    (path_back from is_from)
     ∙ on (path_in (path_text to)) to (λ to. Ok (Does.File (File.Rename from to)))
-        (path_back to is_to)
+    (path_back to is_to)
 
 whole_says : (path : PathNames) → IsPath path
     → get_command (path_text path ∷ []) ≡ Ok (Does.File (File.Get path None))
@@ -123,114 +123,114 @@ whole_says path is = on (path_in (path_text path)) path
 
 range_says : (path : PathNames) (range : Range) → IsPath path → IsRange range
     → get_command (path_text path ∷ decimal range.from ∷ decimal range.count ∷ [])
-        ≡ Ok (Does.File (File.Get path (Some range)))
+    ≡ Ok (Does.File (File.Get path (Some range)))
 unfolding get_command get_range
 range_says path range is within =
     let last = λ (path : PathNames) (from count : ℕ). Ok
-        (Does.File (File.Get path (Some (record { from = from; count = count })))) in
+    (Does.File (File.Get path (Some (record { from = from; count = count })))) in
     on (path_in (path_text path)) path
-        (λ path. len_in (decimal range.from) >>=
-        (λ from. len_in (decimal range.count) >>= (λ count. last path from count)))
-        (path_back path is)
+    (λ path. len_in (decimal range.from) >>=
+    (λ from. len_in (decimal range.count) >>= (λ count. last path from count)))
+    (path_back path is)
     ∙ on (len_in (decimal range.from)) range.from
-        (λ from. len_in (decimal range.count) >>= (λ count. last path from count))
-        (len_back range.from within.0)
+    (λ from. len_in (decimal range.count) >>= (λ count. last path from count))
+    (len_back range.from within.0)
     ∙ on (len_in (decimal range.count)) range.count (λ count. last path range.from count)
-        (len_back range.count within.1)
+    (len_back range.count within.1)
 
 put_says : (path : PathNames) (recipe : Form) → IsPath path → IsRecipe recipe → HasBytes recipe
     → put_command (path_text path ∷ recipe_words recipe) ≡ Ok (Does.File (File.Put path recipe))
 unfolding put_command recipe_words hex_put fill_put pattern_put one_word two_words
 put_says path (Told.Hex bytes) is few are =
     on (path_in (path_text path)) path (λ path. bytes_in 1 32 (encode_lower bytes) >>=
-        (λ bytes. Ok (Does.File (File.Put path (Told.Hex bytes))))) (path_back path is)
+    (λ bytes. Ok (Does.File (File.Put path (Told.Hex bytes))))) (path_back path is)
     ∙ on (bytes_in 1 32 (encode_lower bytes)) bytes
-        (λ bytes. Ok (Does.File (File.Put path (Told.Hex bytes))))
-        (bytes_back 1 32 bytes are few.0 few.1)
+    (λ bytes. Ok (Does.File (File.Put path (Told.Hex bytes))))
+    (bytes_back 1 32 bytes are few.0 few.1)
 put_says path (Told.Fill byte len) is few are =
     let last = λ (path : PathNames) (bytes : List ℕ) (len : ℕ). Ok
-        (Does.File (File.Put path (Told.Fill (slice_index bytes 0) len))) in
+    (Does.File (File.Put path (Told.Fill (slice_index bytes 0) len))) in
     on (path_in (path_text path)) path (λ path. bytes_in 1 1 (encode_lower (byte ∷ [])) >>=
-        (λ bytes. len_in (decimal len) >>= (λ len. last path bytes len))) (path_back path is)
+    (λ bytes. len_in (decimal len) >>= (λ len. last path bytes len))) (path_back path is)
     ∙ on (bytes_in 1 1 (encode_lower (byte ∷ []))) (byte ∷ [])
-        (λ bytes. len_in (decimal len) >>= (λ len. last path bytes len))
-        (bytes_back 1 1 (byte ∷ []) (are, tt) (omega arith) (omega arith))
+    (λ bytes. len_in (decimal len) >>= (λ len. last path bytes len))
+    (bytes_back 1 1 (byte ∷ []) (are, tt) (omega arith) (omega arith))
     ∙ on (len_in (decimal len)) len (λ len. last path (byte ∷ []) len) (len_back len few)
 put_says path (Told.Pattern start len) is few are =
     let last = λ (path : PathNames) (start len : ℕ). Ok
-        (Does.File (File.Put path (Told.Pattern start len))) in
+    (Does.File (File.Put path (Told.Pattern start len))) in
     on (path_in (path_text path)) path (λ path. number_in 0 LAST_U32 (decimal start) >>=
-        (λ start. len_in (decimal len) >>= (λ len. last path start len))) (path_back path is)
+    (λ start. len_in (decimal len) >>= (λ len. last path start len))) (path_back path is)
     ∙ on (number_in 0 LAST_U32 (decimal start)) start
-        (λ start. len_in (decimal len) >>= (λ len. last path start len))
-        (number_back 0 LAST_U32 start (omega (arith, are)) (omega arith) (omega (arith, are)))
+    (λ start. len_in (decimal len) >>= (λ len. last path start len))
+    (number_back 0 LAST_U32 start (omega (arith, are)) (omega arith) (omega (arith, are)))
     ∙ on (len_in (decimal len)) len (λ len. last path start len) (len_back len few)
 
 recover_says : (path : PathNames) (index slot : ℕ) → IsPath path → IsIndex index → IsSlot slot
     → recover_command (path_text path ∷ decimal index ∷ decimal slot ∷ [])
-        ≡ Ok (Does.Recover path index slot)
+    ≡ Ok (Does.Recover path index slot)
 unfolding recover_command three_words
 recover_says path index slot is low few =
     on (path_in (path_text path)) path
-        (λ path. index_in (decimal index) >>=
-        (λ index. slot_in (decimal slot) >>= (λ slot. Ok (Does.Recover path index slot))))
-        (path_back path is)
+    (λ path. index_in (decimal index) >>=
+    (λ index. slot_in (decimal slot) >>= (λ slot. Ok (Does.Recover path index slot))))
+    (path_back path is)
     ∙ on (index_in (decimal index)) index
-        (λ index. slot_in (decimal slot) >>= (λ slot. Ok (Does.Recover path index slot)))
-        (index_back index low)
+    (λ index. slot_in (decimal slot) >>= (λ slot. Ok (Does.Recover path index slot)))
+    (index_back index low)
     ∙ on (slot_in (decimal slot)) slot (λ slot. Ok (Does.Recover path index slot))
-        (slot_back slot few)
+    (slot_back slot few)
 
 move_says : (servers : ℕ) (path : PathNames) (index slot server : ℕ) → servers < 2 ^ 64
     → IsPath path → IsIndex index → IsSlot slot → IsFromOne servers server
     → move_command servers (path_text path ∷ decimal index ∷ decimal slot ∷ decimal server ∷ [])
-        ≡ Ok (Does.Move path index slot server)
+    ≡ Ok (Does.Move path index slot server)
 unfolding move_command four_words
 move_says servers path index slot server fits is low few there =
     let last = λ (path : PathNames) (index slot server : ℕ). Ok (Does.Move path index slot server)
-        in
+    in
     on (path_in (path_text path)) path
-        (λ path. index_in (decimal index) >>=
-        (λ index. slot_in (decimal slot) >>= (λ slot. server_in servers (decimal server) >>=
-        (λ server. last path index slot server)))) (path_back path is)
+    (λ path. index_in (decimal index) >>=
+    (λ index. slot_in (decimal slot) >>= (λ slot. server_in servers (decimal server) >>=
+    (λ server. last path index slot server)))) (path_back path is)
     ∙ on (index_in (decimal index)) index
-        (λ index. slot_in (decimal slot) >>= (λ slot. server_in servers (decimal server) >>=
-        (λ server. last path index slot server))) (index_back index low)
+    (λ index. slot_in (decimal slot) >>= (λ slot. server_in servers (decimal server) >>=
+    (λ server. last path index slot server))) (index_back index low)
     ∙ on (slot_in (decimal slot)) slot (λ slot. server_in servers (decimal server) >>=
-        (λ server. last path index slot server)) (slot_back slot few)
+    (λ server. last path index slot server)) (slot_back slot few)
     ∙ on (server_in servers (decimal server)) server (λ server. last path index slot server)
-        (server_back servers server fits there)
+    (server_back servers server fits there)
 
 evacuate_says : (servers server budget : ℕ) → servers < 2 ^ 64 → IsFromOne servers server
     → IsBudget budget
     → evacuate_command servers (decimal server ∷ decimal budget ∷ [])
-        ≡ Ok (Does.Evacuate server budget)
+    ≡ Ok (Does.Evacuate server budget)
 unfolding evacuate_command two_words
 evacuate_says servers server budget fits there few =
     on (server_in servers (decimal server)) server
-        (λ server. budget_in (decimal budget) >>= (λ budget. Ok (Does.Evacuate server budget)))
-        (server_back servers server fits there)
+    (λ server. budget_in (decimal budget) >>= (λ budget. Ok (Does.Evacuate server budget)))
+    (server_back servers server fits there)
     ∙ on (budget_in (decimal budget)) budget (λ budget. Ok (Does.Evacuate server budget))
-        (budget_back budget few)
+    (budget_back budget few)
 
 hibernate_says : (servers server ticks : ℕ) → servers < 2 ^ 64 → IsFromOne servers server
     → IsTicks ticks
     → hibernate_command servers (decimal server ∷ decimal ticks ∷ [])
-        ≡ Ok (Does.Hibernate server ticks)
+    ≡ Ok (Does.Hibernate server ticks)
 unfolding hibernate_command two_words
 hibernate_says servers server ticks fits there few =
     on (server_in servers (decimal server)) server
-        (λ server. number_in 1 MOST_TICKS (decimal ticks) >>=
-        (λ ticks. Ok (Does.Hibernate server ticks))) (server_back servers server fits there)
+    (λ server. number_in 1 MOST_TICKS (decimal ticks) >>=
+    (λ ticks. Ok (Does.Hibernate server ticks))) (server_back servers server fits there)
     ∙ on (number_in 1 MOST_TICKS (decimal ticks)) ticks (λ ticks. Ok (Does.Hibernate server ticks))
-        (number_back 1 MOST_TICKS ticks (omega (arith, few.1)) few.0 few.1)
+    (number_back 1 MOST_TICKS ticks (omega (arith, few.1)) few.0 few.1)
 
 drop_says : (actor : ℕ) → IsActorNumber actor
     → drop_command (decimal actor ∷ []) ≡ Ok (Does.Drop actor)
 unfolding drop_command one_word
 drop_says actor is =
     on (number_in 1 MOST_ACTORS (decimal actor)) actor (λ actor. Ok (Does.Drop actor))
-        (number_back 1 MOST_ACTORS actor (omega (arith, is.1)) is.0 is.1)
+    (number_back 1 MOST_ACTORS actor (omega (arith, is.1)) is.0 is.1)
 
 bare_says : (command : Command) → bare_command command [] ≡ Ok command
 unfolding bare_command no_word
@@ -242,13 +242,20 @@ plain_recipe : (recipe : Form) → IsRecipe recipe → HasBytes recipe
     → Each IsPlain (recipe_words recipe)
 unfolding recipe_words
 plain_recipe (Told.Hex bytes) few are = (plain (codes "hex") refl, (plain_hex bytes few.0 are, tt))
-plain_recipe (Told.Fill byte len) few are =
-    (plain (codes "fill") refl, (plain_hex (byte ∷ []) (omega arith) (are, tt),
-        (plain_to MOST_FILE_BYTES len few (omega arith), tt)))
-plain_recipe (Told.Pattern start len) few are =
-    (plain (codes "pattern") refl,
-        (plain_number start (omega (arith, are)),
-        (plain_to MOST_FILE_BYTES len few (omega arith), tt)))
+plain_recipe (Told.Fill byte len) few are = (
+  plain (codes "fill") refl,
+  (
+    plain_hex (byte ∷ []) (omega arith) (are, tt),
+    (plain_to MOST_FILE_BYTES len few (omega arith), tt),
+  ),
+)
+plain_recipe (Told.Pattern start len) few are = (
+  plain (codes "pattern") refl,
+  (
+    plain_number start (omega (arith, are)),
+    (plain_to MOST_FILE_BYTES len few (omega arith), tt),
+  ),
+)
 
 -- ---- each command
 
@@ -332,8 +339,13 @@ file_told servers (File.Get path (Some range)) is = record {
   kind = Word.Get;
   is = refl;
   spelled = spelled (codes "get") (First.Command Word.Get) (plain (codes "get") refl) refl refl;
-  plain = (plain_path path is.0, (plain_to MOST_FILE_BYTES range.from is.1.0 (omega arith),
-      (plain_to MOST_FILE_BYTES range.count is.1.1 (omega arith), tt)));
+  plain = (
+    plain_path path is.0,
+    (
+      plain_to MOST_FILE_BYTES range.from is.1.0 (omega arith),
+      (plain_to MOST_FILE_BYTES range.count is.1.1 (omega arith), tt),
+    ),
+  );
   says = range_says path range is.0 is.1;
 }
 
@@ -359,8 +371,10 @@ module _ (servers : ℕ) (fits : servers < 2 ^ 64) where
     is = refl;
     spelled = spelled (codes "recover") (First.Command Word.Recover) (plain (codes "recover") refl)
         refl refl;
-    plain = (plain_path path is.0,
-        (plain_to LAST_INDEX index is.1 (omega arith), (plain_slot slot is.2, tt)));
+    plain = (
+      plain_path path is.0,
+      (plain_to LAST_INDEX index is.1 (omega arith), (plain_slot slot is.2, tt)),
+    );
     says = recover_says path index slot is.0 is.1 is.2;
   }
   command_told (Does.Move path index slot server) is = record {
@@ -370,9 +384,13 @@ module _ (servers : ℕ) (fits : servers < 2 ^ 64) where
     is = refl;
     spelled = spelled (codes "move") (First.Command Word.Move) (plain (codes "move") refl) refl
         refl;
-    plain = (plain_path path is.0,
-        (plain_to LAST_INDEX index is.1 (omega arith),
-        (plain_slot slot is.2, (plain_server server is.3, tt))));
+    plain = (
+      plain_path path is.0,
+      (
+        plain_to LAST_INDEX index is.1 (omega arith),
+        (plain_slot slot is.2, (plain_server server is.3, tt)),
+      ),
+    );
     says = move_says servers path index slot server fits is.0 is.1 is.2 is.3;
   }
   command_told (Does.Heal budget) is = record {

@@ -57,7 +57,7 @@ digit_first byte front rest is apart = record {
   where
     first : (test : Bool) → test ≡ true
         → take (cond test (1 + prefix_len is_digit (front ++ rest)) 0) (byte ∷ front ++ rest)
-            ≡ byte ∷ take_while is_digit (front ++ rest)
+        ≡ byte ∷ take_while is_digit (front ++ rest)
     first true passes = ap (λ n. take n (byte ∷ front ++ rest))
         (next (prefix_len is_digit (front ++ rest)))
       where
@@ -70,7 +70,7 @@ digits_apart : (front rest : List ℕ) → Each IsDigit front → take_while is_
 digits_apart [] rest each none = no_digit rest none
 digits_apart (byte ∷ front) rest each none =
     digit_first byte front rest (and_from _ _ (le-leb _ _ each.0.0) (le-leb _ _ each.0.1))
-        (digits_apart front rest each.1 none)
+    (digits_apart front rest each.1 none)
 
 mark_first : (outcome : Outcome) (count : ℕ) → take_while is_digit (behind outcome count) ≡ []
 unfolding outcome_mark
@@ -82,8 +82,8 @@ no_times : (count : ℕ) → count < 2 ^ 64 → All (λ byte. is_times byte ≡ 
 no_times count small =
     each_all (λ byte. is_times byte ≡ false) (decimal count)
     (each_weaker IsDigit (λ byte. is_times byte ≡ false)
-        (λ byte digit. ne_eqb byte 120 (λ same. omega (arith, same, digit.1))) (decimal count)
-        (digits_of count small))
+    (λ byte digit. ne_eqb byte 120 (λ same. omega (arith, same, digit.1))) (decimal count)
+    (digits_of count small))
 
 no_times_in_mark : (outcome : Outcome) → All (λ byte. is_times byte ≡ false) (outcome_mark outcome)
 unfolding outcome_mark
@@ -95,9 +95,9 @@ parts_are : (outcome : Outcome) (count : ℕ) → count < 2 ^ 64
     → slice_split is_times (behind outcome count) ≡ outcome_mark outcome ∷ decimal count ∷ []
 parts_are outcome count small =
     slice_split_at is_times (outcome_mark outcome) 120 (decimal count) (no_times_in_mark outcome)
-        refl
+    refl
     ∙ ap (λ more. outcome_mark outcome ∷ more)
-        (slice_split_none is_times (decimal count) (no_times count small))
+    (slice_split_none is_times (decimal count) (no_times count small))
 
 mark_back : (outcome : Outcome) → outcome_of_mark (outcome_mark outcome) ≡ Some outcome
 unfolding outcome_of_mark outcome_mark
@@ -112,26 +112,29 @@ pub record Fits (step : Step) (count : ℕ) : Type 0 where
   pub few : count ≤ LONGEST_RUN
 
 abbrev made : ℕ → Outcome → ℕ → StepRun
-made actor outcome count = record { step = record { actor = actor; outcome = outcome }; count =
-    count }
+made actor outcome count = record {
+  step = record { actor = actor; outcome = outcome };
+  count =
+      count;
+}
 
 parts_say : (step : Step) (count : ℕ) → Fits step count
     → run_of (decimal step.actor) (outcome_mark step.outcome ∷ decimal count ∷ [])
-        ≡ Ok (record { step = step; count = count })
+    ≡ Ok (record { step = step; count = count })
 unfolding run_of
 parts_say step count fits =
     let said = λ (actor : ℕ). ok_or (outcome_of_mark (outcome_mark step.outcome)) Cause.Number
     >>= (λ outcome. number_in 1 LONGEST_RUN (decimal count) >>=
-        (λ count. Ok (made actor outcome count))) in
+    (λ count. Ok (made actor outcome count))) in
     on (number_in 1 MOST_ACTORS (decimal step.actor)) step.actor said
-        (number_back 1 MOST_ACTORS step.actor (omega (arith, fits.actor.1)) fits.actor.0
-        fits.actor.1)
+    (number_back 1 MOST_ACTORS step.actor (omega (arith, fits.actor.1)) fits.actor.0
+    fits.actor.1)
     ∙ on (ok_or (outcome_of_mark (outcome_mark step.outcome)) Cause.Number) step.outcome
     (λ outcome. number_in 1 LONGEST_RUN (decimal count) >>=
-        (λ count. Ok (made step.actor outcome count)))
+    (λ count. Ok (made step.actor outcome count)))
     (ap (λ (found : Option Outcome). ok_or found Cause.Number) (mark_back step.outcome))
     ∙ on (number_in 1 LONGEST_RUN (decimal count)) count
-        (λ count. Ok (made step.actor step.outcome count))
+    (λ count. Ok (made step.actor step.outcome count))
     (number_back 1 LONGEST_RUN count (omega (arith, fits.few)) fits.some fits.few)
 
 run_back : (step : Step) (count : ℕ) → Fits step count
@@ -141,11 +144,11 @@ run_back step count fits =
     let front = decimal step.actor in
     let rest = behind step.outcome count in
     let apart = digits_apart front rest (digits_of step.actor (omega (arith, fits.actor.1)))
-        (mark_first step.outcome count) in
+    (mark_first step.outcome count) in
     ap (λ word. run_of (take_while is_digit word)
-        (slice_split is_times (drop (length (take_while is_digit word)) word))) (word_is step count)
+    (slice_split is_times (drop (length (take_while is_digit word)) word))) (word_is step count)
     ∙ ap (λ digits. run_of digits (slice_split is_times (drop (length digits) (front ++ rest))))
-        apart.digits
+    apart.digits
     ∙ ap (λ text. run_of front (slice_split is_times text)) apart.rest_is
     ∙ ap (run_of front) (parts_are step.outcome count (omega (arith, fits.few)))
     ∙ parts_say step count fits
@@ -161,12 +164,15 @@ plain_run step count fits =
     let actor = plain_number step.actor (omega (arith, fits.actor.1)) in
     let counted = plain_number count (omega (arith, fits.few)) in
     subst IsPlain (sym (word_is step count)) (record {
-      some = omega (arith, length-append (decimal step.actor) (behind step.outcome count),
-          actor.some);
+      some = omega (
+        arith,
+        length-append (decimal step.actor) (behind step.outcome count),
+        actor.some,
+      );
       visible =
           each_append IsVisible (decimal step.actor) (behind step.outcome count) actor.visible
           (each_append IsVisible (outcome_mark step.outcome) (120 ∷ decimal count)
-              (visible_mark step.outcome) ((omega arith, omega arith), counted.visible));
+          (visible_mark step.outcome) ((omega arith, omega arith), counted.visible));
     })
 
 -- ---- the runs of an order
@@ -187,9 +193,9 @@ one_run step count fits words steps tells = record {
   found = record { step = step; count = count } ∷ tells.found;
   says =
       on (run_in (run_word step count)) (record { step = step; count = count })
-          (λ run. read_each run_in words >>= (λ runs. Ok (run ∷ runs))) (run_back step count fits)
+      (λ run. read_each run_in words >>= (λ runs. Ok (run ∷ runs))) (run_back step count fits)
       ∙ on (read_each run_in words) tells.found
-          (λ runs. Ok (record { step = step; count = count } ∷ runs)) tells.says;
+      (λ runs. Ok (record { step = step; count = count } ∷ runs)) tells.says;
   stands = ap (λ more. replicate count step ++ more) tells.stands;
 }
 
@@ -222,7 +228,7 @@ tells_next : (more : Bool) (of_run step : Step) (count : ℕ) (steps : List Step
     → Fits of_run count
     → (more ≡ true → step ≡ of_run)
     → Tells words
-        (replicate (if more then count + 1 else 1) (if more then of_run else step) ++ steps)
+    (replicate (if more then count + 1 else 1) (if more then of_run else step) ++ steps)
     → Tells (ends_run more (run_word of_run count) words) (replicate count of_run ++ step ∷ steps)
 tells_next true of_run step count steps words fits same tells =
     subst (Tells words)
@@ -251,7 +257,7 @@ tells_after of_run count (step ∷ steps) fits each =
     tells_next more of_run step count steps _ fits (λ is. (goes_on of_run count step is).same)
     (tells_after (if more then of_run else step) (if more then count + 1 else 1) steps
     (fits_next more of_run step count (λ is. (goes_on of_run count step is).room) fits each.0)
-        each.1)
+    each.1)
 
 pub order_told : (steps : List Step) → Each OfActor steps → Tells (runs steps) steps
 unfolding runs

@@ -41,7 +41,7 @@ pub stripe_back : (stripe : ℕ) → IsStripe stripe → stripe_in (decimal stri
 unfolding stripe_in if_kept
 stripe_back stripe is =
     ap (λ (said : Said ℕ). said >>=
-        (λ stripe. if_kept (is_power_of_two stripe) Cause.Number stripe))
+    (λ stripe. if_kept (is_power_of_two stripe) Cause.Number stripe))
     (number_back 16 65536 stripe (omega (arith, is.1)) is.0 is.1)
     ∙ ap (λ b. if_kept b Cause.Number stripe) is.2
 
@@ -83,15 +83,19 @@ visible_digit k inside = each_all IsVisible lower_digits (plain lower_digits ref
 hex_visible : (bytes : List ℕ) → Each IsByte bytes → Each IsVisible (encode_lower bytes)
 unfolding encode_with
 hex_visible [] are = tt
-hex_visible (byte ∷ bytes) are =
-    (visible_digit (byte / 16) (omega (arith, are.0)),
-        (visible_digit (byte % 16) (omega arith), hex_visible bytes are.1))
+hex_visible (byte ∷ bytes) are = (
+  visible_digit (byte / 16) (omega (arith, are.0)),
+  (visible_digit (byte % 16) (omega arith), hex_visible bytes are.1),
+)
 
 pub plain_hex : (bytes : List ℕ) → 1 ≤ length bytes → Each IsByte bytes
     → IsPlain (encode_lower bytes)
 plain_hex bytes some are =
-    record { some = omega (arith, length-encode_with lower_digits bytes, some); visible =
-    hex_visible bytes are }
+    record {
+      some = omega (arith, length-encode_with lower_digits bytes, some);
+      visible =
+          hex_visible bytes are;
+    }
 
 is_bytes : (bytes : List ℕ) → Each IsByte bytes → IsBytes bytes
 is_bytes [] are k = omega arith
@@ -103,5 +107,5 @@ pub bytes_back : (least most : ℕ) (bytes : List ℕ) → Each IsByte bytes →
 bytes_back least most bytes are low high =
     enough least most (encode_lower bytes) bytes
     (ap (λ (read : Result (List ℕ) FromHexError). ok_or (result_ok read) Cause.Hex)
-        (decode_of-encode_lower bytes (is_bytes bytes are)))
+    (decode_of-encode_lower bytes (is_bytes bytes are)))
     (omega (arith, length-encode_with lower_digits bytes, high)) low

@@ -96,7 +96,7 @@ cost-append : (weight : ℕ → ℕ) (first second : List Command)
     → cost weight (first ++ second) ≡ cost weight first + cost weight second
 cost-append weight first second =
     ap (sum_by weight) (filter_map-append len_put first second)
-        ∙ sum_by-append weight (filter_map len_put first) (filter_map len_put second)
+    ∙ sum_by-append weight (filter_map len_put first) (filter_map len_put second)
 
 -- with one list of commands behind another, as the last actor has them and as a list of actors has
 -- them
@@ -114,19 +114,23 @@ actors_opened : (earlier : Phases) (front : List (List Command)) (last : List Co
     → actors_in (opened earlier front last) ≡ (actors_in earlier ++ front) ++ last ∷ []
 actors_opened earlier front last =
     flat_push earlier (front ++ last ∷ [])
-        ∙ sym (append_assoc (actors_in earlier) front (last ∷ []))
+    ∙ sym (append_assoc (actors_in earlier) front (last ∷ []))
 
 count_opened : (earlier : Phases) (front : List (List Command)) (last : List Command)
     → length (actors_in (opened earlier front last)) ≡ length
-        (actors_in (earlier ++ front ∷ [])) + 1
+    (actors_in (earlier ++ front ∷ [])) + 1
 count_opened earlier front last =
-    omega (arith, ap length (actors_opened earlier front last), ap length (flat_push earlier front),
-        length-append (actors_in earlier ++ front) (last ∷ []))
+    omega (
+      arith,
+      ap length (actors_opened earlier front last),
+      ap length (flat_push earlier front),
+      length-append (actors_in earlier ++ front) (last ∷ []),
+    )
 
 cost_opened : (weight : ℕ → ℕ) (earlier : Phases) (front : List (List Command))
     (last : List Command)
     → cost weight (flat (actors_in (opened earlier front last))) ≡ cost weight
-        (flat (actors_in (earlier ++ front ∷ []))) + cost weight last
+    (flat (actors_in (earlier ++ front ∷ []))) + cost weight last
 cost_opened weight earlier front last =
     ap (λ actors. cost weight (flat actors)) (actors_opened earlier front last)
     ∙ cost_push weight (actors_in earlier ++ front) last
@@ -135,19 +139,19 @@ cost_opened weight earlier front last =
 -- what a phase more costs
 cost_phase : (weight : ℕ → ℕ) (done : Phases) (phase : List (List Command))
     → cost weight (flat (actors_in (done ++ phase ∷ []))) ≡ cost weight
-        (flat (actors_in done)) + cost weight (flat phase)
+    (flat (actors_in done)) + cost weight (flat phase)
 cost_phase weight done phase =
     ap (λ actors. cost weight (flat actors)) (flat_push done phase)
     ∙ ap (cost weight) (flat_map-append (λ (commands : List Command). commands) (actors_in done)
-        phase)
+    phase)
     ∙ cost-append weight (flat (actors_in done)) (flat phase)
 
 cost_phases : (weight : ℕ → ℕ) (phase : List (List Command)) (more : Phases)
     → cost weight (flat (actors_in (phase ∷ more))) ≡ cost weight (flat phase) + cost weight
-        (flat (actors_in more))
+    (flat (actors_in more))
 cost_phases weight phase more =
     ap (cost weight) (flat_map-append (λ (commands : List Command). commands) phase
-        (actors_in more))
+    (actors_in more))
     ∙ cost-append weight (flat phase) (flat (actors_in more))
 
 count_phase : (done : Phases) (phase : List (List Command))
@@ -179,8 +183,8 @@ module _ (script : Script) (is : IsScript script) where
   abbrev state : LinePlace → Phases → ℕ → SoFar
   state place phases commands =
       made place phases (length (actors_in phases)) commands
-          (cost (blocks_in layout) (flat (actors_in phases)))
-          (cost (chunk_bytes_in layout) (flat (actors_in phases)))
+      (cost (blocks_in layout) (flat (actors_in phases)))
+      (cost (chunk_bytes_in layout) (flat (actors_in phases)))
 
   few_servers : servers < 2 ^ 64
   few_servers = omega (arith, is.servers.1)
@@ -189,7 +193,7 @@ module _ (script : Script) (is : IsScript script) where
   same_state : (place : LinePlace) (phases now : Phases) (commands actors blocks bytes : ℕ)
       → phases ≡ now → actors ≡ length (actors_in now)
       → blocks ≡ cost (blocks_in layout) (flat (actors_in now))
-          → bytes ≡ cost (chunk_bytes_in layout) (flat (actors_in now))
+      → bytes ≡ cost (chunk_bytes_in layout) (flat (actors_in now))
       → made place phases actors commands blocks bytes ≡ state place now commands
   same_state place phases now commands actors blocks bytes same_phases same_actors same_blocks
       same_bytes =
@@ -197,7 +201,7 @@ module _ (script : Script) (is : IsScript script) where
       ∙ ap (λ n. made place now n commands blocks bytes) same_actors
       ∙ ap (λ n. made place now (length (actors_in now)) commands n bytes) same_blocks
       ∙ ap (λ n. made place now (length (actors_in now)) commands
-          (cost (blocks_in layout) (flat (actors_in now))) n) same_bytes
+      (cost (blocks_in layout) (flat (actors_in now))) n) same_bytes
 
   -- what is done and what is left keep the limits together
   record Fits (done left : List Command) : Type 0 where
@@ -231,21 +235,30 @@ module _ (script : Script) (is : IsScript script) where
     pushed =
         let more : List Command → List Command = λ commands. commands ++ command ∷ [] in
         changed (λ phase. change_last more phase) earlier (front ++ last ∷ [])
-            ∙ ap (λ phase. earlier ++ phase ∷ []) (changed more front last)
+        ∙ ap (λ phase. earlier ++ phase ∷ []) (changed more front last)
 
     cost_pushed : (weight : ℕ → ℕ) → cost weight (flat (actors_in now)) ≡ cost weight
         (flat (actors_in (opened earlier front last))) + cost weight (command ∷ [])
     cost_pushed weight =
-        omega (arith, cost_opened weight earlier front last, cost_opened weight earlier front
-            (last ++ command ∷ []), cost-append weight last (command ∷ []))
+        omega (
+          arith,
+          cost_opened weight earlier front last,
+          cost_opened weight earlier front
+              (last ++ command ∷ []),
+          cost-append weight last (command ∷ []),
+        )
 
     command_next : with_next_command so command ≡ state Behind.Actor now (length last + 1)
     unfolding with_next_command
     command_next =
         same_state Behind.Actor (with_command command (opened earlier front last)) now
-            (length last + 1) (length (actors_in (opened earlier front last))) _ _ pushed
-        (omega (arith, count_opened earlier front last, count_opened earlier front
-            (last ++ command ∷ [])))
+        (length last + 1) (length (actors_in (opened earlier front last))) _ _ pushed
+        (omega (
+          arith,
+          count_opened earlier front last,
+          count_opened earlier front
+              (last ++ command ∷ []),
+        ))
         (omega (arith, cost_pushed (blocks_in layout), (one_of command).blocks))
         (omega (arith, cost_pushed (chunk_bytes_in layout), (one_of command).bytes))
 
@@ -269,14 +282,14 @@ module _ (script : Script) (is : IsScript script) where
     command_reads left room good fits =
         let told = command_told servers few_servers command good.in_range in
         subst (λ (text : List ℕ). Reads so text (state Behind.Actor now (length last + 1)))
-            (sym told.is)
+        (sym told.is)
         (line_read so (state Behind.Actor now (length last + 1)) told.word told.words
-            (First.Command told.kind) told.spelled told.plain refl
+        (First.Command told.kind) told.spelled told.plain refl
         (on (command_of servers told.kind told.words) command
         (λ command. if_kept (keeps_limits (with_next_command so command) command) Cause.Limit
-            (with_next_command so command)) told.says
+        (with_next_command so command)) told.says
         ∙ kept (keeps_limits (with_next_command so command) command) (with_next_command so command)
-            (limits_kept left room good fits)
+        (limits_kept left room good fits)
         ∙ ap (λ (next : SoFar). Ok next) command_next))
 
   -- ---- an actor's commands
@@ -285,22 +298,32 @@ module _ (script : Script) (is : IsScript script) where
       → Each Good left → length last + length left ≤ MOST_COMMANDS
       → Fits (flat (actors_in (opened earlier front last))) left
       → Through (state Behind.Actor (opened earlier front last) (length last))
-          (map command_line left) (state Behind.Actor (opened earlier front (last ++ left))
-          (length (last ++ left)))
+      (map command_line left) (state Behind.Actor (opened earlier front (last ++ left))
+      (length (last ++ left)))
   commands_through earlier front last [] good room fits =
       ap (λ (all : List Command). state Behind.Actor (opened earlier front all) (length all))
-          (sym (append-nil last))
+      (sym (append-nil last))
   commands_through earlier front last (command ∷ left) good room fits =
       let count : length last + 1 ≡ length (last ++ command ∷ []) =
-          omega (arith, length-append last (command ∷ [])) in
+      omega (arith, length-append last (command ∷ [])) in
       let blocks = cost-append (blocks_in layout) (command ∷ []) left in
       let bytes = cost-append (chunk_bytes_in layout) (command ∷ []) left in
       let more = commands_through earlier front (last ++ command ∷ []) left good.1
-          (omega (arith, room, count)) (record {
-        blocks = omega (arith, fits.blocks, blocks, cost_pushed earlier front last command
-            (blocks_in layout));
-        bytes = omega (arith, fits.bytes, bytes, cost_pushed earlier front last command
-            (chunk_bytes_in layout));
+      (omega (arith, room, count)) (record {
+        blocks = omega (
+          arith,
+          fits.blocks,
+          blocks,
+          cost_pushed earlier front last command
+              (blocks_in layout),
+        );
+        bytes = omega (
+          arith,
+          fits.bytes,
+          bytes,
+          cost_pushed earlier front last command
+              (chunk_bytes_in layout),
+        );
       }) in (
         state Behind.Actor (opened earlier front (last ++ command ∷ [])) (length last + 1),
         (
@@ -309,11 +332,11 @@ module _ (script : Script) (is : IsScript script) where
               (state Behind.Actor (opened earlier front (last ++ command ∷ [])) n)
               (map command_line left)
               (state Behind.Actor (opened earlier front (last ++ command ∷ left))
-                  (length (last ++ command ∷ left))))
+              (length (last ++ command ∷ left))))
               (sym count)
               (subst (λ (all : List Command). Through
-                  (state Behind.Actor (opened earlier front (last ++ command ∷ []))
-                  (length (last ++ command ∷ []))) (map command_line left)
+              (state Behind.Actor (opened earlier front (last ++ command ∷ []))
+              (length (last ++ command ∷ []))) (map command_line left)
               (state Behind.Actor (opened earlier front all) (length all)))
               (append_assoc last (command ∷ []) left) more),
         ),
@@ -365,7 +388,7 @@ module _ (script : Script) (is : IsScript script) where
     unfolding with_next_actor with_actor
     actor_next =
         same_state Behind.Actor (with_actor (earlier ++ front ∷ [])) (opened earlier front []) 0
-            (length (actors_in (earlier ++ front ∷ [])) + 1) _ _
+        (length (actors_in (earlier ++ front ∷ [])) + 1) _ _
         (changed (λ phase. phase ++ [] ∷ []) earlier front)
         (omega (arith, count_opened earlier front []))
         (omega (arith, cost_opened (blocks_in layout) earlier front []))
@@ -374,63 +397,83 @@ module _ (script : Script) (is : IsScript script) where
     actor_reads : (number : ℕ) → number ≡ length (actors_in (earlier ++ front ∷ [])) + 1
         → number ≤ MOST_ACTORS → may_stand place First.Actor ≡ true
         → Reads here (line (codes "actor") (decimal number ∷ []))
-            (state Behind.Actor (opened earlier front []) 0)
+        (state Behind.Actor (opened earlier front []) 0)
     unfolding take_line take_actor one_word
     actor_reads number next few stands =
         let count = length (actors_in (earlier ++ front ∷ [])) in
         line_read here (state Behind.Actor (opened earlier front []) 0) (codes "actor")
-            (decimal number ∷ []) First.Actor spells_actor
+        (decimal number ∷ []) First.Actor spells_actor
         (plain_number number (omega (arith, few)), tt) stands
         (on (number_in (count + 1) (count + 1) (decimal number)) number
-            (λ number. if_kept (nat_lt count MOST_ACTORS) Cause.Limit (with_next_actor here))
+        (λ number. if_kept (nat_lt count MOST_ACTORS) Cause.Limit (with_next_actor here))
         (number_back (count + 1) (count + 1) number (omega (arith, few)) (omega (arith, next))
-            (omega (arith, next)))
+        (omega (arith, next)))
         ∙ kept (nat_lt count MOST_ACTORS) (with_next_actor here)
-            (lt-ltb _ _ (omega (arith, next, few)))
+        (lt-ltb _ _ (omega (arith, next, few)))
         ∙ ap (λ (state : SoFar). Ok state) actor_next)
 
   actors_through : (earlier : Phases) (front left : List (List Command)) (place : LinePlace)
       (commands number : ℕ) → IsOpen place → Each GoodActor left
       → number ≡ length (actors_in (earlier ++ front ∷ [])) + 1
-          → length (actors_in (earlier ++ front ∷ [])) + length left ≤ MOST_ACTORS
+      → length (actors_in (earlier ++ front ∷ [])) + length left ≤ MOST_ACTORS
       → Fits (flat (actors_in (earlier ++ front ∷ []))) (flat left)
       → Arrives (state place (earlier ++ front ∷ []) commands) (actor_lines number left)
-          (earlier ++ (front ++ left) ∷ [])
+      (earlier ++ (front ++ left) ∷ [])
   unfolding actor_lines
   actors_through earlier front [] place commands number is_open good next few fits =
       arrives_at (state place (earlier ++ front ∷ []) commands) [] (earlier ++ front ∷ [])
-          (earlier ++ (front ++ []) ∷ [])
+      (earlier ++ (front ++ []) ∷ [])
       (ap (λ phase. earlier ++ phase ∷ []) (sym (append-nil front)))
       (record { place = place; commands = commands; is_open = is_open; through = refl })
   actors_through earlier front (actor ∷ left) place commands number is_open good next few fits =
       let first = actor_reads earlier front place commands number next (omega (arith, next, few))
-          is_open.actor in
+      is_open.actor in
       let blocks = cost-append (blocks_in layout) actor (flat left) in
       let bytes = cost-append (chunk_bytes_in layout) actor (flat left) in
       let own = commands_through earlier front [] actor good.0.good (omega (arith, good.0.few))
-          (record {
-        blocks = omega (arith, fits.blocks, blocks, cost_opened (blocks_in layout) earlier front
-            []);
-        bytes = omega (arith, fits.bytes, bytes, cost_opened (chunk_bytes_in layout) earlier front
-            []);
+      (record {
+        blocks = omega (
+          arith,
+          fits.blocks,
+          blocks,
+          cost_opened (blocks_in layout) earlier front
+              [],
+        );
+        bytes = omega (
+          arith,
+          fits.bytes,
+          bytes,
+          cost_opened (chunk_bytes_in layout) earlier front
+              [],
+        );
       }) in
       let more = actors_through earlier (front ++ actor ∷ []) left Behind.Actor (length actor)
-          (number + 1) open_actor good.1
+      (number + 1) open_actor good.1
       (omega (arith, next, count_opened earlier front actor))
-          (omega (arith, few, count_opened earlier front actor)) (record {
-        blocks = omega (arith, fits.blocks, blocks, cost_opened (blocks_in layout) earlier front
-            actor);
-        bytes = omega (arith, fits.bytes, bytes, cost_opened (chunk_bytes_in layout) earlier front
-            actor);
+      (omega (arith, few, count_opened earlier front actor)) (record {
+        blocks = omega (
+          arith,
+          fits.blocks,
+          blocks,
+          cost_opened (blocks_in layout) earlier front
+              actor,
+        );
+        bytes = omega (
+          arith,
+          fits.bytes,
+          bytes,
+          cost_opened (chunk_bytes_in layout) earlier front
+              actor,
+        );
       }) in
       arrives_behind (state place (earlier ++ front ∷ []) commands)
-          (state Behind.Actor (opened earlier front actor) (length actor))
+      (state Behind.Actor (opened earlier front actor) (length actor))
       (line (codes "actor") (decimal number ∷ []) ∷ map command_line actor)
-          (actor_lines (number + 1) left) (earlier ++ (front ++ actor ∷ left) ∷ [])
+      (actor_lines (number + 1) left) (earlier ++ (front ++ actor ∷ left) ∷ [])
       (state Behind.Actor (opened earlier front []) 0, (first, own))
       (arrives_at _ (actor_lines (number + 1) left)
-          (earlier ++ ((front ++ actor ∷ []) ++ left) ∷ [])
-          (earlier ++ (front ++ actor ∷ left) ∷ [])
+      (earlier ++ ((front ++ actor ∷ []) ++ left) ∷ [])
+      (earlier ++ (front ++ actor ∷ left) ∷ [])
       (ap (λ phase. earlier ++ phase ∷ []) (append_assoc front (actor ∷ []) left)) more)
 
   -- ---- phases
@@ -445,7 +488,7 @@ module _ (script : Script) (is : IsScript script) where
         ≡ state Behind.Phase (done ++ [] ∷ []) commands
     phase_next =
         same_state Behind.Phase (done ++ [] ∷ []) (done ++ [] ∷ []) commands
-            (length (actors_in done)) _ _ refl
+        (length (actors_in done)) _ _ refl
         (omega (arith, count_phase done []))
         (omega (arith, cost_phase (blocks_in layout) done []))
         (omega (arith, cost_phase (chunk_bytes_in layout) done []))
@@ -455,23 +498,23 @@ module _ (script : Script) (is : IsScript script) where
     unfolding take_line take_phase no_word with_head
     phase_reads few stands =
         line_read begin (state Behind.Phase (done ++ [] ∷ []) commands) (codes "phase") []
-            First.Phase spells_phase tt stands
+        First.Phase spells_phase tt stands
         (kept (nat_lt (length done) MOST_PHASES) _ (lt-ltb _ _ few)
-            ∙ ap (λ (state : SoFar). Ok state) phase_next)
+        ∙ ap (λ (state : SoFar). Ok state) phase_next)
 
   -- one phase with its actors
   phase_through : (done : Phases) (phase : List (List Command)) (place : LinePlace)
       (commands number : ℕ) → may_stand place First.Phase ≡ true → Each GoodActor phase
       → length done < MOST_PHASES → number ≡ length (actors_in done) + 1
-          → length (actors_in done) + length phase ≤ MOST_ACTORS
+      → length (actors_in done) + length phase ≤ MOST_ACTORS
       → Fits (flat (actors_in done)) (flat phase)
       → Arrives (state place done commands) (line (codes "phase") [] ∷ actor_lines number phase)
-          (done ++ phase ∷ [])
+      (done ++ phase ∷ [])
   phase_through done phase place commands number stands good room next few fits =
       arrives_behind (state place done commands) (state Behind.Phase (done ++ [] ∷ []) commands)
-          (line (codes "phase") [] ∷ []) (actor_lines number phase) (done ++ phase ∷ [])
+      (line (codes "phase") [] ∷ []) (actor_lines number phase) (done ++ phase ∷ [])
       (one_line (state place done commands) (state Behind.Phase (done ++ [] ∷ []) commands)
-          (line (codes "phase") []) (phase_reads done place commands room stands))
+      (line (codes "phase") []) (phase_reads done place commands room stands))
       (actors_through done [] phase Behind.Phase commands number open_phase good
       (omega (arith, next, count_phase done [])) (omega (arith, few, count_phase done [])) (record {
         blocks = omega (arith, fits.blocks, cost_phase (blocks_in layout) done []);
@@ -495,13 +538,26 @@ module _ (script : Script) (is : IsScript script) where
         good = left.good.1;
         few_phases = omega (arith, left.few_phases, length-append done (phase ∷ []));
         next = omega (arith, left.next, count_phase done phase);
-        few_actors = omega (arith, left.few_actors, count_phase done phase, length-append phase
-            (actors_in more));
+        few_actors = omega (
+          arith,
+          left.few_actors,
+          count_phase done phase,
+          length-append phase
+              (actors_in more),
+        );
         fits = record {
-          blocks = omega (arith, left.fits.blocks, cost_phases (blocks_in layout) phase more,
-              cost_phase (blocks_in layout) done phase);
-          bytes = omega (arith, left.fits.bytes, cost_phases (chunk_bytes_in layout) phase more,
-              cost_phase (chunk_bytes_in layout) done phase);
+          blocks = omega (
+            arith,
+            left.fits.blocks,
+            cost_phases (blocks_in layout) phase more,
+            cost_phase (blocks_in layout) done phase,
+          );
+          bytes = omega (
+            arith,
+            left.fits.bytes,
+            cost_phases (chunk_bytes_in layout) phase more,
+            cost_phase (chunk_bytes_in layout) done phase,
+          );
         };
       }
 
@@ -511,23 +567,23 @@ module _ (script : Script) (is : IsScript script) where
       → Left done (phase ∷ more) number
       → ((place : LinePlace) (commands : ℕ) → IsOpen place
       → Arrives (state place (done ++ phase ∷ []) commands)
-          (phase_lines (number + length phase) more) ((done ++ phase ∷ []) ++ more))
+      (phase_lines (number + length phase) more) ((done ++ phase ∷ []) ++ more))
       → Arrives (state place done commands) (phase_lines number (phase ∷ more))
-          (done ++ phase ∷ more)
+      (done ++ phase ∷ more)
   unfolding phase_lines
   first_through done phase more place commands number stands left behind =
       let first = phase_through done phase place commands number stands left.good.0
-          (omega (arith, left.few_phases)) left.next
+      (omega (arith, left.few_phases)) left.next
       (omega (arith, left.few_actors, length-append phase (actors_in more))) (record {
         blocks = omega (arith, left.fits.blocks, cost_phases (blocks_in layout) phase more);
         bytes = omega (arith, left.fits.bytes, cost_phases (chunk_bytes_in layout) phase more);
       }) in
       arrives_behind (state place done commands)
-          (state first.place (done ++ phase ∷ []) first.commands)
+      (state first.place (done ++ phase ∷ []) first.commands)
       (line (codes "phase") [] ∷ actor_lines number phase)
-          (phase_lines (number + length phase) more) (done ++ phase ∷ more) first.through
+      (phase_lines (number + length phase) more) (done ++ phase ∷ more) first.through
       (arrives_at _ (phase_lines (number + length phase) more) ((done ++ phase ∷ []) ++ more)
-          (done ++ phase ∷ more)
+      (done ++ phase ∷ more)
       (append_assoc done (phase ∷ []) more) (behind first.place first.commands first.is_open))
 
   phases_through : (done left : Phases) (place : LinePlace) (commands number : ℕ) → IsOpen place
@@ -540,7 +596,7 @@ module _ (script : Script) (is : IsScript script) where
   phases_through done (phase ∷ more) place commands number is_open left =
       first_through done phase more place commands number is_open.phase left
       (λ place commands now. phases_through (done ++ phase ∷ []) more place commands
-          (number + length phase) now (left_behind done phase more number left))
+      (number + length phase) now (left_behind done phase more number left))
 
   -- all phases of a script that has some, behind the lines of its head
   some_through : (left : Phases) (place : LinePlace) → may_stand place First.Phase ≡ true
@@ -550,7 +606,7 @@ module _ (script : Script) (is : IsScript script) where
   some_through (phase ∷ more) place stands some left =
       first_through [] phase more place 0 1 stands left
       (λ place commands now. phases_through (phase ∷ []) more place commands (1 + length phase) now
-          (left_behind [] phase more 1 left))
+      (left_behind [] phase more 1 left))
 
   -- ---- what the script keeps
 
@@ -560,24 +616,28 @@ module _ (script : Script) (is : IsScript script) where
   good_first : (command : Command) (puts : List ℕ) → IsCommand servers command
       → Each FewBlocks (cons_option (len_put command) puts)
       → (len_put command ≡ Some (put_len command)) ⊎ PutsNothing command
-          → Good command × Each FewBlocks puts
+      → Good command × Each FewBlocks puts
   good_first command puts in_range each (inl some) =
       let all : Each FewBlocks (put_len command ∷ puts) =
-          subst (λ (put : Option ℕ). Each FewBlocks (cons_option put puts)) some each in
+      subst (λ (put : Option ℕ). Each FewBlocks (cons_option put puts)) some each in
       (record { in_range = in_range; few = all.0 }, all.1)
   good_first command puts in_range each (inr none) =
       let all : Each FewBlocks puts =
-          subst (λ (put : Option ℕ). Each FewBlocks (cons_option put puts)) none.0 each in
-      (record { in_range = in_range; few =
-          omega (arith, ap (blocks_in layout) none.1, no_rows (block_bytes layout.s layout.r)) },
-          all)
+      subst (λ (put : Option ℕ). Each FewBlocks (cons_option put puts)) none.0 each in (
+        record {
+          in_range = in_range;
+          few =
+              omega (arith, ap (blocks_in layout) none.1, no_rows (block_bytes layout.s layout.r));
+        },
+        all,
+      )
 
   good_commands : (commands : List Command) → Each (IsCommand servers) commands
       → Each FewBlocks (filter_map len_put commands) → Each Good commands
   good_commands [] in_range puts = tt
   good_commands (command ∷ commands) in_range puts =
       let first = good_first command (filter_map len_put commands) in_range.0 puts
-          (put_told command) in
+      (put_told command) in
       (first.0, good_commands commands in_range.1 first.1)
 
   good_actors : (actors : List (List Command))
@@ -587,18 +647,23 @@ module _ (script : Script) (is : IsScript script) where
   good_actors [] few in_range puts = tt
   good_actors (commands ∷ actors) few in_range puts =
       let all : Each FewBlocks (filter_map len_put commands ++ puts_in actors) =
-          subst (Each FewBlocks) (filter_map-append len_put commands (flat actors)) puts in (
-        record { few = few.0; good = good_commands commands in_range.0
-            (each_front FewBlocks (filter_map len_put commands) (puts_in actors) all) },
+      subst (Each FewBlocks) (filter_map-append len_put commands (flat actors)) puts in (
+        record {
+          few = few.0;
+          good = good_commands commands in_range.0
+              (each_front FewBlocks (filter_map len_put commands) (puts_in actors) all);
+        },
         good_actors actors few.1 in_range.1 (each_back FewBlocks (filter_map len_put commands)
             (puts_in actors) all),
       )
 
   good_phases : (phases : Phases) → Each GoodActor (actors_in phases) → Each (Each GoodActor) phases
   good_phases [] good = tt
-  good_phases (phase ∷ phases) good =
-      (each_front GoodActor phase (actors_in phases) good, good_phases phases
-          (each_back GoodActor phase (actors_in phases) good))
+  good_phases (phase ∷ phases) good = (
+    each_front GoodActor phase (actors_in phases) good,
+    good_phases phases
+        (each_back GoodActor phase (actors_in phases) good),
+  )
 
   all_left : Left [] script.phases 1
   all_left = record {
@@ -623,8 +688,13 @@ module _ (script : Script) (is : IsScript script) where
       → IfSome order (Each OfActor) → IsOpen place → Ends (state place script.phases commands) order
   unfolding order_lines take_line take_order with_head may_be_last
   order_through None place commands each is_open =
-      record { last = state place script.phases commands; through = refl; may_end =
-          is_open.last; script_is = refl }
+      record {
+        last = state place script.phases commands;
+        through = refl;
+        may_end =
+            is_open.last;
+        script_is = refl;
+      }
   order_through (Some steps) place commands each is_open =
       let so = state place script.phases commands in
       let told = order_told steps each in
@@ -634,14 +704,14 @@ module _ (script : Script) (is : IsScript script) where
         through =
             one_line so next (order_line steps)
             (line_read so next (codes "order") (runs steps) First.Order spells_order
-                told.plain is_open.order
+            told.plain is_open.order
             (on (read_each run_in (runs steps)) told.found
-                (λ found. Ok
-                (with_head so Behind.Order
-                (record so.script { order = Some (steps_of_runs found) }))) told.says
+            (λ found. Ok
+            (with_head so Behind.Order
+            (record so.script { order = Some (steps_of_runs found) }))) told.says
             ∙ ap (λ (order : List Step). Ok
-                (with_head so Behind.Order (record so.script { order = Some order })))
-                told.stands));
+            (with_head so Behind.Order (record so.script { order = Some order })))
+            told.stands));
         may_end = refl;
         script_is = refl;
       }
@@ -652,8 +722,15 @@ module _ (script : Script) (is : IsScript script) where
   abbrev head : LinePlace → Shape → ℕ → ℕ → Bool → SoFar
   head place shape number term audit = record {
     place = place;
-    script = record { layout = shape; servers = number; term = term; audit = audit; phases =
-        []; order = None };
+    script = record {
+      layout = shape;
+      servers = number;
+      term = term;
+      audit = audit;
+      phases =
+          [];
+      order = None;
+    };
     actors = 0;
     commands = 0;
     blocks = 0;
@@ -669,9 +746,9 @@ module _ (script : Script) (is : IsScript script) where
   unfolding take_line take_qfs one_word with_head may_stand
   qfs_reads =
       line_read nothing_yet (head Behind.Qfs nothing_yet.script.layout 1 0 false) (codes "qfs")
-          (codes "1" ∷ []) First.Qfs spells_qfs (plain (codes "1") refl, tt) refl
+      (codes "1" ∷ []) First.Qfs spells_qfs (plain (codes "1") refl, tt) refl
       (on (number_in 1 1 (codes "1")) 1
-          (λ version. Ok (with_head nothing_yet Behind.Qfs nothing_yet.script)) one_is)
+      (λ version. Ok (with_head nothing_yet Behind.Qfs nothing_yet.script)) one_is)
 
   layout_reads : Reads (head Behind.Qfs nothing_yet.script.layout 1 0 false)
       (line (codes "layout") (decimal layout.s ∷ decimal layout.r ∷ []))
@@ -680,14 +757,15 @@ module _ (script : Script) (is : IsScript script) where
   layout_reads =
       let so = head Behind.Qfs nothing_yet.script.layout 1 0 false in
       let next = λ (stripe rows : ℕ). with_head so Behind.Layout
-          (record so.script { layout = record { s = stripe; r = rows } }) in
+      (record so.script { layout = record { s = stripe; r = rows } }) in
       line_read so (head Behind.Layout layout 1 0 false) (codes "layout")
-          (decimal layout.s ∷ decimal layout.r ∷ []) First.Layout spells_layout
-      (plain_number layout.s (omega (arith, is.stripe.1)),
-          (plain_number layout.r (omega (arith, is.rows.1)), tt)) refl
+      (decimal layout.s ∷ decimal layout.r ∷ []) First.Layout spells_layout (
+        plain_number layout.s (omega (arith, is.stripe.1)),
+        (plain_number layout.r (omega (arith, is.rows.1)), tt),
+      ) refl
       (on (stripe_in (decimal layout.s)) layout.s
-          (λ stripe. number_in 1 MOST_ROWS (decimal layout.r) >>= (λ rows. Ok (next stripe rows)))
-          (stripe_back layout.s is.stripe)
+      (λ stripe. number_in 1 MOST_ROWS (decimal layout.r) >>= (λ rows. Ok (next stripe rows)))
+      (stripe_back layout.s is.stripe)
       ∙ on (number_in 1 MOST_ROWS (decimal layout.r)) layout.r (λ rows. Ok (next layout.s rows))
       (number_back 1 MOST_ROWS layout.r (omega (arith, is.rows.1)) is.rows.0 is.rows.1))
 
@@ -697,10 +775,10 @@ module _ (script : Script) (is : IsScript script) where
   servers_read =
       let so = head Behind.Layout layout 1 0 false in
       line_read so (head Behind.Servers layout servers 0 false) (codes "servers")
-          (decimal servers ∷ []) First.Servers spells_servers (plain_number servers few_servers, tt)
-          refl
+      (decimal servers ∷ []) First.Servers spells_servers (plain_number servers few_servers, tt)
+      refl
       (on (number_in 1 MOST_SERVERS (decimal servers)) servers
-          (λ number. Ok (with_head so Behind.Servers (record so.script { servers = number })))
+      (λ number. Ok (with_head so Behind.Servers (record so.script { servers = number })))
       (number_back 1 MOST_SERVERS servers few_servers is.servers.0 is.servers.1))
 
   term_reads : (term : ℕ) → 1 ≤ term → term ≤ MOST_TICKS
@@ -710,9 +788,9 @@ module _ (script : Script) (is : IsScript script) where
   term_reads term some few =
       let so = head Behind.Servers layout servers 0 false in
       line_read so (head Behind.Term layout servers term false) (codes "term") (decimal term ∷ [])
-          First.Term spells_term (plain_number term (omega (arith, few)), tt) refl
+      First.Term spells_term (plain_number term (omega (arith, few)), tt) refl
       (on (number_in 1 MOST_TICKS (decimal term)) term
-          (λ ticks. Ok (with_head so Behind.Term (record so.script { term = ticks })))
+      (λ ticks. Ok (with_head so Behind.Term (record so.script { term = ticks })))
       (number_back 1 MOST_TICKS term (omega (arith, few)) some few))
 
   audit_reads : (place : LinePlace) (term : ℕ) → may_stand place First.Audit ≡ true
@@ -721,7 +799,7 @@ module _ (script : Script) (is : IsScript script) where
   unfolding take_line take_audit no_word with_head
   audit_reads place term stands =
       line_read (head place layout servers term false) (head Behind.Audit layout servers term true)
-          (codes "audit") [] First.Audit spells_audit tt stands refl
+      (codes "audit") [] First.Audit spells_audit tt stands refl
 
   -- the lines of the head lead to where a phase may stand
   record Headed (so : SoFar) (lines : Lines) (term : ℕ) (audit : Bool) : Type 0 where
@@ -734,12 +812,20 @@ module _ (script : Script) (is : IsScript script) where
       term audit
   unfolding term_word audit_word may_stand
   tail_through zero false few = record { place = Behind.Servers; phase = refl; through = refl }
-  tail_through zero true few = record { place = Behind.Audit; phase = refl; through =
-      one_line _ _ (line (codes "audit") []) (audit_reads Behind.Servers 0 refl) }
+  tail_through zero true few = record {
+    place = Behind.Audit;
+    phase = refl;
+    through =
+        one_line _ _ (line (codes "audit") []) (audit_reads Behind.Servers 0 refl);
+  }
   tail_through (suc ticks) false few =
-      record { place = Behind.Term; phase = refl; through =
-          one_line _ _ (line (codes "term") (decimal (suc ticks) ∷ []))
-          (term_reads (suc ticks) (omega arith) few) }
+      record {
+        place = Behind.Term;
+        phase = refl;
+        through =
+            one_line _ _ (line (codes "term") (decimal (suc ticks) ∷ []))
+            (term_reads (suc ticks) (omega arith) few);
+      }
   tail_through (suc ticks) true few = record {
     place = Behind.Audit;
     phase = refl;
@@ -792,10 +878,10 @@ module _ (script : Script) (is : IsScript script) where
         last = order.last;
         through =
             through_append nothing_yet (state phases.place script.phases phases.commands) order.last
-                (head_lines script ++ phase_lines 1 script.phases) (order_lines script.order)
+            (head_lines script ++ phase_lines 1 script.phases) (order_lines script.order)
             (through_append nothing_yet (state headed.place [] 0)
-                (state phases.place script.phases phases.commands) (head_lines script)
-                (phase_lines 1 script.phases)
+            (state phases.place script.phases phases.commands) (head_lines script)
+            (phase_lines 1 script.phases)
             headed.through phases.through)
             order.through;
         may_end = order.may_end;
@@ -807,9 +893,9 @@ module _ (script : Script) (is : IsScript script) where
   unfolding whole_script if_kept
   ended_so replays so may_end same ordered =
       ap (λ (b : Bool). if_kept b Cause.Word so.script >>=
-          (λ ended. if_kept (not (replays && is_none ended.order)) Cause.NoOrder ended)) may_end
+      (λ ended. if_kept (not (replays && is_none ended.order)) Cause.NoOrder ended)) may_end
       ∙ ap (λ (found : Script). if_kept (not (replays && is_none found.order)) Cause.NoOrder found)
-          same
+      same
       ∙ ap (λ (b : Bool). if_kept b Cause.NoOrder script) (has_order replays script.order ordered)
     where
       has_order : (replays : Bool) (order : Option (List Step)) → (replays ≡ true → IsSome order)
@@ -824,15 +910,15 @@ module _ (script : Script) (is : IsScript script) where
   read_back replays ordered room =
       let all = all_read nothing_yet whole.last (script_lines script) whole.through in
       let behind = λ (lines : List (List ℕ)) (so : SoFar). at_line (length lines + 1)
-          (whole_script replays so) in
+      (whole_script replays so) in
       ap (λ (b : Bool). at_line 0 (if_kept b Cause.TooBig (script_text script)) >>=
-          (λ small. script_of_lines replays (text_lines small))) (le-leb _ _ room.bytes)
+      (λ small. script_of_lines replays (text_lines small))) (le-leb _ _ room.bytes)
       ∙ ap (λ lines. read_lines nothing_yet 1 lines >>= behind lines)
-          (text_lines_are nothing_yet whole.last (script_lines script) all)
+      (text_lines_are nothing_yet whole.last (script_lines script) all)
       ∙ ap (λ (read : Result SoFar BadLine). read >>= behind all.bodies)
-          (all.reads 1 (omega (arith, room.lines)))
+      (all.reads 1 (omega (arith, room.lines)))
       ∙ ap (λ (said : Said Script). at_line (length all.bodies + 1) said)
-          (ended_so replays whole.last whole.may_end whole.script_is ordered)
+      (ended_so replays whole.last whole.may_end whole.script_is ordered)
 
 pub reads_back : ReadsBack
 reads_back replays script is room = read_back script is.is_script replays is.order room

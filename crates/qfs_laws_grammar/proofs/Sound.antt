@@ -60,8 +60,12 @@ Placed Behind.Order phases count = 1 ≤ length phases
 
 some_in : (phases : Phases) (count : ℕ) → EndsInActor phases count → 1 ≤ length phases
 some_in phases count ends =
-    omega (arith, ap length ends.is, length-append ends.earlier
-        ((ends.front ++ ends.last ∷ []) ∷ []))
+    omega (
+      arith,
+      ap length ends.is,
+      length-append ends.earlier
+          ((ends.front ++ ends.last ∷ []) ∷ []),
+    )
 
 behind_start : (place : LinePlace) (phases : Phases) (count : ℕ) → may_stand place First.Qfs ≡ true
     → Placed place phases count → phases ≡ []
@@ -164,10 +168,10 @@ rebuilt : (so : SoFar) (layout : Shape) (servers : ℕ) → Sound so → so.scri
     → Body layout servers (actors_in so.script.phases) so.actors so.blocks so.chunk_bytes
 rebuilt so layout servers sound none =
     let Of : Shape → ℕ → Phases → Type 0 = λ shape number phases. Body shape number
-        (actors_in phases) so.actors so.blocks so.chunk_bytes in
+    (actors_in phases) so.actors so.blocks so.chunk_bytes in
     subst (Of layout servers) (sym none)
     (none_ask so.script.layout layout so.script.servers servers so.actors so.blocks so.chunk_bytes
-        (subst (Of so.script.layout so.script.servers) none sound.body))
+    (subst (Of so.script.layout so.script.servers) none sound.body))
 
 -- ---- the lines of the head
 
@@ -195,7 +199,7 @@ layout_sound so words sound none =
     gives (λ words. ⊤) Sound (two_words words) _ (gives_any (two_words words))
     (λ words known. gives IsStripe Sound (stripe_in words.0) _ (stripe_gives words.0)
     (λ stripe is_stripe. gives (IsIn 1 MOST_ROWS) Sound (number_in 1 MOST_ROWS words.1) _
-        (number_gives 1 MOST_ROWS words.1)
+    (number_gives 1 MOST_ROWS words.1)
     (λ rows are_rows. record {
       stripe = is_stripe;
       rows = are_rows;
@@ -213,7 +217,7 @@ unfolding take_servers with_head
 servers_sound so words sound none =
     gives (λ word. ⊤) Sound (one_word words) _ (gives_any (one_word words))
     (λ word known. gives (IsIn 1 MOST_SERVERS) Sound (number_in 1 MOST_SERVERS word) _
-        (number_gives 1 MOST_SERVERS word)
+    (number_gives 1 MOST_SERVERS word)
     (λ servers are. record {
       stripe = sound.stripe;
       rows = sound.rows;
@@ -231,7 +235,7 @@ unfolding take_term with_head
 term_sound so words sound none =
     gives (λ word. ⊤) Sound (one_word words) _ (gives_any (one_word words))
     (λ word known. gives (IsIn 1 MOST_TICKS) Sound (number_in 1 MOST_TICKS word) _
-        (number_gives 1 MOST_TICKS word)
+    (number_gives 1 MOST_TICKS word)
     (λ ticks are. record {
       stripe = sound.stripe;
       rows = sound.rows;
@@ -274,9 +278,9 @@ phase_sound so words sound =
       few_phases = omega (arith, ltb-true _ _ few, length-append so.script.phases ([] ∷ []));
       body =
           subst (λ (actors : List (List Command)). Body so.script.layout so.script.servers actors
-              so.actors so.blocks so.chunk_bytes)
+          so.actors so.blocks so.chunk_bytes)
           (sym (flat_push so.script.phases [] ∙ append-nil (actors_in so.script.phases)))
-              sound.body;
+          sound.body;
       order = sound.order;
       placed = omega (arith, length-append so.script.phases ([] ∷ []));
     }))
@@ -298,7 +302,7 @@ with_actor_of phases ending =
           ∙ flat_push ending.front (ending.last ++ [] ∷ [])
           ∙ sym (append_assoc (actors_in ending.front) ending.last ([] ∷ []))
           ∙ ap (λ all. all ++ [] ∷ [])
-              (sym (ap actors_in ending.is ∙ flat_push ending.front ending.last));
+          (sym (ap actors_in ending.is ∙ flat_push ending.front ending.last));
       few =
           omega (
             arith,
@@ -307,8 +311,14 @@ with_actor_of phases ending =
             length-append ending.front (ending.last ∷ []),
             length-append ending.front ((ending.last ++ [] ∷ []) ∷ []),
           );
-      ends = record { earlier = ending.front; front = ending.last; last = []; is = now; counted =
-          refl };
+      ends = record {
+        earlier = ending.front;
+        front = ending.last;
+        last = [];
+        is = now;
+        counted =
+            refl;
+      };
     }
 
 actor_sound : (so : SoFar) (words : Words) → Sound so → 1 ≤ length so.script.phases
@@ -318,8 +328,8 @@ actor_sound so words sound some =
     let has = with_actor_of so.script.phases (ends so.script.phases some) in
     gives (λ word. ⊤) Sound (one_word words) _ (gives_any (one_word words))
     (λ word known. gives (IsIn (so.actors + 1) (so.actors + 1)) Sound
-        (number_in (so.actors + 1) (so.actors + 1) word) _
-        (number_gives (so.actors + 1) (so.actors + 1) word)
+    (number_in (so.actors + 1) (so.actors + 1) word) _
+    (number_gives (so.actors + 1) (so.actors + 1) word)
     (λ number next. gives_kept Sound (nat_lt so.actors MOST_ACTORS) Cause.Limit _
     (λ room. record {
       stripe = sound.stripe;
@@ -329,10 +339,10 @@ actor_sound so words sound some =
       few_phases = omega (arith, has.few, sound.few_phases);
       body =
           subst (λ (actors : List (List Command)). Body so.script.layout so.script.servers actors
-              (so.actors + 1) so.blocks so.chunk_bytes)
+          (so.actors + 1) so.blocks so.chunk_bytes)
           (sym has.actors)
           (actor_more so.script.layout so.script.servers (actors_in so.script.phases) so.actors
-              so.blocks so.chunk_bytes sound.body (ltb-true _ _ room));
+          so.blocks so.chunk_bytes sound.body (ltb-true _ _ room));
       order = sound.order;
       placed = has.ends;
     })))
@@ -352,7 +362,7 @@ unfolding with_command
 with_command_of command phases count ends =
     let more : List Command → List Command = λ commands. commands ++ command ∷ [] in
     let now : with_command command phases
-        ≡ ends.earlier ++ (ends.front ++ (ends.last ++ command ∷ []) ∷ []) ∷ [] =
+    ≡ ends.earlier ++ (ends.front ++ (ends.last ++ command ∷ []) ∷ []) ∷ [] =
     ap (with_command command) ends.is
     ∙ changed (λ phase. change_last more phase) ends.earlier (ends.front ++ ends.last ∷ [])
     ∙ ap (λ phase. ends.earlier ++ phase ∷ []) (changed more ends.front ends.last) in
@@ -363,7 +373,7 @@ with_command_of command phases count ends =
       actors =
           ap actors_in now ∙ flat_push ends.earlier (ends.front ++ (ends.last ++ command ∷ []) ∷ [])
           ∙ sym (append_assoc (actors_in ends.earlier) ends.front
-              ((ends.last ++ command ∷ []) ∷ []));
+          ((ends.last ++ command ∷ []) ∷ []));
       few =
           omega (
             arith,
@@ -402,17 +412,17 @@ command_sound : (so : SoFar) (word : CommandWord) (words : Words) → Sound so
 unfolding take_command with_next_command
 command_sound so word words sound ends =
     gives (IsCommand so.script.servers) Sound (command_of so.script.servers word words) _
-        (command_gives so.script.servers word words)
+    (command_gives so.script.servers word words)
     (λ command is. gives_kept Sound _ Cause.Limit _
     (λ tested.
     let has = with_command_of command so.script.phases so.commands ends in
     let keeps = limits_kept so command (actors_in ends.earlier ++ ends.front) ends.last ends.counted
-        tested in
+    tested in
     let body : Body so.script.layout so.script.servers
-        ((actors_in ends.earlier ++ ends.front) ++ ends.last ∷ []) so.actors so.blocks
-        so.chunk_bytes =
+    ((actors_in ends.earlier ++ ends.front) ++ ends.last ∷ []) so.actors so.blocks
+    so.chunk_bytes =
     subst (λ (actors : List (List Command)). Body so.script.layout so.script.servers actors
-        so.actors so.blocks so.chunk_bytes) has.before sound.body in
+    so.actors so.blocks so.chunk_bytes) has.before sound.body in
     record {
       stripe = sound.stripe;
       rows = sound.rows;
@@ -423,10 +433,10 @@ command_sound so word words sound ends =
           subst (λ (actors : List (List Command)).
           Body so.script.layout so.script.servers actors so.actors
           (so.blocks + blocks_in so.script.layout (put_len command))
-              (so.chunk_bytes + chunk_bytes_of so.script.layout (put_len command)))
+          (so.chunk_bytes + chunk_bytes_of so.script.layout (put_len command)))
           (sym has.actors)
           (command_more so.script.layout so.script.servers (actors_in ends.earlier ++ ends.front)
-              ends.last command so.actors so.blocks so.chunk_bytes
+          ends.last command so.actors so.blocks so.chunk_bytes
           (omega (arith, sound.stripe.0)) sound.rows.0 body is keeps);
       order = sound.order;
       placed = has.again;
@@ -437,7 +447,7 @@ order_sound : (so : SoFar) (words : Words) → Sound so → 1 ≤ length so.scri
 unfolding take_order with_head
 order_sound so words sound some =
     gives (Each RunsActor) Sound (read_each run_in words) _
-        (gives_each RunsActor run_in run_gives words)
+    (gives_each RunsActor run_in run_gives words)
     (λ runs are. record {
       stripe = sound.stripe;
       rows = sound.rows;
@@ -471,7 +481,7 @@ line_sound so First.Order words sound stands = order_sound so words sound
     (before_order so.place so.script.phases so.commands stands sound.placed)
 line_sound so (First.Command word) words sound stands =
     command_sound so word words sound
-        (before_command word so.place so.script.phases so.commands stands sound.placed)
+    (before_command word so.place so.script.phases so.commands stands sound.placed)
 
 -- what is sound and may end is a script
 pub script_of : (so : SoFar) → Sound so → may_be_last so.place ≡ true → IsScript so.script

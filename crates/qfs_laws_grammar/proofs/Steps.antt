@@ -45,7 +45,7 @@ gives_each P read holds [] = tt
 gives_each P read holds (item ∷ items) =
     gives P (Each P) (read item) _ (holds item)
     (λ value first. gives (Each P) (Each P) (read_each read items) _ (gives_each P read holds items)
-        (λ values more. (first, more)))
+    (λ values more. (first, more)))
 
 -- what holds of a value that was given
 pub given : {A E : Type 0} (P : A → Type 0) (read : Result A E) (value : A) → IfOk read P

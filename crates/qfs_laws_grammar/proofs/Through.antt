@@ -30,7 +30,7 @@ stands_in : (so : SoFar) (word : List ℕ) (first : FirstWord) → Spells word f
 unfolding first_in if_kept
 stands_in so word first spelled stands =
     on (ok_or (first_word word) Cause.Word) first
-        (λ first. if_kept (may_stand so.place first) Cause.Word first)
+    (λ first. if_kept (may_stand so.place first) Cause.Word first)
     (ap (λ (found : Option FirstWord). ok_or found Cause.Word) spelled.first)
     ∙ ap (λ b. if_kept b Cause.Word first) stands
 
@@ -41,7 +41,7 @@ unfolding read_words first_and_more
 words_read so next word words first spelled stands says =
     ap (λ (remark : Bool). if remark then Ok so else first_and_more so word words) spelled.no_remark
     ∙ on (first_in so.place word) first (λ first. take_line so first words)
-        (stands_in so word first spelled stands)
+    (stands_in so word first spelled stands)
     ∙ says
 
 body_read : (so next : SoFar) (word : List ℕ) (words : Words) (first : FirstWord)
@@ -53,17 +53,17 @@ body_read so next word words first spelled are stands says number few =
     let behind = λ (next : SoFar). if_kept (nat_le number MOST_LINES) Cause.Limit next in
     let text = word ++ more_words words in
     on (if_kept (is_text text) Cause.NotText text) text
-        (λ text. read_words so (line_words text) >>= behind)
+    (λ text. read_words so (line_words text) >>= behind)
     (ap (λ b. if_kept b Cause.NotText text) (line_is_text word words spelled.plain are))
     ∙ ap (λ words. read_words so words >>= behind) (words_are word words spelled.plain are)
     ∙ on (read_words so (word ∷ words)) next behind
-        (words_read so next word words first spelled stands says)
+    (words_read so next word words first spelled stands says)
     ∙ ap (λ b. if_kept b Cause.Limit next) (le-leb _ _ few)
 
 pub line_read : (so next : SoFar) (word : List ℕ) (words : Words) (first : FirstWord)
     → Spells word first → Each IsPlain words
     → may_stand so.place first ≡ true → take_line so first words ≡ Ok next
-        → Reads so (line word words) next
+    → Reads so (line word words) next
 line_read so next word words first spelled are stands says = record {
   body = word ++ more_words words;
   is = refl;
@@ -107,15 +107,21 @@ one_more so next last text lines first more = record {
   many = omega (arith, more.many);
   reads = λ number few.
       ap (λ (said : Said SoFar). at_line number said >>=
-          (λ next. read_lines next (number + 1) more.bodies))
-          (first.reads number (omega (arith, few)))
+      (λ next. read_lines next (number + 1) more.bodies))
+      (first.reads number (omega (arith, few)))
       ∙ more.reads (number + 1) (omega (arith, few));
 }
 
 pub all_read : (so last : SoFar) (lines : Lines) → Through so lines last → AllRead so lines last
 unfolding read_lines
-all_read so last [] through = record { bodies = []; is = refl; clear = tt; many = refl; reads =
-    λ number few. ap (λ (state : SoFar). Ok state) through }
+all_read so last [] through = record {
+  bodies = [];
+  is = refl;
+  clear = tt;
+  many = refl;
+  reads =
+      λ number few. ap (λ (state : SoFar). Ok state) through;
+}
 all_read so last (text ∷ lines) through = one_more so through.0 last text lines through.1.0
     (all_read through.0 last lines through.1.1)
 

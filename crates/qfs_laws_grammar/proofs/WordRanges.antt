@@ -34,7 +34,7 @@ pub number_gives : (first last : ℕ) (word : List ℕ)
 unfolding number_in
 number_gives first last word =
     gives (λ number. ⊤) (IsIn first last) (ok_or (number_of word) Cause.Number) _
-        (gives_any (ok_or (number_of word) Cause.Number))
+    (gives_any (ok_or (number_of word) Cause.Number))
     (λ number known. gives_kept (IsIn first last) _ Cause.Number number
     (λ tested. let parts = and_parts _ _ tested in (leb-true _ _ parts.0, leb-true _ _ parts.1)))
 
@@ -43,7 +43,7 @@ unfolding stripe_in
 stripe_gives word =
     gives (IsIn 16 65536) IsStripe (number_in 16 65536 word) _ (number_gives 16 65536 word)
     (λ stripe within. gives_kept IsStripe (is_power_of_two stripe) Cause.Number stripe
-        (λ tested. (within.0, within.1, tested)))
+    (λ tested. (within.0, within.1, tested)))
 
 -- ---- paths
 
@@ -78,10 +78,10 @@ unfolding bytes_in
 bytes_give least most word =
     gives (Each IsByte) (AreBytes least most) (ok_or (result_ok (decode_of word)) Cause.Hex) _
     (gives_some (Each IsByte) (result_ok (decode_of word)) Cause.Hex
-        (bytes_found word (decode_of word) refl))
+    (bytes_found word (decode_of word) refl))
     (λ bytes are. gives_kept (AreBytes least most) _ Cause.Hex bytes
     (λ tested. let parts = and_parts _ _ tested in
-        record { enough = leb-true _ _ parts.0; few = leb-true _ _ parts.1; each = are }))
+    record { enough = leb-true _ _ parts.0; few = leb-true _ _ parts.1; each = are }))
 
 -- ---- runs
 
@@ -94,11 +94,11 @@ run_of_gives actor [] = tt
 run_of_gives actor (mark ∷ []) = tt
 run_of_gives actor (mark ∷ count ∷ []) =
     gives IsActorNumber RunsActor (number_in 1 MOST_ACTORS actor) _
-        (number_gives 1 MOST_ACTORS actor)
+    (number_gives 1 MOST_ACTORS actor)
     (λ number within. gives (λ outcome. ⊤) RunsActor (ok_or (outcome_of_mark mark) Cause.Number) _
-        (gives_any (ok_or (outcome_of_mark mark) Cause.Number))
+    (gives_any (ok_or (outcome_of_mark mark) Cause.Number))
     (λ outcome known. gives (IsIn 1 LONGEST_RUN) RunsActor (number_in 1 LONGEST_RUN count) _
-        (number_gives 1 LONGEST_RUN count)
+    (number_gives 1 LONGEST_RUN count)
     (λ counted fits. within)))
 run_of_gives actor (mark ∷ count ∷ more ∷ words) = tt
 
@@ -120,4 +120,4 @@ unfolding steps_of_runs
 steps_give [] each = tt
 steps_give (run ∷ runs) each =
     each_append OfActor (replicate run.count run.step) (steps_of_runs runs)
-        (each_same run.count run.step each.0) (steps_give runs each.1)
+    (each_same run.count run.step each.0) (steps_give runs each.1)
