@@ -88,8 +88,8 @@ impl Leases {
     /// All live leases, by number.
     pub fn list(&self, alloc: Global) -> Result<LeaseList, AllocError>
         ensures leases { IfOk result (λ list. list ≡ self.now.leases) }
-        ensures in_order { IsRising lease_cmp self.now.leases }
-        ensures numbers { Each (λ lease. lease.lease < self.now.next) self.now.leases }
+        ensures in_order { IfOk result (IsRising lease_cmp) }
+        ensures numbers { IfOk result (Each (λ lease. lease.lease < self.now.next)) }
     {
         let mut list = Listing::with_capacity(alloc, self.by_number.len())?;
         for row in self.by_number.iter() {

@@ -1,6 +1,9 @@
 -- What the check leaves to show of `leases::Leases::list`.
-use Rattle.std.proofs.Common.{◌≡◌, ◌++◌, ◌∷◌, [], ap, sym, ◌∙◌, append_assoc}
+use Rattle.std.proofs.Common.{◌≡◌, ◌++◌, ◌∷◌, [], ◌<◌, ℕ, ap, sym, subst, ◌∙◌, append_assoc}
 use Rattle.std.proofs.lemmas.List.{append-nil}
+use Rattle.qfs_base.specs.declared.image.Lease.{Lease}
+use Rattle.qfs_base.specs.Table.{Each, IsRising}
+use Rattle.qfs_model_meta.specs.Leases.{lease_cmp}
 use Rattle.qfs_lease.specs.LiveLeases.{LiveLeases}
 use Rattle.qfs_lease.proofs.leases.Leases.list.Goals as goal
 
@@ -27,3 +30,20 @@ returns-clause-leases c =
     sym (append-nil c.loop-row.list)
     ∙ ap (λ rows. c.loop-row.list ++ rows) (sym c.in-None.ensures.steps.0)
     ∙ c.loop-row.invariant
+
+pub returns-clause-in_order : goal.returns-clause-in_order
+returns-clause-in_order c =
+    let all = sym (append-nil c.loop-row.list)
+    ∙ ap (λ rows. c.loop-row.list ++ rows) (sym c.in-None.ensures.steps.0)
+    ∙ c.loop-row.invariant ∙ sym (ap (λ (it : LiveLeases). it.leases) c.self.view_is) in
+    subst (IsRising lease_cmp) (sym all) c.self.invariant.in_order
+
+pub returns-clause-numbers : goal.returns-clause-numbers
+returns-clause-numbers c =
+    let all = sym (append-nil c.loop-row.list)
+    ∙ ap (λ rows. c.loop-row.list ++ rows) (sym c.in-None.ensures.steps.0)
+    ∙ c.loop-row.invariant ∙ sym (ap (λ (it : LiveLeases). it.leases) c.self.view_is) in
+    let below = subst (λ (next : ℕ). Each (λ (lease : Lease). lease.lease < next)
+    c.self.inside.by_number.rows) (ap (λ (it : LiveLeases). it.next) c.self.view_is)
+    c.self.invariant.numbers in
+    subst (Each (λ (lease : Lease). lease.lease < c.args.self.now.next)) (sym all) below
