@@ -1,9 +1,9 @@
 -- A value at the front of bytes: how many bytes it takes, that no other is there, and that none is the front of another.
-use Rattle.std.proofs.Common.{◌≡◌, ◌∙◌, refl, sym, ap, subst, arith, ℕ, ◌-◌, ◌≤◌, List, ◌++◌, length, take, drop, Option, Some, None, append_assoc, length-append, length-drop}
+use Rattle.std.proofs.Common.{◌≡◌, ◌∙◌, sym, ap, arith, ℕ, ◌-◌, ◌≤◌, List, ◌++◌, length, take, drop, Some, None, append_assoc, length-append, length-drop}
 use Rattle.std.proofs.lemmas.List.{drop_at, take_at}
 use Rattle.std.proofs.lemmas.Option.{some_pair_parts}
 use Rattle.qfs_record.specs.Part.{AreBytes, Part}
-use Rattle.qfs_record.proofs.PartLaws.{IsPart, Takes}
+use Rattle.qfs_record.proofs.PartLaws.{IsPart}
 
 -- bytes that were put one after another
 pub before : (old mid new first rest : List ℕ) → mid ≡ old ++ first → new ≡ mid ++ rest → new ≡ old ++ (first ++ rest)

@@ -1,25 +1,8 @@
--- Lists of records: values are put one after another, and read so.
-use Rattle.std.proofs.Common.{◌≡◌, ◌∙◌, refl, sym, ap, subst, arith, ℕ, zero, suc, ◌+◌, ◌-◌, ◌<◌, ◌≤◌, List, [], ◌∷◌, ◌++◌, length, get_or, take, append_assoc, append-nil, Option, Some, None}
-use Rattle.std.specs.Prelude.{flat_map}
+-- Lists in records: values that are read one after another are those of the list.
+use Rattle.std.proofs.Common.{◌≡◌, ◌∙◌, refl, sym, ap, arith, ℕ, suc, ◌+◌, ◌-◌, ◌<◌, ◌≤◌, List, [], ◌∷◌, ◌++◌, append_assoc, append-nil, Option, Some, None}
 use Rattle.std.specs.Int.{w32}
 use Rattle.std.specs.Option.{option_map}
-use Rattle.std.specs.List.{AllByRecursion}
-use Rattle.std.proofs.lemmas.List.{flat_map_more, take_more}
 use Rattle.qfs_record.specs.Part.{Part, listed, many_at, number_at}
-
--- what holds of each value holds of the one at a place
-pub each_at : {X : Type 0} (P : X → Type 0) (xs : List X) → AllByRecursion P xs → (k : ℕ) (x : X) → k < length xs → x ≡ get_or xs k x → P x
-each_at P [] all k x inside is = absurd (omega arith)
-each_at P (y ∷ ys) all zero x inside is = subst P (sym is) all.0
-each_at P (y ∷ ys) all (suc k) x inside is = each_at P ys all.1 k x (omega arith) is
-
--- one value more was put
-pub put_more : {X : Type 0} (text : X → List ℕ) (out start : List ℕ) (xs : List X) (i : ℕ) (x : X) → i < length xs → x ≡ get_or xs i x
-    → out ≡ start ++ flat_map text (take i xs) → out ++ text x ≡ start ++ flat_map text (take (i + 1) xs)
-put_more text out start xs i x inside is so_far =
-    let more : take (i + 1) xs ≡ take i xs ++ x ∷ [] = take_more xs i x inside ∙ ap (λ y. take i xs ++ y ∷ []) (sym is) in
-    ap (λ (bytes : List ℕ). bytes ++ text x) so_far ∙ flat_map_more text start (take i xs) x
-    ∙ ap (λ ys. start ++ flat_map text ys) (sym more)
 
 -- values before those that were found
 abbrev pub with_front : {X : Type 0} → List X → Option (List X × List ℕ) → Option (List X × List ℕ)
@@ -49,9 +32,6 @@ pub one_more : {X : Type 0} (part : Part X) (done : List X) (count : ℕ) (bytes
     → part.read bytes ≡ Some (x, rest) → behind part done (suc count) bytes ≡ behind part (done ++ x ∷ []) count rest
 one_more part done count bytes x rest read = rw read (after_one done x (many_at part count rest))
 
-pub no_more : {X : Type 0} (part : Part X) (done : List X) (count : ℕ) (bytes : List ℕ) → part.read bytes ≡ None → behind part done (suc count) bytes ≡ None
-no_more part done count bytes read = rw read refl
-
 pub at_last : {X : Type 0} (part : Part X) (done : List X) (bytes : List ℕ) → behind part done 0 bytes ≡ Some (done, bytes)
 at_last {X} part done bytes = ap (λ (xs : List X). some_list xs bytes) (append-nil done)
 
@@ -70,12 +50,6 @@ list_goes_on part done pushed count i bytes x rest whole inside read more so_far
     ap (λ xs. behind part xs (count - (i + 1)) rest) more
     ∙ sym (one_more part done (count - (i + 1)) bytes x rest read)
     ∙ ap (λ (n : ℕ). behind part done n bytes) (sym left) ∙ so_far
-
-pub list_fails : {X : Type 0} (part : Part X) (done : List X) (count i : ℕ) (bytes : List ℕ) (whole : Option (List X × List ℕ))
-    → i < count → part.read bytes ≡ None → behind part done (count - i) bytes ≡ whole → None ≡ whole
-list_fails part done count i bytes whole inside read so_far =
-    let left : count - i ≡ suc (count - (i + 1)) = omega arith in
-    sym (no_more part done (count - (i + 1)) bytes read) ∙ ap (λ (n : ℕ). behind part done n bytes) (sym left) ∙ so_far
 
 pub list_ends : {X : Type 0} (part : Part X) (done : List X) (count i : ℕ) (bytes : List ℕ) (whole : Option (List X × List ℕ))
     → count ≤ i → behind part done (count - i) bytes ≡ whole → some_list done bytes ≡ whole

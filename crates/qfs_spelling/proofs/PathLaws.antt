@@ -1,5 +1,5 @@
 -- The text of a path in a record: it is read back, and what is read was written so.
-use Rattle.std.proofs.Common.{◌≡◌, ◌≢◌, ◌∙◌, refl, sym, ap, subst, arith, ℕ, ◌+◌, ◌*◌, ◌<◌, ◌≤◌, ◌^◌, Bool, true, false, cond, List, [], ◌∷◌, ◌++◌, length, Option, Some, None, eqb, length-append, lit<}
+use Rattle.std.proofs.Common.{◌≡◌, ◌≢◌, ◌∙◌, refl, sym, ap, subst, arith, ℕ, ◌+◌, ◌*◌, ◌<◌, ◌≤◌, true, false, cond, List, [], ◌∷◌, ◌++◌, length, Option, Some, None, eqb, length-append, lit<}
 use Rattle.std.specs.Prelude.{All, IfSome, nat_le, not, codes}
 use Rattle.std.specs.List.{list_all}
 use Rattle.std.specs.Int.{w16}
@@ -14,7 +14,7 @@ use Rattle.qfs_base.specs.NameTree.{PathNames}
 use Rattle.qfs_base.specs.Path.{IsName, IsNameByte, IsPath, SpellsPath, FindsSpelled, names_text, path_text, slash, split_names}
 use Rattle.qfs_base.proofs.PathTexts.{text_of_path, split_of_text}
 use Rattle.qfs_model_disks.specs.Values.{is_name, is_name_byte, path, path_at, path_below, path_of_names, path_of_text}
-use Rattle.qfs_record.specs.Part.{AreBytes, Part, counted}
+use Rattle.qfs_record.specs.Part.{AreBytes, counted}
 use Rattle.qfs_record.proofs.PartLaws.{IsPart, Takes, counted16, map_some, then_some}
 
 -- ---- names

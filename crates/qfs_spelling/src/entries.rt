@@ -3,11 +3,11 @@
 ghost use Rattle.std.specs.Prelude.{◌≡◌, ◌++◌, OnOk, OnErr, IfOk};
 ghost use Rattle.std.specs.Int.{w32};
 ghost use Rattle.qfs_base.specs.declared.history.Entry.TheVariants as Wrote;
-ghost use Rattle.qfs_model_disks.specs.Image.{IsSpelledEntry, closing, creating, entry, entry_at};
+ghost use Rattle.qfs_model_disks.specs.Image.{closing, creating, entry, entry_at};
 ghost use Rattle.qfs_model_disks.specs.Image.{entry_by, entry_reader, entry_text, reads_entry};
 ghost use Rattle.qfs_model_disks.specs.Values.{path};
 ghost use Rattle.qfs_record.specs.Part.{number, pair};
-ghost use Rattle.qfs_spelling.specs.Fronts.{Extends, Finds, front_of, numbered};
+ghost use Rattle.qfs_spelling.specs.Fronts.{Extends, front_of, numbered};
 
 use crate::spelled::Spelled;
 use crate::values::{from_one_at, path_at, put_of_path, put_path};

@@ -1,5 +1,5 @@
 //! The rows of an image's lists in their spellings.
-ghost use Rattle.std.specs.Prelude.{◌≡◌, ◌++◌, OnOk, OnErr, IfOk};
+ghost use Rattle.std.specs.Prelude.{◌≡◌, ◌++◌, OnOk, OnErr};
 ghost use Rattle.qfs_spelling.specs.Sets.{made, set_record, set_row};
 ghost use Rattle.qfs_spelling.specs.Fronts.{Extends, Finds};
 ghost use Rattle.qfs_model_disks.specs.Image.{condemned, condemned_row, dropped_actor, grant};

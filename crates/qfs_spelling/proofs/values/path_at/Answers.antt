@@ -1,6 +1,4 @@
-use Rattle.std.proofs.Common.{◌∙◌, None, Some, ap, sym, subst}
-use Rattle.qfs_base.specs.NameTree.{PathNames}
-use Rattle.qfs_model_disks.specs.Values.{path_at}
+use Rattle.std.proofs.Common.{◌∙◌, ap, sym}
 use Rattle.qfs_spelling.proofs.PathLaws.{no_path, path_read, with_rest}
 use Rattle.qfs_spelling.proofs.values.path_at.Goals as goal
 
