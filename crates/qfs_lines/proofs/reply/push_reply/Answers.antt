@@ -1,5 +1,5 @@
 use Rattle.qfs_model_text.specs.Reply.{reply_words}
-use Rattle.qfs_report.proofs.reply.push_reply.Goals as goal
+use Rattle.qfs_lines.proofs.reply.push_reply.Goals as goal
 
 pub returns-in-SourceFailed : goal.returns-in-SourceFailed
 unfolding reply_words

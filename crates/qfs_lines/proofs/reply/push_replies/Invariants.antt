@@ -1,6 +1,6 @@
 use Rattle.std.proofs.Common.{◌≡◌, ◌++◌, drop}
 use Rattle.qfs_model_text.specs.Reply.{reply_lines}
-use Rattle.qfs_report.proofs.reply.push_replies.Given as goal
+use Rattle.qfs_lines.proofs.reply.push_replies.Given as goal
 
 -- with the lines that are left, the text is that of all lines
 abbrev pub invariant-loop-reply : goal.invariant-loop-reply

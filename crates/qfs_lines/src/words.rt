@@ -58,3 +58,11 @@ pub fn end_line(out: &mut Vec<u8>) -> Result<(), AllocError>
     out.push(b'\n')?;
     Ok(())
 }
+
+/// Appends a blank and the decimal digits of a number that may be beyond 64 bits.
+pub fn push_total(out: &mut Vec<u8>, number: u128) -> Result<(), AllocError>
+    ensures { OnOk result (out.new.items ≡ out.old.items ++ spaced (decimal number)) }
+{
+    let mut buffer = Buffer::new();
+    push_word(out, buffer.format(number).as_bytes())
+}
