@@ -96,7 +96,9 @@ fn mark_text(kind: NameKind) -> &'static [u8]
 
 /// Appends how many names there are, and the names with their marks.
 fn push_names(out: &mut Vec<u8>, names: &[Name]) -> Result<(), AllocError>
-    ensures { OnOk result (out.new.items ≡ out.old.items ++ more_words (codes "list" ∷ decimal (length names.now) ∷ map name_word names.now)) }
+    ensures { OnOk result (out.new.items
+        ≡ out.old.items ++ more_words
+        (codes "list" ∷ decimal (length names.now) ∷ map name_word names.now)) }
 {
     push_word(out, b"list")?;
     push_number(out, names.len() as u64)?;
@@ -109,7 +111,8 @@ fn push_names(out: &mut Vec<u8>, names: &[Name]) -> Result<(), AllocError>
 
 /// Appends how many bytes were read, and what is shown of them.
 fn push_excerpt(alloc: Global, out: &mut Vec<u8>, read: &Excerpt) -> Result<(), AllocError>
-    ensures { OnOk result (out.new.items ≡ out.old.items ++ more_words (shown_words read.now.len read.now.shown)) }
+    ensures { OnOk result (out.new.items
+        ≡ out.old.items ++ more_words (shown_words read.now.len read.now.shown)) }
 {
     push_number(out, u64::from(read.len))?;
     match &read.shown {
@@ -129,7 +132,8 @@ fn push_excerpt(alloc: Global, out: &mut Vec<u8>, read: &Excerpt) -> Result<(), 
 
 /// Appends a word, and the file, index and slot that it speaks of.
 fn push_slot(out: &mut Vec<u8>, word: &[u8], block: BlockId, slot: Slot) -> Result<(), AllocError>
-    ensures { OnOk result (out.new.items ≡ out.old.items ++ more_words (word.now ∷ slot_words block slot)) }
+    ensures { OnOk result (out.new.items
+        ≡ out.old.items ++ more_words (word.now ∷ slot_words block slot)) }
 {
     push_word(out, word)?;
     push_number(out, u64::from(block.file))?;
@@ -139,7 +143,8 @@ fn push_slot(out: &mut Vec<u8>, word: &[u8], block: BlockId, slot: Slot) -> Resu
 
 /// Appends a word and a number.
 fn push_count(out: &mut Vec<u8>, word: &[u8], count: u64) -> Result<(), AllocError>
-    ensures { OnOk result (out.new.items ≡ out.old.items ++ more_words (word.now ∷ decimal count ∷ [])) }
+    ensures { OnOk result (out.new.items
+        ≡ out.old.items ++ more_words (word.now ∷ decimal count ∷ [])) }
 {
     push_word(out, word)?;
     push_number(out, count)
@@ -147,7 +152,8 @@ fn push_count(out: &mut Vec<u8>, word: &[u8], count: u64) -> Result<(), AllocErr
 
 /// Appends how many were done and how many failed.
 fn push_tally(out: &mut Vec<u8>, word: &[u8], done: u32, failed: u32) -> Result<(), AllocError>
-    ensures { OnOk result (out.new.items ≡ out.old.items ++ more_words (tally word.now done failed)) }
+    ensures { OnOk result (out.new.items
+        ≡ out.old.items ++ more_words (tally word.now done failed)) }
 {
     push_count(out, word, u64::from(done))?;
     push_count(out, b"failed", u64::from(failed))
@@ -160,7 +166,8 @@ fn push_failed(
     server: ServerId,
     cause: Cause,
 ) -> Result<(), AllocError>
-    ensures { OnOk result (out.new.items ≡ out.old.items ++ more_words (word.now ∷ decimal server ∷ cause_word cause ∷ [])) }
+    ensures { OnOk result (out.new.items
+        ≡ out.old.items ++ more_words (word.now ∷ decimal server ∷ cause_word cause ∷ [])) }
 {
     push_count(out, word, u64::from(server))?;
     out.push(b' ')?;

@@ -20,17 +20,21 @@ use Rattle.qfs_report.specs.declared.held.Held.{Held}
 
 pub letters_more : (live : List ℕ) (slot : ℕ)
     → flat_map audit_letter (map (has_slot live) (range_with_len 0 (slot + 1)))
-    ≡ flat_map audit_letter (map (has_slot live) (range_with_len 0 slot)) ++ audit_letter (has_slot live slot)
+    ≡ flat_map audit_letter (map (has_slot live) (range_with_len 0 slot))
+    ++ audit_letter (has_slot live slot)
 letters_more live slot =
     ap (flat_map audit_letter) (map-range_with_len_more (has_slot live) 0 slot slot (omega arith))
-    ∙ flat_map-append audit_letter (map (has_slot live) (range_with_len 0 slot)) (has_slot live slot ∷ [])
-    ∙ ap (λ last. flat_map audit_letter (map (has_slot live) (range_with_len 0 slot)) ++ last) (append_nil (audit_letter (has_slot live slot)))
+    ∙ flat_map-append audit_letter (map (has_slot live) (range_with_len 0 slot))
+    (has_slot live slot ∷ [])
+    ∙ ap (λ last. flat_map audit_letter (map (has_slot live) (range_with_len 0 slot)) ++ last)
+    (append_nil (audit_letter (has_slot live slot)))
   where
     append_nil : (xs : List ℕ) → xs ++ [] ≡ xs
     append_nil [] = refl
     append_nil (x ∷ xs) = ap (λ rest. x ∷ rest) (append_nil xs)
 
-run_counted : (run : StepRun) (runs : List StepRun) → length (steps_of_runs (run ∷ runs)) ≡ run.count + length (steps_of_runs runs)
+run_counted : (run : StepRun) (runs : List StepRun) → length (steps_of_runs (run ∷ runs))
+    ≡ run.count + length (steps_of_runs runs)
 unfolding steps_of_runs
 run_counted run runs =
     length-append (run_steps run) (steps_of_runs runs)
@@ -38,50 +42,66 @@ run_counted run runs =
 
 -- the steps of the run at an index, and of those behind it
 pub counted_more : (runs : List StepRun) (i : ℕ) (default : StepRun) → i < length runs
-    → length (steps_of_runs (drop i runs)) ≡ (get_or runs i default).count + length (steps_of_runs (drop (i + 1) runs))
+    → length (steps_of_runs (drop i runs))
+    ≡ (get_or runs i default).count + length (steps_of_runs (drop (i + 1) runs))
 counted_more runs i default inside =
     at_drop_more (λ left. length (steps_of_runs left)) runs i default inside
     ∙ run_counted (get_or runs i default) (drop (i + 1) runs)
 
 -- behind all runs none is left
-pub none_left : (runs : List StepRun) (i : ℕ) → length runs ≤ i → length (steps_of_runs (drop i runs)) ≡ 0
+pub none_left : (runs : List StepRun) (i : ℕ) → length runs ≤ i
+    → length (steps_of_runs (drop i runs)) ≡ 0
 unfolding steps_of_runs
 none_left runs i past = at_drop_all (λ left. length (steps_of_runs left)) runs i past
 
 -- all steps of an order, by its last one
-pub with_last : (runs : List StepRun) (step : Step) → length (all_steps runs (Some step)) ≡ length (steps_of_runs runs) + 1
+pub with_last : (runs : List StepRun) (step : Step) → length (all_steps runs (Some step))
+    ≡ length (steps_of_runs runs) + 1
 with_last runs step = length-append (steps_of_runs runs) (step ∷ [])
 
-pub without_last : (runs : List StepRun) → length (all_steps runs None) ≡ length (steps_of_runs runs)
+pub without_last : (runs : List StepRun) → length (all_steps runs None)
+    ≡ length (steps_of_runs runs)
 without_last runs = length-append (steps_of_runs runs) [] ∙ omega arith
 
 -- a set of slots counts those of a block that it has, so it has at most nine
-pub mask_count : (slots : List ℕ) → IsMask slots → length slots ≡ count_by (has_slot slots) all_slots
+pub mask_count : (slots : List ℕ) → IsMask slots → length slots
+    ≡ count_by (has_slot slots) all_slots
 unfolding slots_that
 mask_count slots mask = ap length (sym mask.rising) ∙ length-filter (has_slot slots) all_slots
 
 pub mask_few : (slots : List ℕ) → IsMask slots → length slots ≤ 9
-mask_few slots mask = subst (λ n. n ≤ 9) (sym (mask_count slots mask)) (count_by-le-length (has_slot slots) all_slots)
+mask_few slots mask = subst (λ n. n ≤ 9) (sym (mask_count slots mask))
+    (count_by-le-length (has_slot slots) all_slots)
 
 -- three counts behind a text
 pub three_counts : (out first second third a m b n c o : List ℕ)
-    → first ≡ out ++ more_words (a ∷ m ∷ []) → second ≡ first ++ more_words (b ∷ n ∷ []) → third ≡ second ++ more_words (c ∷ o ∷ [])
+    → first ≡ out ++ more_words (a ∷ m ∷ []) → second ≡ first ++ more_words (b ∷ n ∷ []) → third
+    ≡ second ++ more_words (c ∷ o ∷ [])
     → third ≡ out ++ more_words (a ∷ m ∷ b ∷ n ∷ c ∷ o ∷ [])
 three_counts out first second third a m b n c o is-first is-second is-third =
     is-third
-    ∙ ap (λ text. text ++ more_words (c ∷ o ∷ [])) (is-second ∙ ap (λ text. text ++ more_words (b ∷ n ∷ [])) is-first ∙ append_assoc out (more_words (a ∷ m ∷ [])) (more_words (b ∷ n ∷ [])))
-    ∙ append_assoc out (more_words (a ∷ m ∷ []) ++ more_words (b ∷ n ∷ [])) (more_words (c ∷ o ∷ []))
+    ∙ ap (λ text. text ++ more_words (c ∷ o ∷ []))
+    (is-second ∙ ap (λ text. text ++ more_words (b ∷ n ∷ [])) is-first
+    ∙ append_assoc out (more_words (a ∷ m ∷ [])) (more_words (b ∷ n ∷ [])))
+    ∙ append_assoc out (more_words (a ∷ m ∷ []) ++ more_words (b ∷ n ∷ []))
+    (more_words (c ∷ o ∷ []))
     ∙ ap (λ text. out ++ text)
-    (ap (λ text. text ++ more_words (c ∷ o ∷ [])) (sym (flat_map-append spaced (a ∷ m ∷ []) (b ∷ n ∷ [])))
+    (ap (λ text. text ++ more_words (c ∷ o ∷ []))
+    (sym (flat_map-append spaced (a ∷ m ∷ []) (b ∷ n ∷ [])))
     ∙ sym (flat_map-append spaced (a ∷ m ∷ b ∷ n ∷ []) (c ∷ o ∷ [])))
 
 -- a block more whose file is closed
-pub line_more : (files : List (ℕ × PathNames)) (left rest : List (BlockId × Held)) (block : BlockId) (held : Held) (path : PathNames) (out now : List ℕ)
+pub line_more : (files : List (ℕ × PathNames)) (left rest : List (BlockId × Held)) (block : BlockId)
+    (held : Held) (path : PathNames) (out now : List ℕ)
     → left ≡ (block, held) ∷ rest → value_at nat_cmp files block.file ≡ Some path
-    → now ≡ out ++ audit_line (record { path = path; index = block.index; right = map (has_slot held.live) all_slots })
-    → now ++ flat_map audit_line (lines_of files rest) ≡ out ++ flat_map audit_line (lines_of files left)
+    → now ≡ out ++ audit_line (record
+    { path = path; index = block.index; right = map (has_slot held.live) all_slots })
+    → now ++ flat_map audit_line (lines_of files rest) ≡ out
+    ++ flat_map audit_line (lines_of files left)
 unfolding lines_of line_if
 line_more files left rest block held path out now is found told =
     rw (is, found)
     (ap (λ text. text ++ flat_map audit_line (lines_of files rest)) told
-    ∙ append_assoc out (audit_line (record { path = path; index = block.index; right = map (has_slot held.live) all_slots })) (flat_map audit_line (lines_of files rest)))
+    ∙ append_assoc out (audit_line (record
+    { path = path; index = block.index; right = map (has_slot held.live) all_slots }))
+    (flat_map audit_line (lines_of files rest)))

@@ -31,7 +31,8 @@ file-first a b rest less =
     ] refl less
 
 -- no number at or below the first of rising ones stands behind it
-none-before : {P : Type 0} (n : ℕ) (files : List (ℕ × P)) → AllByRecursion (λ m. nat_cmp n m ≡ Less) (keys_of files)
+none-before : {P : Type 0} (n : ℕ) (files : List (ℕ × P))
+    → AllByRecursion (λ m. nat_cmp n m ≡ Less) (keys_of files)
     → (k : ℕ) → k ≤ n → value_at nat_cmp files k ≡ None
 none-before n [] above k below = refl
 none-before n (f ∷ files) above k below =
@@ -49,14 +50,16 @@ no-more n b (c ∷ blocks) later rising =
     let e : (c.file == n) ≡ false = grind arith in
     rw e (no-more n b blocks later rising.1)
 
-module _ {P Y : Type 0} (at : Option P → BlockId → List Y) (nothing : (b : BlockId) → at None b ≡ []) where
+module _ {P Y : Type 0} (at : Option P → BlockId → List Y) (nothing : (b : BlockId) → at None b
+    ≡ []) where
   -- what the blocks give whose file is looked up
   abbrev pub looked_up : List (ℕ × P) → List BlockId → List Y
   looked_up files blocks = flat_map (λ (b : BlockId). at (value_at nat_cmp files b.file) b) blocks
 
   -- what those of a file give
   abbrev pub of_file : List BlockId → ℕ × P → List Y
-  of_file blocks f = flat_map (λ (b : BlockId). at (Some f.1) b) (filter (λ (b : BlockId). b.file == f.0) blocks)
+  of_file blocks f = flat_map (λ (b : BlockId). at (Some f.1) b)
+      (filter (λ (b : BlockId). b.file == f.0) blocks)
 
   -- one block more before those of which it is known
   split-first : (n : ℕ) (p : P) (files : List (ℕ × P)) (b : BlockId) (blocks : List BlockId)
@@ -65,16 +68,24 @@ module _ {P Y : Type 0} (at : Option P → BlockId → List Y) (nothing : (b : B
       → looked_up ((n, p) ∷ files) blocks ≡ of_file blocks (n, p) ++ looked_up files blocks
       → (is : Bool) → (b.file == n) ≡ is
       → at (cond is (Some p) (value_at nat_cmp files b.file)) b ++ looked_up ((n, p) ∷ files) blocks
-      ≡ flat_map (λ (c : BlockId). at (Some p) c) (cond is (b ∷ filter (λ (c : BlockId). c.file == n) blocks) (filter (λ (c : BlockId). c.file == n) blocks))
+      ≡ flat_map (λ (c : BlockId). at (Some p) c)
+      (cond is (b ∷ filter (λ (c : BlockId). c.file == n) blocks)
+      (filter (λ (c : BlockId). c.file == n) blocks))
       ++ (at (value_at nat_cmp files b.file) b ++ looked_up files blocks)
   split-first n p files b blocks above rising more true is =
-      let empty : at (value_at nat_cmp files b.file) b ≡ [] = ap (λ v. at v b) (none-before n files above b.file (grind arith)) ∙ nothing b in
-      rw (more, empty) (sym (append_assoc (at (Some p) b) (of_file blocks (n, p)) (looked_up files blocks)))
+      let empty : at (value_at nat_cmp files b.file) b
+      ≡ [] = ap (λ v. at v b) (none-before n files above b.file (grind arith)) ∙ nothing b in
+      rw (more, empty) (sym (append_assoc (at (Some p) b) (of_file blocks (n, p))
+      (looked_up files blocks)))
   split-first n p files b blocks above rising more false is =
-      elim (nat_cmp b.file n) as (λ r. nat_cmp b.file n ≡ r → at (value_at nat_cmp files b.file) b ++ looked_up ((n, p) ∷ files) blocks ≡ of_file blocks (n, p) ++ (at (value_at nat_cmp files b.file) b ++ looked_up files blocks)) [
+      elim (nat_cmp b.file n) as (λ r. nat_cmp b.file n ≡ r → at (value_at nat_cmp files b.file) b
+      ++ looked_up ((n, p) ∷ files) blocks ≡ of_file blocks (n, p)
+      ++ (at (value_at nat_cmp files b.file) b ++ looked_up files blocks)) [
         | Less ↦ λ h.
             let l : b.file < n = ranked b.file n Less (sym h) in
-            let empty : at (value_at nat_cmp files b.file) b ≡ [] = ap (λ v. at v b) (none-before n files above b.file (omega arith)) ∙ nothing b in
+            let empty : at (value_at nat_cmp files b.file) b
+            ≡ [] = ap (λ v. at v b) (none-before n files above b.file (omega arith))
+            ∙ nothing b in
             rw (more, empty) refl
         | Equal ↦ λ h. let e : b.file ≡ n = ranked b.file n Equal (sym h) in absurd (grind arith)
         | Greater ↦ λ h.
@@ -84,13 +95,15 @@ module _ {P Y : Type 0} (at : Option P → BlockId → List Y) (nothing : (b : B
 
   -- what the first file's blocks give, and then those of the other files
   split : (n : ℕ) (p : P) (files : List (ℕ × P)) (blocks : List BlockId)
-      → AllByRecursion (λ m. nat_cmp n m ≡ Less) (keys_of files) → IsStrictlySortedBy block_cmp blocks
+      → AllByRecursion (λ m. nat_cmp n m ≡ Less) (keys_of files)
+      → IsStrictlySortedBy block_cmp blocks
       → looked_up ((n, p) ∷ files) blocks ≡ of_file blocks (n, p) ++ looked_up files blocks
   unfolding IsStrictlySortedBy
   split n p files [] above rising = refl
   split n p files (b ∷ blocks) above rising =
       rw (key-is b.file n)
-      (split-first n p files b blocks above rising.0 (split n p files blocks above rising.1) (b.file == n) refl)
+      (split-first n p files b blocks above rising.0 (split n p files blocks above rising.1)
+      (b.file == n) refl)
 
   -- what the blocks give whose files are looked up is what each file's blocks give
   pub joined : (files : List (ℕ × P)) (blocks : List BlockId)
@@ -100,4 +113,5 @@ module _ {P Y : Type 0} (at : Option P → BlockId → List Y) (nothing : (b : B
   joined [] [] above rising = refl
   joined [] (b ∷ blocks) above rising = rw (nothing b) (joined [] blocks above rising.1)
   joined (f ∷ files) blocks above rising =
-      split f.0 f.1 files blocks above.0 rising ∙ ap (λ rest. of_file blocks f ++ rest) (joined files blocks above.1 rising)
+      split f.0 f.1 files blocks above.0 rising
+      ∙ ap (λ rest. of_file blocks f ++ rest) (joined files blocks above.1 rising)

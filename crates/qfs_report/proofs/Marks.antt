@@ -13,16 +13,21 @@ twice true c = refl
 twice false c = refl
 
 -- the slot goes before a later one, is there, or goes behind
-inserted-further : (s t u : ℕ) (us : List ℕ) → has_slot (insert_slot s us) t ≡ ((s == t) || has_slot us t)
+inserted-further : (s t u : ℕ) (us : List ℕ) → has_slot (insert_slot s us) t
+    ≡ ((s == t) || has_slot us t)
     → (less same : Bool) → (s == u) ≡ same
-    → has_slot (cond less (s ∷ u ∷ us) (cond same (u ∷ us) (u ∷ insert_slot s us))) t ≡ ((s == t) || has_slot (u ∷ us) t)
+    → has_slot (cond less (s ∷ u ∷ us) (cond same (u ∷ us) (u ∷ insert_slot s us))) t
+    ≡ ((s == t) || has_slot (u ∷ us) t)
 unfolding has_slot
 inserted-further s t u us more true same is = refl
-inserted-further s t u us more false true is = let e : s ≡ u = grind arith in rw e (twice (u == t) (has_slot us t))
-inserted-further s t u us more false false is = ap (λ b. (u == t) || b) more ∙ swap (s == t) (u == t) (has_slot us t)
+inserted-further s t u us more false true is = let e : s
+    ≡ u = grind arith in rw e (twice (u == t) (has_slot us t))
+inserted-further s t u us more false false is = ap (λ b. (u == t) || b) more
+    ∙ swap (s == t) (u == t) (has_slot us t)
 
 -- a slot is in a set into which one was put if it is that one, or was there
-pub has-inserted : (s t : ℕ) (slots : List ℕ) → has_slot (insert_slot s slots) t ≡ ((s == t) || has_slot slots t)
+pub has-inserted : (s t : ℕ) (slots : List ℕ) → has_slot (insert_slot s slots) t
+    ≡ ((s == t) || has_slot slots t)
 unfolding has_slot insert_slot
 has-inserted s t [] = refl
 has-inserted s t (u ∷ us) = inserted-further s t u us (has-inserted s t us) (ltb s u) (s == u) refl

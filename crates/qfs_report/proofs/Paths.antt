@@ -12,11 +12,17 @@ use Rattle.qfs_base.specs.NameTree.{PathNames}
 use Rattle.qfs_report.specs.AuditTables.{paths_of}
 
 pub paths_more : (closed : List (ℕ × Bor PathNames)) (file : ℕ) (path : Bor PathNames)
-    → paths_of (with_entry nat_cmp closed file path) ≡ with_entry nat_cmp (paths_of closed) file path.now
+    → paths_of (with_entry nat_cmp closed file path)
+    ≡ with_entry nat_cmp (paths_of closed) file path.now
 unfolding paths_of
 paths_more [] file path = refl
 paths_more (e ∷ es) file path =
-    elim (nat_cmp file e.0) as (λ r. paths_of (match_ordering r ((file, path) ∷ e ∷ es) ((e.0, path) ∷ es) (e ∷ insert_entry nat_cmp es file path)) ≡ match_ordering r ((file, path.now) ∷ (e.0, e.1.now) ∷ paths_of es) ((e.0, path.now) ∷ paths_of es) ((e.0, e.1.now) ∷ insert_entry nat_cmp (paths_of es) file path.now)) [
+    elim (nat_cmp file e.0) as (λ r. paths_of
+    (match_ordering r ((file, path) ∷ e ∷ es) ((e.0, path) ∷ es)
+    (e ∷ insert_entry nat_cmp es file path))
+    ≡ match_ordering r ((file, path.now) ∷ (e.0, e.1.now) ∷ paths_of es)
+    ((e.0, path.now) ∷ paths_of es)
+    ((e.0, e.1.now) ∷ insert_entry nat_cmp (paths_of es) file path.now)) [
       | Less ↦ refl
       | Equal ↦ refl
       | Greater ↦ ap (λ rest. (e.0, e.1.now) ∷ rest) (paths_more es file path)
@@ -27,7 +33,9 @@ pub paths_found : (closed : List (ℕ × Bor PathNames)) (file : ℕ)
 unfolding paths_of
 paths_found [] file = refl
 paths_found (e ∷ es) file =
-    elim (is_eq (nat_cmp file e.0)) as (λ b. cond b (Some e.1.now) (value_at nat_cmp (paths_of es) file) ≡ option_copied (cond b (Some e.1) (value_at nat_cmp es file))) [
+    elim (is_eq (nat_cmp file e.0))
+    as (λ b. cond b (Some e.1.now) (value_at nat_cmp (paths_of es) file)
+    ≡ option_copied (cond b (Some e.1) (value_at nat_cmp es file))) [
       | true ↦ refl
       | false ↦ paths_found es file
     ]
@@ -38,7 +46,8 @@ paths_keys [] = refl
 paths_keys (e ∷ es) = ap (λ keys. e.0 ∷ keys) (paths_keys es)
 
 -- no keys rise
-pub none_rise : {V : Type 0} (closed : List (ℕ × V)) → closed ≡ [] → IsStrictlySortedBy nat_cmp (keys_of closed)
+pub none_rise : {V : Type 0} (closed : List (ℕ × V)) → closed ≡ []
+    → IsStrictlySortedBy nat_cmp (keys_of closed)
 unfolding IsStrictlySortedBy
 none_rise closed empty = rw empty tt
 

@@ -44,7 +44,12 @@ is_live_slot lives slots block slot = is_live lives (slot_at slots block slot).c
 -- the line of a block of a file, and those of its blocks
 unfoldable pub audit_of_block : List ℕ → List SlotRow → TreeRow → BlockId → AuditLine
 audit_of_block lives slots row block =
-    record { path = row.path; index = block.index; right = map (is_live_slot lives slots block) all_slots }
+    record {
+      path = row.path;
+      index = block.index;
+      right = map (is_live_slot lives slots block)
+          all_slots;
+    }
 
 unfoldable pub audit_of_file : List ℕ → List SlotRow → TreeRow → List AuditLine
 audit_of_file lives slots row = map (audit_of_block lives slots row) (blocks_of_file slots row.file)

@@ -34,7 +34,8 @@ held_unless false lives held row = record {
 }
 
 unfoldable pub held_with : List ℕ → Held → SlotRow → Held
-held_with lives held row = held_unless (not (ltb row.slot 9) || has_slot held.known row.slot) lives held row
+held_with lives held row = held_unless (not (ltb row.slot 9) || has_slot held.known row.slot) lives
+    held row
 
 -- a table of blocks with a row more
 unfoldable pub table_with : List ℕ → List (BlockId × Held) → SlotRow → List (BlockId × Held)

@@ -54,7 +54,11 @@ fn push_letters(out: &mut Vec<u8>, live: Mask) -> Result<(), AllocError>
 /// Appends the line of a block.
 fn push_line(out: &mut Vec<u8>, path: &Path, index: u32, live: Mask) -> Result<(), AllocError>
     ensures { OnOk result (out.new.items ≡ out.old.items
-        ++ audit_line (record { path = path.now; index = index; right = map (has_slot live) all_slots })) }
+        ++ audit_line (record {
+          path = path.now;
+          index = index;
+          right = map (has_slot live) all_slots;
+        })) }
 {
     out.extend_from_slice(b"audit")?;
     push_path(out, path)?;
@@ -132,7 +136,8 @@ fn count_steps(order: &Order) -> u128
 
 /// Appends a word and a count.
 fn push_count(out: &mut Vec<u8>, word: &[u8], count: u128) -> Result<(), AllocError>
-    ensures { OnOk result (out.new.items ≡ out.old.items ++ more_words (word.now ∷ decimal count ∷ [])) }
+    ensures { OnOk result (out.new.items
+        ≡ out.old.items ++ more_words (word.now ∷ decimal count ∷ [])) }
 {
     push_word(out, word)?;
     push_total(out, count)

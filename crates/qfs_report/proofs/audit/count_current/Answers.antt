@@ -5,8 +5,10 @@ use Rattle.qfs_report.proofs.audit.count_current.Goals as goal
 
 pub returns-clause-count : goal.returns-clause-count
 unfolding current_of
-returns-clause-count c = c.count.ensures.count ∙ mask_count c.args.held.now.current c.count.ensures.mask
+returns-clause-count c = c.count.ensures.count
+    ∙ mask_count c.args.held.now.current c.count.ensures.mask
 
 pub returns-clause-few : goal.returns-clause-few
 returns-clause-few c =
-    subst (λ n. n ≤ 9) (sym c.count.ensures.count) (mask_few c.args.held.now.current c.count.ensures.mask)
+    subst (λ n. n ≤ 9) (sym c.count.ensures.count)
+    (mask_few c.args.held.now.current c.count.ensures.mask)

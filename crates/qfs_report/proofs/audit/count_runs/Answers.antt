@@ -10,4 +10,8 @@ loop-run-preserved c = record {
 
 pub returns-clause-count : goal.returns-clause-count
 returns-clause-count c =
-    omega (arith, none_left c.args.runs.now c.loop-run.run-index (omega arith), c.loop-run.invariant.steps)
+    omega (
+      arith,
+      none_left c.args.runs.now c.loop-run.run-index (omega arith),
+      c.loop-run.invariant.steps,
+    )

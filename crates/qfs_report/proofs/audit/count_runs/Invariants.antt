@@ -5,6 +5,7 @@ use Rattle.qfs_report.proofs.audit.count_runs.Given as goal
 
 abbrev pub invariant-loop-run : goal.invariant-loop-run
 invariant-loop-run l = record {
-  steps : l.steps + length (steps_of_runs (drop l.run-index l.runs)) ≡ length (steps_of_runs l.runs);
+  steps : l.steps + length (steps_of_runs (drop l.run-index l.runs))
+      ≡ length (steps_of_runs l.runs);
   few : l.steps ≤ l.run-index * 2 ^ 32;
 }

@@ -12,7 +12,8 @@ returns c =
     let closed = c.in_ok-closed.closed in
     on_ok c.push_summary.result
     (audit-is c.args.image.now c.args.lives.now _ c.as_slice-tree.result.now c.as_slice.result.now
-    (paths_of closed) c.in_ok-blocks.blocks c.args.out.now.items c.push_lines.new.out.items c.push_summary.new.out.items
+    (paths_of closed) c.in_ok-blocks.blocks c.args.out.now.items c.push_lines.new.out.items
+    c.push_summary.new.out.items
     (record {
       files = c.count_files.result;
       dirs = c.count_directories.result;
@@ -22,7 +23,8 @@ returns c =
       steps = c.count_steps.result;
     })
     c.as_slice-tree.ensures c.as_slice.ensures
-    c.in_ok-closed.ensures.files (subst (IsStrictlySortedBy nat_cmp) (sym (paths_keys closed)) c.in_ok-closed.ensures.rising)
+    c.in_ok-closed.ensures.files (subst (IsStrictlySortedBy nat_cmp) (sym (paths_keys closed))
+    c.in_ok-closed.ensures.rising)
     c.in_ok-blocks.ensures.table c.in_ok-blocks.ensures.rising
     c.in_ok-push_lines.ensures
     c.count_files.ensures c.count_directories.ensures

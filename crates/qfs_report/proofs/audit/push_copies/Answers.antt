@@ -7,7 +7,9 @@ pub returns : goal.returns
 returns c =
     let s = c.args.summary.now in
     on_ok c.push_count-3.result
-    (three_counts c.args.out.now.items c.push_count.new.out.items c.push_count-2.new.out.items c.push_count-3.new.out.items
-    (codes "copies") (decimal s.copies) (codes "condemned") (decimal s.condemned) (codes "steps") (decimal s.steps)
+    (three_counts c.args.out.now.items c.push_count.new.out.items c.push_count-2.new.out.items
+    c.push_count-3.new.out.items
+    (codes "copies") (decimal s.copies) (codes "condemned") (decimal s.condemned) (codes "steps")
+    (decimal s.steps)
     c.in_ok-push_count.ensures c.in_ok-push_count-2.ensures)
     c.push_count-3.ensures

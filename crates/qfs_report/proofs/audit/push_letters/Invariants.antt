@@ -7,4 +7,5 @@ use Rattle.qfs_report.proofs.audit.push_letters.Given as goal
 
 abbrev pub invariant-loop-slot : goal.invariant-loop-slot
 invariant-loop-slot l =
-    l.out.items ≡ l.initial.out.items ++ flat_map audit_letter (map (has_slot l.live) (range_with_len 0 l.slot))
+    l.out.items ≡ l.initial.out.items
+    ++ flat_map audit_letter (map (has_slot l.live) (range_with_len 0 l.slot))

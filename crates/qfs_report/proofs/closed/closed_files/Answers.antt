@@ -5,6 +5,7 @@ use Rattle.qfs_report.proofs.closed.closed_files.Goals as goal
 
 pub loop-row-init : goal.loop-row-init
 loop-row-init c = record {
-  files = ap (λ files. closed_of files c.args.tree.now) (no_paths c.new-closed.result c.new-closed.ensures);
+  files = ap (λ files. closed_of files c.args.tree.now)
+      (no_paths c.new-closed.result c.new-closed.ensures);
   rising = none_rise c.new-closed.result c.new-closed.ensures;
 }
