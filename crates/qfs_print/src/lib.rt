@@ -1,0 +1,7 @@
+//! Printing the commands of scripts, each as its line.
+#![tactic(auto)]
+
+mod commands;
+mod words;
+
+pub use commands::{push_command, push_commands};
