@@ -8,11 +8,11 @@ ghost use Rattle.qfs_model_script.specs.ScriptText.{recipe_words, range_words, f
 ghost use Rattle.qfs_model_text.specs.Line.{line, more_words};
 ghost use Rattle.qfs_print.specs.Texts.{commands_text};
 
-use crate::words::{end_line, push_hex, push_number, push_path, push_word};
 use qfs_base::command::{Command, FileCommand, Range};
 use qfs_base::numbers::{ServerId, Slot};
 use qfs_base::path::Path;
 use qfs_base::recipe::{Form, Recipe};
+use qfs_lines::words::{end_line, push_hex, push_number, push_path, push_word};
 use std::alloc::{AllocError, Global};
 
 /// Appends the words for the bytes of a put.

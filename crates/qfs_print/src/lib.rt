@@ -2,6 +2,5 @@
 #![tactic(auto)]
 
 mod commands;
-mod words;
 
 pub use commands::{push_command, push_commands};
