@@ -11,4 +11,6 @@ pub mod PrintedWords
 pub mod PrintedCommands
 pub mod PrintedOrder
 pub mod Through
+pub mod PrintedFirst
+pub mod Costs
 pub mod ReadsBack

@@ -1,12 +1,10 @@
 -- What is printed of a script is read back, for the law of qfs_model_grammar.
 use Rattle.std.proofs.Common.{◌≡◌, ◌⊎◌, inl, inr, ◌∙◌, sym, ap, refl, subst, arith, ℕ, zero, suc, ◌+◌, ◌<◌, ◌≤◌, ◌^◌, Bool, true, false, List, [], ◌∷◌, ◌++◌, length, Option, Some, None, Result, Ok, append_assoc, append-nil, length-append}
-use Rattle.std.specs.Prelude.{codes, decimal, flat_map, filter_map, map, sum_by, IfSome, nat_lt, not, is_none, IsSome, ◌&&◌}
+use Rattle.std.specs.Prelude.{codes, decimal, filter_map, map, IfSome, nat_lt, not, is_none, IsSome, ◌&&◌}
 use Rattle.std.specs.List.{cons_option}
 use Rattle.std.proofs.lemmas.Bool.{le-leb, lt-ltb, and_from}
 use Rattle.std.proofs.lemmas.Fmt.{decimal_digit}
-use Rattle.std.proofs.lemmas.List.Concat.{flat_map-append}
 use Rattle.std.proofs.lemmas.List.Elements.{filter_map-append}
-use Rattle.std.proofs.lemmas.List.Sums.{sum_by-append}
 use Rattle.qfs_base.specs.Layout.{block_bytes}
 use Rattle.qfs_base.specs.Order.{steps_of_runs}
 use Rattle.qfs_base.specs.Shape.{Shape}
@@ -25,142 +23,27 @@ use Rattle.qfs_model_grammar.specs.CommandLines.{command_of}
 use Rattle.qfs_model_grammar.specs.Counts.{no_word, one_word, two_words}
 use Rattle.qfs_model_grammar.specs.FirstWord.{FirstWord}
 use Rattle.qfs_model_grammar.specs.FirstWord as First
-use Rattle.qfs_model_grammar.specs.FirstWords.{first_word, may_stand, may_be_last}
+use Rattle.qfs_model_grammar.specs.FirstWords.{may_stand, may_be_last}
 use Rattle.qfs_model_grammar.specs.Kinds.{number_in, stripe_in, run_in}
 use Rattle.qfs_model_grammar.specs.Laws.{HasRoom, ReadsBack}
 use Rattle.qfs_model_grammar.specs.LinePlace.{LinePlace}
 use Rattle.qfs_model_grammar.specs.LinePlace as Behind
-use Rattle.qfs_model_grammar.specs.Lines.{text_lines, begins_remark}
+use Rattle.qfs_model_grammar.specs.Lines.{text_lines}
 use Rattle.qfs_model_grammar.specs.ReadScript.{BadLine, at_line, read_lines, whole_script, script_of_lines, read_script}
 use Rattle.qfs_model_grammar.specs.Said.{Said, ◌>>=◌, if_kept, read_each}
 use Rattle.qfs_model_grammar.specs.SoFar.{SoFar, nothing_yet, with_head, change_last, with_actor, with_command, with_next_actor, with_next_command, keeps_limits, put_len, take_qfs, take_layout, take_servers, take_term, take_audit, take_phase, take_actor, take_command, take_order, take_line}
 use Rattle.qfs_laws_grammar.proofs.Bodies.{puts_in, one_put, OnePut, PutsNothing, put_told}
 use Rattle.qfs_laws_grammar.proofs.ChunkBytes.{no_rows}
-use Rattle.qfs_laws_grammar.proofs.Lists.{flat_push, changed, each_front, each_back}
-use Rattle.qfs_laws_grammar.proofs.PlainWords.{IsPlain, plain}
-use Rattle.qfs_laws_grammar.proofs.PrintedCommands.{on, Spells, command_told}
+use Rattle.qfs_laws_grammar.proofs.Costs.{flat, cost, cost-append, opened, count_opened, cost_opened, cost_phase, cost_phases, count_phase, kept}
+use Rattle.qfs_laws_grammar.proofs.Lists.{changed, each_front, each_back}
+use Rattle.qfs_laws_grammar.proofs.PlainWords.{plain}
+use Rattle.qfs_laws_grammar.proofs.PrintedCommands.{on, command_told}
+use Rattle.qfs_laws_grammar.proofs.PrintedFirst.{spells_qfs, spells_layout, spells_servers, spells_term, spells_audit, spells_phase, spells_actor, spells_order}
 use Rattle.qfs_laws_grammar.proofs.PrintedOrder.{order_told}
 use Rattle.qfs_laws_grammar.proofs.PrintedWords.{plain_number, number_back, stripe_back}
 use Rattle.qfs_laws_grammar.proofs.Sound.{Phases, actors_in}
 use Rattle.qfs_laws_grammar.proofs.Through.{Reads, line_read, Through, through_append, one_line, all_read, text_lines_are}
 use Rattle.qfs_laws_grammar.proofs.WordRanges.{OfActor}
-
--- ---- first words
-
-spelled : (word : List ℕ) (first : FirstWord) → IsPlain word → first_word word ≡ Some first
-    → begins_remark word ≡ false → Spells word first
-spelled word first is found no_remark = record { plain = is; first = found; no_remark = no_remark }
-
-spells_qfs : Spells (codes "qfs") First.Qfs
-unfolding first_word begins_remark
-spells_qfs = spelled (codes "qfs") First.Qfs (plain (codes "qfs") refl) refl refl
-
-spells_layout : Spells (codes "layout") First.Layout
-unfolding first_word begins_remark
-spells_layout = spelled (codes "layout") First.Layout (plain (codes "layout") refl) refl refl
-
-spells_servers : Spells (codes "servers") First.Servers
-unfolding first_word begins_remark
-spells_servers = spelled (codes "servers") First.Servers (plain (codes "servers") refl) refl refl
-
-spells_term : Spells (codes "term") First.Term
-unfolding first_word begins_remark
-spells_term = spelled (codes "term") First.Term (plain (codes "term") refl) refl refl
-
-spells_audit : Spells (codes "audit") First.Audit
-unfolding first_word begins_remark
-spells_audit = spelled (codes "audit") First.Audit (plain (codes "audit") refl) refl refl
-
-spells_phase : Spells (codes "phase") First.Phase
-unfolding first_word begins_remark
-spells_phase = spelled (codes "phase") First.Phase (plain (codes "phase") refl) refl refl
-
-spells_actor : Spells (codes "actor") First.Actor
-unfolding first_word begins_remark
-spells_actor = spelled (codes "actor") First.Actor (plain (codes "actor") refl) refl refl
-
-spells_order : Spells (codes "order") First.Order
-unfolding first_word begins_remark
-spells_order = spelled (codes "order") First.Order (plain (codes "order") refl) refl refl
-
--- ---- the state behind some phases
-
--- the commands of actors, and what these commands put
-abbrev flat : List (List Command) → List Command
-flat actors = flat_map (λ commands. commands) actors
-
-abbrev cost : (ℕ → ℕ) → List Command → ℕ
-cost weight commands = sum_by weight (filter_map len_put commands)
-
-cost-append : (weight : ℕ → ℕ) (first second : List Command)
-    → cost weight (first ++ second) ≡ cost weight first + cost weight second
-cost-append weight first second =
-    ap (sum_by weight) (filter_map-append len_put first second)
-    ∙ sum_by-append weight (filter_map len_put first) (filter_map len_put second)
-
--- with one list of commands behind another, as the last actor has them and as a list of actors has
--- them
-cost_push : (weight : ℕ → ℕ) (actors : List (List Command)) (last : List Command)
-    → cost weight (flat (actors ++ last ∷ [])) ≡ cost weight (flat actors) + cost weight last
-cost_push weight actors last = ap (cost weight) (flat_push actors last)
-    ∙ cost-append weight (flat actors) last
-
--- phases with an actor that is still open: those before it, the actors before it, and its commands
--- so far
-abbrev opened : Phases → List (List Command) → List Command → Phases
-opened earlier front last = earlier ++ (front ++ last ∷ []) ∷ []
-
-actors_opened : (earlier : Phases) (front : List (List Command)) (last : List Command)
-    → actors_in (opened earlier front last) ≡ (actors_in earlier ++ front) ++ last ∷ []
-actors_opened earlier front last =
-    flat_push earlier (front ++ last ∷ [])
-    ∙ sym (append_assoc (actors_in earlier) front (last ∷ []))
-
-count_opened : (earlier : Phases) (front : List (List Command)) (last : List Command)
-    → length (actors_in (opened earlier front last)) ≡ length
-    (actors_in (earlier ++ front ∷ [])) + 1
-count_opened earlier front last =
-    omega (
-      arith,
-      ap length (actors_opened earlier front last),
-      ap length (flat_push earlier front),
-      length-append (actors_in earlier ++ front) (last ∷ []),
-    )
-
-cost_opened : (weight : ℕ → ℕ) (earlier : Phases) (front : List (List Command))
-    (last : List Command)
-    → cost weight (flat (actors_in (opened earlier front last))) ≡ cost weight
-    (flat (actors_in (earlier ++ front ∷ []))) + cost weight last
-cost_opened weight earlier front last =
-    ap (λ actors. cost weight (flat actors)) (actors_opened earlier front last)
-    ∙ cost_push weight (actors_in earlier ++ front) last
-    ∙ ap (λ actors. cost weight (flat actors) + cost weight last) (sym (flat_push earlier front))
-
--- what a phase more costs
-cost_phase : (weight : ℕ → ℕ) (done : Phases) (phase : List (List Command))
-    → cost weight (flat (actors_in (done ++ phase ∷ []))) ≡ cost weight
-    (flat (actors_in done)) + cost weight (flat phase)
-cost_phase weight done phase =
-    ap (λ actors. cost weight (flat actors)) (flat_push done phase)
-    ∙ ap (cost weight) (flat_map-append (λ (commands : List Command). commands) (actors_in done)
-    phase)
-    ∙ cost-append weight (flat (actors_in done)) (flat phase)
-
-cost_phases : (weight : ℕ → ℕ) (phase : List (List Command)) (more : Phases)
-    → cost weight (flat (actors_in (phase ∷ more))) ≡ cost weight (flat phase) + cost weight
-    (flat (actors_in more))
-cost_phases weight phase more =
-    ap (cost weight) (flat_map-append (λ (commands : List Command). commands) phase
-    (actors_in more))
-    ∙ cost-append weight (flat phase) (flat (actors_in more))
-
-count_phase : (done : Phases) (phase : List (List Command))
-    → length (actors_in (done ++ phase ∷ [])) ≡ length (actors_in done) + length phase
-count_phase done phase = ap length (flat_push done phase) ∙ length-append (actors_in done) phase
-
-kept : {A : Type 0} (b : Bool) (value : A) → b ≡ true → if_kept b Cause.Limit value ≡ Ok value
-unfolding if_kept
-kept b value is = ap (λ t. if_kept t Cause.Limit value) is
 
 module _ (script : Script) (is : IsScript script) where
   abbrev layout : Shape
