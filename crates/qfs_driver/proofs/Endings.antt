@@ -11,8 +11,8 @@ use Rattle.qfs_driver.specs.Run.{StayInPlace, StopsOver}
 use Rattle.qfs_driver.specs.Serial.{Outside, EndsSo, IsTooFew}
 use Rattle.qfs_driver.specs.declared.status.Status.{Status}
 use Rattle.qfs_driver.specs.declared.status.Status.TheVariants as Ended
-use Rattle.qfs_script.specs.Lines.{text_lines}
-use Rattle.qfs_script.specs.Script.{read_lines}
+use Rattle.qfs_first.specs.Lines.{text_lines}
+use Rattle.qfs_first.specs.Script.{read_lines}
 
 module _ {D : Type 0} (told : D → Option Held) (faults : D → ℕ) (number : ℕ) (before after : Outside D)
     (script : Script) (read : ReadsWhole before.left after.left script) (most : script.servers ≤ 64)

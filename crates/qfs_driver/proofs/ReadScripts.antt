@@ -5,8 +5,8 @@ use Rattle.qfs_base.specs.Table.{Each}
 use Rattle.qfs_base.specs.declared.command.Command.{Command}
 use Rattle.qfs_base.specs.declared.script.Script.{Script}
 use Rattle.qfs_base.specs.EachLaws.{each_weaker}
-use Rattle.qfs_script.proofs.ScriptSaid.{IsFew, IsPlain, few_enough, read_script_says}
-use Rattle.qfs_script.specs.Script.{read_lines}
+use Rattle.qfs_first.proofs.ScriptSaid.{IsFew, IsPlain, few_enough, read_script_says}
+use Rattle.qfs_first.specs.Script.{read_lines}
 use Rattle.std.proofs.lemmas.List.Elements.{All-nil, All-cons}
 use Rattle.qfs_actor.specs.Forms.{IsBuilt}
 use Rattle.qfs_nodes.specs.Scripts.{AreBuilt, IsRunnable, commands_by_actor}

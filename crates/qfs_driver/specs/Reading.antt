@@ -7,8 +7,8 @@ use Rattle.qfs_device.specs.Fault.{Rose}
 use Rattle.qfs_device.specs.Stream.{Gives, IsAtEnd}
 use Rattle.qfs_driver.specs.declared.status.Status.{Status}
 use Rattle.qfs_driver.specs.declared.status.Status.TheVariants as Ended
-use Rattle.qfs_script.specs.Lines.{text_lines}
-use Rattle.qfs_script.specs.Script.{read_lines}
+use Rattle.qfs_first.specs.Lines.{text_lines}
+use Rattle.qfs_first.specs.Script.{read_lines}
 
 -- the most bytes of a script
 abbrev pub most_script_bytes : ℕ

@@ -5,7 +5,7 @@ ghost use Rattle.qfs_driver.specs.Reading.{ReadsWhole, ReadEnds};
 use crate::status::Status;
 use qfs_base::script::{Script, ScriptCause};
 use qfs_device::{DeviceError, Source, read_all};
-use qfs_script::ScriptError;
+use qfs_first::ScriptError;
 use std::alloc::Global;
 
 /// The most bytes of a script.
@@ -31,7 +31,7 @@ pub fn read_script<S: Source>(alloc: Global, source: &mut S) -> Result<Script, S
             cause: ScriptCause::NotYet,
         });
     }
-    match qfs_script::read(alloc, bytes.as_slice()) {
+    match qfs_first::read(alloc, bytes.as_slice()) {
         Ok(script) => Ok(script),
         Err(ScriptError::NoMemory) => Err(Status::NoMemory),
         Err(ScriptError::Bad { line, cause }) => Err(Status::BadScript { line, cause }),

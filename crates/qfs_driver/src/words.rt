@@ -2,7 +2,7 @@
 ghost use Rattle.std.specs.Prelude.{◌≡◌, map, string_bytes};
 ghost use Rattle.qfs_driver.specs.Words.{seed_of};
 
-use qfs_script::read_seed;
+use qfs_first::read_seed;
 
 /// The number N of the words `step N`, below 2^64 and without leading zeros. None says that the
 /// words are others.

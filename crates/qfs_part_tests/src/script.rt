@@ -1,6 +1,6 @@
 //! Numbers among the words of the command line.
 
-use qfs_script::read_seed;
+use qfs_first::read_seed;
 
 #[test]
 fn seeds_have_one_spelling(rt: HostRuntime) {

@@ -1,7 +1,7 @@
-pub mod CommandLines
-pub mod CommandTexts
-pub mod NumberTexts
-pub mod OnLiterals
-pub mod Splits
-pub mod HexBytes
-pub mod ScriptSaid
+mod LinesRead
+mod Orders
+mod LastItems
+mod Places
+mod TextsRead
+mod Rows
+mod Taken

@@ -1,7 +1,4 @@
-pub mod Commands
-pub mod Examples
-pub mod Head
-pub mod Lines
-pub mod Numbers
-pub mod Refusal
-pub mod Script
+pub mod Causes
+pub mod Counted
+pub mod Goes
+pub mod Meant

@@ -1,15 +1,13 @@
-//! Reading a script, and the numbers among the words of the command line.
+//! Reading whole scripts: line by line, by the grammar of scripts.
 #![tactic(auto)]
 
-mod commands;
+mod counts;
 mod error;
-mod examples;
-mod head;
-mod lines;
-mod numbers;
+mod order;
+mod phases;
+mod place;
 mod script;
+mod so_far;
 
-pub use error::ScriptError;
-pub use examples::reads_by_lines;
-pub use numbers::read_seed;
+pub use error::{ScriptError, cause_word};
 pub use script::read;

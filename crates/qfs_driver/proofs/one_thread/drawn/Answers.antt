@@ -1,6 +1,6 @@
 -- A script that was read can be run, and its text is written whole or in part, or its run stops early.
 use Rattle.std.proofs.Common.{rules}
-use Rattle.qfs_script.specs.Lines.{text_lines}
+use Rattle.qfs_first.specs.Lines.{text_lines}
 use Rattle.qfs_driver.proofs.Endings.{ends_over}
 use Rattle.qfs_driver.specs.Serial.{outside_of}
 use Rattle.qfs_driver.proofs.ReadScripts.{read_script_is_first}

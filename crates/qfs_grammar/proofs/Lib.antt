@@ -1,7 +1,0 @@
-mod LinesRead
-mod Orders
-mod LastItems
-mod Places
-mod TextsRead
-mod Rows
-mod Taken

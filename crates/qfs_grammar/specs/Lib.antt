@@ -1,4 +1,0 @@
-pub mod Causes
-pub mod Counted
-pub mod Goes
-pub mod Meant
