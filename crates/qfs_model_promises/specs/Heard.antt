@@ -1,5 +1,5 @@
 -- What an actor was told in its present command, and what it holds there.
-use Rattle.std.specs.Prelude.{ℕ, List, filter_map, fold, Option, Some, None}
+use Rattle.std.specs.Prelude.{ℕ, List, [], filter_map, fold, Option, Some, None}
 use Rattle.std.specs.List.{zip}
 use Rattle.qfs_base.specs.declared.chunk.ChunkKey.{ChunkKey}
 use Rattle.qfs_base.specs.declared.command.Command.{Command}
