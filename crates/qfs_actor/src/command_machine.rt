@@ -2,6 +2,7 @@
 #![tactic(auto, unfolding(crate::specs::CommandMachine::rest_of_machine, crate::specs::CommandMachine::readiness_of))]
 
 ghost use Rattle.std.specs.Prelude.{◌≡◌, ◌≤◌, ℕ};
+ghost use Rattle.qfs_machine.specs.Askable.{IsAskable};
 ghost use Rattle.qfs_machine.specs.declared.machine.Readiness.{Readiness};
 ghost use Rattle.qfs_model_actor.specs.Command.{work_of, file_work};
 ghost use Rattle.qfs_actor.specs.Forms.{IsBuilt, IsBuiltFile};
@@ -61,6 +62,8 @@ impl Machine for CommandMachine {
     ghost rest = { rest_of_machine };
 
     ghost readiness = { readiness_of };
+
+    ghost may_ask = { IsAskable };
 
     fn ready(&mut self) -> Result<(), AllocError> {
         match self {

@@ -14,7 +14,8 @@ use qfs_base::numbers::{ActorId, ServerId, Slot};
 use qfs_base::path::Path;
 use qfs_base::script::ScriptCause;
 use qfs_lexer::{
-    Refusal, Words, four_words, no_word, number_in, one_word, path_in, three_words, two_words,
+    MOST_ACTORS, MOST_TICKS, Refusal, Words, four_words, no_word, number_in, one_word, path_in,
+    three_words, two_words,
 };
 use std::alloc::Global;
 
@@ -26,12 +27,6 @@ const LAST_SLOT: u32 = 8;
 
 /// The most steps of a heal, rebalance, evacuation or sweep.
 const MOST_BUDGET: u32 = 100_000;
-
-/// The most ticks of a hibernation.
-const MOST_TICKS: u32 = 1_000;
-
-/// The last number of an actor.
-const MOST_ACTORS: u32 = 64;
 
 /// The index of a block, 0 to 65,535.
 #[tactic(auto, unfolding(qfs_model_grammar::specs::CommandLines::index_in))]

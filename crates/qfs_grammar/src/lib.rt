@@ -9,5 +9,5 @@ mod place;
 mod script;
 mod so_far;
 
-pub use error::ScriptError;
+pub use error::{ScriptError, cause_word};
 pub use script::read;

@@ -1,6 +1,7 @@
 //! Reading a whole script.
 ghost use Rattle.std.specs.Prelude.{◌≡◌, ◌+◌, ◌≤◌, Bool, length, IfOk, IfErr, OnOk, MatchResult, IsTrue};
 ghost use Rattle.qfs_model_grammar.specs.Lines.{text_lines, begins_remark};
+ghost use Rattle.qfs_model_grammar.specs.Laws.{IsRead};
 ghost use Rattle.qfs_model_grammar.specs.ReadScript.{read_words, read_line, read_lines, read_script, whole_script, script_of_lines};
 ghost use Rattle.qfs_model_grammar.specs.SoFar.{nothing_yet};
 ghost use Rattle.qfs_lexer.specs.Tells.{Tells, TellsCause};
@@ -126,7 +127,8 @@ fn script_of_lines(
     }
 }
 
-/// Reads a script, which has an order where it is to be replayed.
+/// Reads a script, which has an order where it is to be replayed. What is read keeps all ranges and
+/// limits of scripts.
 ///
 /// The error tells the first bad line, from 1, and the first of its causes: a byte that is no text;
 /// a first word that may not stand there, or an unknown word for the recipe of a put; too few or too
@@ -137,6 +139,7 @@ fn script_of_lines(
 pub fn read(alloc: Global, replays: bool, text: &[u8]) -> Result<Script, ScriptError>
     ensures ok { IfOk result (λ script. read_script replays text.now ≡ Ok script) }
     ensures bad { IfErr result (TellsBadLine (read_script replays text.now)) }
+    ensures script { IfOk result (IsRead replays) }
 {
     if text.len() > MOST_TEXT_BYTES {
         return Err(ScriptError::Bad {

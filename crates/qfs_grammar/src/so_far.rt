@@ -12,20 +12,16 @@ use crate::place::LinePlace;
 use qfs_base::layout::Layout;
 use qfs_base::listing::Listing;
 use qfs_base::script::{Script, ScriptCause};
-use qfs_base::sizes::MOST_ROWS;
+use qfs_base::sizes::{MOST_ROWS, MOST_SERVERS};
 use qfs_forms::{CommandWord, FirstWord, command_of};
-use qfs_lexer::{Refusal, Words, no_word, number_in, one_word, stripe_in, two_words};
+use qfs_lexer::{
+    MOST_ACTORS, MOST_TICKS, Refusal, Words, no_word, number_in, one_word, stripe_in, two_words,
+};
 use std::alloc::Global;
 use std::marker::Model;
 
-/// The most servers, ticks of a term, phases and actors.
-const MOST_SERVERS: u32 = 64;
-
-const MOST_TICKS: u32 = 1_000;
-
+/// The most phases.
 const MOST_PHASES: usize = 16;
-
-const MOST_ACTORS: u32 = 64;
 
 /// The script that the lines so far say, behind which of them the next one stands, and what the
 /// limits are on. Contracts see the state of the grammar.
@@ -126,7 +122,7 @@ impl SoFar {
         ensures { Goes (take_servers self.old words.old) self.new result }
     {
         let word = one_word(words)?;
-        let servers = number_in(1, MOST_SERVERS, word)?;
+        let servers = number_in(1, u32::from(MOST_SERVERS), word)?;
         self.script.servers = servers as u16;
         self.place = LinePlace::Servers;
         Ok(())

@@ -1,5 +1,7 @@
--- The world of the first path at each step: where its actor is, and what holds there.
-use Rattle.std.proofs.Common.{◌≡◌, ◌⊎◌, ℕ, ◌+◌, ◌*◌, ◌<◌, ◌≤◌, List, [], ◌∷◌, ◌++◌, length, Some, None, Ok, refl, sym, ap, subst, ◌∙◌, arith, inl, inr}
+-- The world of the first path at each step: where its actor is, and what holds there. For the law
+-- of the first path.
+use Rattle.std.proofs.Common.{◌≡◌, ◌⊎◌, ℕ, ◌+◌, ◌*◌, ◌<◌, ◌≤◌, List, [], ◌∷◌, ◌++◌, length, Some}
+use Rattle.std.proofs.Common.{None, Ok, refl, sym, ap, subst, ◌∙◌, arith, inl, inr}
 use Rattle.std.proofs.lemmas.List.{append-nil, length-append}
 use Rattle.std.specs.Prelude.{slice_get}
 use Rattle.std.specs.List.{enumerate_from}
@@ -36,33 +38,41 @@ use Rattle.qfs_model_world.specs.Puts.{command_of, puts_of}
 use Rattle.qfs_model_world.specs.World.{World, numbered, move_asking, move_actor, move}
 use Rattle.qfs_model_world.proofs.OneActor.{done_step}
 use Rattle.qfs_laws_first.proofs.Gets.{later}
-use Rattle.qfs_laws_first.proofs.Moves.{heard_more, ended_so, Moved}
-use Rattle.qfs_laws_first.proofs.Reading.{IsShort}
-use Rattle.qfs_laws_first.proofs.Reports.{HasPlace, IsGood, GoodAt, borne-more, goods-more, each_enumerated, opened_in, ReadsWhereOpened, openings-more, no-opening, place-here}
+use Rattle.qfs_laws_first.proofs.Moves.{heard_more, ended_so, StepTaken}
+use Rattle.qfs_laws_first.proofs.Reading.{IsOfOneRow}
+use Rattle.qfs_laws_first.proofs.Reports.{HasPlace, IsGood, GoodAt, borne-more, goods-more}
+use Rattle.qfs_laws_first.proofs.Reports.{each_enumerated, opened_in, ReadsWhereOpened}
+use Rattle.qfs_laws_first.proofs.Reports.{openings-more, no-opening, place-here}
 use Rattle.qfs_laws_first.proofs.Servers.{first_chunk, stored_at}
-use Rattle.qfs_laws_first.proofs.States.{first_block, first_key, first_copy, granted_once, Between, Within, Target, Puts}
+use Rattle.qfs_laws_first.proofs.States.{first_block, first_key, first_copy, granted_once, Between}
+use Rattle.qfs_laws_first.proofs.States.{Within, Target, InPut}
 use Rattle.qfs_laws_first.proofs.Works.{at_slot, at_store, at_fetch}
+use Rattle.qfs_model_meta.specs.Step.{Served, meta_step}
+use Rattle.qfs_base.specs.declared.request.MetaRequest.{MetaRequest}
 
 -- ---- where the actor is
 
 -- between two commands, or behind the last one
-pub record Resting (script : Script) (servers : List Server) (m : MetaImage) (actor : Actor) : Type 0 where
+pub record Resting (script : Script) (servers : List Server) (m : MetaImage) (actor : Actor) : Type
+    0 where
   pub silent : actor.heard ≡ []
   pub between : Between script servers m (length actor.ended)
 
 -- in a put, before a slot is granted; slot 9 stands for the end
-pub record Granting (script : Script) (servers : List Server) (m : MetaImage) (actor : Actor) : Type 0 where
+pub record Granting (script : Script) (servers : List Server) (m : MetaImage) (actor : Actor) : Type
+    0 where
   pub t : Target
   pub slot : ℕ
   pub within : slot ≤ 9
   pub left : work_left actor ≡ Some (at_slot script.layout t.bytes t.file slot)
-  pub puts : Puts script servers m (length actor.ended) t slot slot
+  pub puts : InPut script servers m (length actor.ended) t slot slot
   pub few : length actor.ended ≤ 4096
   pub command : FileCommand
   pub is : command_of script 1 (length actor.ended + 1) ≡ Some (Does.File command)
 
 -- in a put, before a granted slot is stored
-pub record Storing (script : Script) (servers : List Server) (m : MetaImage) (actor : Actor) : Type 0 where
+pub record Storing (script : Script) (servers : List Server) (m : MetaImage) (actor : Actor) : Type
+    0 where
   pub t : Target
   pub slot : ℕ
   pub within : slot < 9
@@ -71,21 +81,24 @@ pub record Storing (script : Script) (servers : List Server) (m : MetaImage) (ac
   pub last : server ≤ script.servers
   pub granted : slot_at m.slots (first_block t.file) slot ≡ granted_once server
   pub left : work_left actor ≡ Some (at_store script.layout t.bytes t.file slot server)
-  pub puts : Puts script servers m (length actor.ended) t (slot + 1) slot
+  pub puts : InPut script servers m (length actor.ended) t (slot + 1) slot
   pub few : length actor.ended ≤ 4096
   pub command : FileCommand
   pub is : command_of script 1 (length actor.ended + 1) ≡ Some (Does.File command)
 
 -- a slot can be fetched from a server, which has its bytes
-pub record CanFetch (script : Script) (servers : List Server) (sources : List Source) (file : ℕ) (bytes : List ℕ) (slot : ℕ) : Type 0 where
+pub record CanFetch (script : Script) (servers : List Server) (sources : List Source) (file : ℕ)
+    (bytes : List ℕ) (slot : ℕ) : Type 0 where
   pub server : ℕ
   pub first : 1 ≤ server
   pub last : server ≤ script.servers
   pub listed : slice_get sources slot ≡ Some (Ok (first_copy server))
-  pub stored : stored_at servers server (first_key file slot) ≡ Some (first_chunk (slot_of script.layout bytes 0 slot))
+  pub stored : stored_at servers server (first_key file slot)
+      ≡ Some (first_chunk (slot_of script.layout bytes 0 slot))
 
 -- in a get, before a slot is fetched; slot 6 stands for the end
-pub record Fetching (script : Script) (steps : List Event) (servers : List Server) (m : MetaImage) (actor : Actor) (told : List Report) : Type 0 where
+pub record Fetching (script : Script) (steps : List Event) (servers : List Server) (m : MetaImage)
+    (actor : Actor) (told : List Report) : Type 0 where
   pub o : Opened
   pub again : Report → Work
   pub sources : List Source
@@ -96,7 +109,7 @@ pub record Fetching (script : Script) (steps : List Event) (servers : List Serve
   pub reads : Within script servers m (length actor.ended)
   pub few : length actor.ended ≤ 4096
   pub len : o.len ≡ length bytes
-  pub short : IsShort script.layout (length bytes)
+  pub short : IsOfOneRow script.layout (length bytes)
   pub copies : (slot : ℕ) → slot < 6 → CanFetch script servers sources o.file bytes slot
   pub path : PathNames
   pub is : command_of script 1 (length actor.ended + 1) ≡ Some (Does.File (File.Get path None))
@@ -108,21 +121,32 @@ pub record Fetching (script : Script) (steps : List Event) (servers : List Serve
 -- the replies that were given, or that a get which has opened its file will have given, are these
 abbrev pub Stage : Script → List Event → List Server → MetaImage → Actor → List Report → Type 0
 Stage script steps servers m actor told =
-    ((told ≡ actor.ended) × (Resting script servers m actor ⊎ (Granting script servers m actor ⊎ Storing script servers m actor)))
+    ((told ≡ actor.ended)
+    × (Resting script servers m actor
+    ⊎ (Granting script servers m actor ⊎ Storing script servers m actor)))
     ⊎ Fetching script steps servers m actor told
 
+-- what the metaserver answers by the rules of the script, it answers by those of the world
+pub served-here : (script : Script) (w : World) → w.rules ≡ rules_of script
+    → (request : MetaRequest) (served : Served)
+    → meta_step (rules_of script) 1 request Ended.Done w.meta ≡ served
+    → meta_step w.rules 1 request Ended.Done w.meta ≡ served
+served-here script w rules request served is =
+    ap (λ rules. meta_step rules 1 request Ended.Done w.meta) rules ∙ is
+
 -- the world after these steps
-pub record Run (script : Script) (commands : List Command) (steps : List Event) (w : World) : Type 0 where
-  pub actor : Actor
-  pub rules : w.rules ≡ rules_of script
-  pub alone : w.actors ≡ actor ∷ []
-  pub number : actor.number ≡ 1
-  pub own_rules : actor.rules ≡ rules_of script
-  pub own_commands : actor.commands ≡ commands
-  pub replies : Each (GoodAt script steps w.meta.history) (enumerate_from 1 actor.ended)
-  pub told : List Report
-  pub openings : Each (ReadsWhereOpened told) steps
-  pub stage : Stage script steps w.servers w.meta actor told
+pub record Run (script : Script) (commands : List Command) (steps : List Event) (w : World) : Type 0
+  where
+    pub actor : Actor
+    pub rules : w.rules ≡ rules_of script
+    pub alone : w.actors ≡ actor ∷ []
+    pub number : actor.number ≡ 1
+    pub own_rules : actor.rules ≡ rules_of script
+    pub own_commands : actor.commands ≡ commands
+    pub replies : Each (GoodAt script steps w.meta.history) (enumerate_from 1 actor.ended)
+    pub told : List Report
+    pub openings : Each (ReadsWhereOpened told) steps
+    pub stage : Stage script steps w.servers w.meta actor told
 
 -- ---- one step more
 
@@ -130,29 +154,38 @@ pub record Run (script : Script) (commands : List Command) (steps : List Event) 
 abbrev pub Next : Script → List Command → List Event → World → Type 0
 Next script commands steps w =
     ((event_in w done_step ≡ None) × (move w done_step ≡ w))
-    ⊎ ((event : Event) × (event_in w done_step ≡ Some event) × Run script commands (steps ++ event ∷ []) (move w done_step))
+    ⊎ ((event : Event) × (event_in w done_step ≡ Some event)
+    × Run script commands (steps ++ event ∷ []) (move w done_step))
 
 -- an actor that asks nothing takes no step
-pub no-step : (script : Script) (commands : List Command) (steps : List Event) (w : World) (actor : Actor) → w.actors ≡ actor ∷ [] → request_of actor ≡ None
+pub no-step : (script : Script) (commands : List Command) (steps : List Event) (w : World)
+    (actor : Actor) → w.actors ≡ actor ∷ [] → request_of actor ≡ None
     → Next script commands steps w
 unfolding event_in event_by numbered move move_actor move_asking
 no-step script commands steps w actor alone none =
     inl (
-      ap (λ actors. option_and_then (λ actor. event_by w done_step actor (request_of actor)) (slice_get actors 0)) alone ∙ ap (event_by w done_step actor) none,
-      ap (λ actors. move_actor w 1 Ended.Done (slice_get actors 0)) alone ∙ ap (move_asking w 1 Ended.Done actor) none,
+      ap (λ actors. option_and_then (λ actor. event_by w done_step actor (request_of actor))
+          (slice_get actors 0)) alone ∙ ap (event_by w done_step actor) none,
+      ap (λ actors. move_actor w 1 Ended.Done (slice_get actors 0)) alone
+          ∙ ap (move_asking w 1 Ended.Done actor) none,
     )
 
-pub ended-long : (ended : List Report) (report : Report) → length (ended ++ report ∷ []) ≡ length ended + 1
+pub ended-long : (ended : List Report) (report : Report)
+    → length (ended ++ report ∷ []) ≡ length ended + 1
 ended-long ended report = length-append ended (report ∷ [])
 
-module _ (script : Script) (commands : List Command) (steps : List Event) (w : World) (r : Run script commands steps w) (request : NodeRequest)
-    (servers : List Server) (m : MetaImage) (reply : NodeReply) (more : List Entry) (written : m.history ≡ w.meta.history ++ more) (told : List Report) where
+module _ (script : Script) (commands : List Command) (steps : List Event) (w : World)
+    (r : Run script commands steps w) (request : NodeRequest)
+    (servers : List Server) (m : MetaImage) (reply : NodeReply) (more : List Entry)
+    (written : m.history ≡ w.meta.history ++ more) (told : List Report) where
   abbrev steps_then : List Event
   steps_then = steps ++ event_asking w done_step r.actor request ∷ []
 
   -- the command goes on
-  pub goes-on-with : Moved w r.actor request servers m reply (heard_more r.actor reply) → Each (ReadsWhereOpened told) steps_then
-      → Stage script steps_then servers m (heard_more r.actor reply) told → Next script commands steps w
+  pub goes-on-with : StepTaken w r.actor request servers m reply (heard_more r.actor reply)
+      → Each (ReadsWhereOpened told) steps_then
+      → Stage script steps_then servers m (heard_more r.actor reply) told
+      → Next script commands steps w
   goes-on-with moved openings stage =
       inr (
         event_asking w done_step r.actor request,
@@ -164,8 +197,10 @@ module _ (script : Script) (commands : List Command) (steps : List Event) (w : W
           number = r.number;
           own_rules = r.own_rules;
           own_commands = r.own_commands;
-          replies = subst (λ history. Each (GoodAt script steps_then history) (enumerate_from 1 r.actor.ended)) (sym written)
-              (goods-more script steps (event_asking w done_step r.actor request ∷ []) w.meta.history more (enumerate_from 1 r.actor.ended) r.replies);
+          replies = subst (λ history. Each (GoodAt script steps_then history)
+              (enumerate_from 1 r.actor.ended)) (sym written)
+              (goods-more script steps (event_asking w done_step r.actor request ∷ [])
+              w.meta.history more (enumerate_from 1 r.actor.ended) r.replies);
           told = told;
           openings = openings;
           stage = stage;
@@ -173,12 +208,17 @@ module _ (script : Script) (commands : List Command) (steps : List Event) (w : W
       )
 
   -- the same where the step opens no file
-  pub goes-on-to : Moved w r.actor request servers m reply (heard_more r.actor reply) → opened_in reply ≡ None → Each (ReadsWhereOpened told) steps
-      → Stage script steps_then servers m (heard_more r.actor reply) told → Next script commands steps w
-  goes-on-to moved none openings stage = goes-on-with moved (no-opening told steps _ reply moved.replied none openings) stage
+  pub goes-on-to : StepTaken w r.actor request servers m reply (heard_more r.actor reply)
+      → opened_in reply ≡ None → Each (ReadsWhereOpened told) steps
+      → Stage script steps_then servers m (heard_more r.actor reply) told
+      → Next script commands steps w
+  goes-on-to moved none openings stage =
+      goes-on-with moved (no-opening told steps _ reply moved.replied none openings) stage
 
   -- the command has ended
-  pub ends-with : (report : Report) → Moved w r.actor request servers m reply (ended_so r.actor report) → opened_in reply ≡ None
+  pub ends-with : (report : Report)
+      → StepTaken w r.actor request servers m reply (ended_so r.actor report)
+      → opened_in reply ≡ None
       → told ≡ r.actor.ended ++ report ∷ [] → Each (ReadsWhereOpened told) steps
       → IsGood script steps_then (w.meta.history ++ more) (length r.actor.ended + 1) report
       → Between script servers m (length r.actor.ended + 1) → Next script commands steps w
@@ -193,29 +233,40 @@ module _ (script : Script) (commands : List Command) (steps : List Event) (w : W
           number = r.number;
           own_rules = r.own_rules;
           own_commands = r.own_commands;
-          replies = subst (λ history. Each (GoodAt script steps_then history) (enumerate_from 1 (r.actor.ended ++ report ∷ []))) (sym written)
-              (each_enumerated (GoodAt script steps_then (w.meta.history ++ more)) 1 r.actor.ended report
-              (goods-more script steps (event_asking w done_step r.actor request ∷ []) w.meta.history more (enumerate_from 1 r.actor.ended) r.replies) good);
+          replies = subst (λ history. Each (GoodAt script steps_then history)
+              (enumerate_from 1 (r.actor.ended ++ report ∷ []))) (sym written)
+              (each_enumerated (GoodAt script steps_then (w.meta.history ++ more)) 1 r.actor.ended
+              report
+              (goods-more script steps (event_asking w done_step r.actor request ∷ [])
+              w.meta.history more (enumerate_from 1 r.actor.ended) r.replies) good);
           told = told;
           openings = no-opening told steps _ reply moved.replied none openings;
           stage = inl (
             told_is,
             inl (record {
               silent = refl;
-              between = subst (Between script servers m) (sym (ended-long r.actor.ended report)) between;
+              between = subst (Between script servers m) (sym (ended-long r.actor.ended report))
+                  between;
             }),
           );
         }),
       )
 
-module _ (script : Script) (commands : List Command) (steps : List Event) (w : World) (r : Run script commands steps w) where
+module _ (script : Script) (commands : List Command) (steps : List Event) (w : World)
+    (r : Run script commands steps w) where
   -- one reply more is told
-  pub told-then : r.told ≡ r.actor.ended → (report : Report) → Each (ReadsWhereOpened (r.actor.ended ++ report ∷ [])) steps
-  told-then told_is report = openings-more r.actor.ended report steps (subst (λ told. Each (ReadsWhereOpened told) steps) told_is r.openings)
+  pub told-then : r.told ≡ r.actor.ended → (report : Report)
+      → Each (ReadsWhereOpened (r.actor.ended ++ report ∷ [])) steps
+  told-then told_is report =
+      openings-more r.actor.ended report steps
+      (subst (λ told. Each (ReadsWhereOpened told) steps) told_is r.openings)
 
   -- the name tree refused the command
-  pub refused-so : (request : NodeRequest) (why : TreeRefusal) (command : FileCommand) → r.told ≡ r.actor.ended
-      → Moved w r.actor request w.servers w.meta (From.Meta (Said.Refused why (length w.meta.history))) (ended_so r.actor (Says.Refused (length w.meta.history) why))
+  pub refused-so : (request : NodeRequest) (why : TreeRefusal) (command : FileCommand)
+      → r.told ≡ r.actor.ended
+      → StepTaken w r.actor request w.servers w.meta
+      (From.Meta (Said.Refused why (length w.meta.history)))
+      (ended_so r.actor (Says.Refused (length w.meta.history) why))
       → command_of script 1 (length r.actor.ended + 1) ≡ Some (Does.File command)
       → reply_at (puts_of script) w.meta.history (length w.meta.history) command ≡ Told.Refused why
       → Between script w.servers w.meta (length r.actor.ended) → Next script commands steps w
@@ -223,12 +274,16 @@ module _ (script : Script) (commands : List Command) (steps : List Event) (w : W
   refused-so request why command told_is moved is there between =
       let place : ℕ = length w.meta.history in
       let number : ℕ = length r.actor.ended + 1 in
-      ends-with script commands steps w r request w.servers w.meta (From.Meta (Said.Refused why place)) [] (sym (append-nil w.meta.history))
-      (r.actor.ended ++ Says.Refused place why ∷ []) (Says.Refused place why) moved refl refl (told-then told_is (Says.Refused place why))
+      ends-with script commands steps w r request w.servers w.meta
+      (From.Meta (Said.Refused why place)) [] (sym (append-nil w.meta.history))
+      (r.actor.ended ++ Says.Refused place why ∷ []) (Says.Refused place why) moved refl refl
+      (told-then told_is (Says.Refused place why))
       (record {
         command = command;
         is = is;
-        says = borne-more script w.meta.history [] number command (Says.Refused place why) (omega arith, there);
+        says = borne-more script w.meta.history [] number command (Says.Refused place why)
+            (omega arith, there);
         placed = place-here steps w r.actor request;
       })
-      (later script w.servers w.meta (length r.actor.ended) (2 * length r.actor.ended + 1) between (2 * (length r.actor.ended + 1) + 1) (omega arith))
+      (later script w.servers w.meta (length r.actor.ended) (2 * length r.actor.ended + 1) between
+      (2 * (length r.actor.ended + 1) + 1) (omega arith))

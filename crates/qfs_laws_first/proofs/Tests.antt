@@ -1,15 +1,9 @@
--- Tests of numbers and of orders, and tests joined by "and".
-use Rattle.std.proofs.Common.{◌≡◌, ℕ, ◌&&◌, Bool, true, false, refl, sym, ap}
+-- The test of a number by the order of numbers. Cited by the steps of puts and gets.
+use Rattle.std.proofs.Common.{◌≡◌, ℕ, true, false, sym, ap}
 use Rattle.std.specs.Cmp.{nat_cmp_total, ranked, tied_itself, Equal-is}
 use Rattle.std.specs.Ordering.{nat_cmp, is_eq}
 use Rattle.std.specs.declared.cmp.Ordering.TheVariants.{Equal}
 use Rattle.std.proofs.lemmas.Bool.{false_from_ne_true}
-
-pub and-false : (b : Bool) → (b && false) ≡ false
-and-false true = refl
-and-false false = refl
-
--- ---- orders
 
 pub own-key : (n : ℕ) → is_eq (nat_cmp n n) ≡ true
 own-key n = ap is_eq (tied_itself nat_cmp_total n)

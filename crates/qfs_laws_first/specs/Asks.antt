@@ -1,4 +1,5 @@
--- What a command may ask, whatever the nodes answer, and which requests can't delete a copy.
+-- What a command may ask, whatever the nodes answer, and which requests can't delete a copy. For
+-- the law that puts and gets delete nothing.
 use Rattle.std.specs.Prelude.{⊤}
 use Rattle.qfs_base.specs.declared.reply.NodeReply.{NodeReply}
 use Rattle.qfs_base.specs.declared.request.ChunkRequest.{ChunkRequest}
@@ -31,4 +32,5 @@ IsOfFiles (To.Chunk server request) = IsChunkOfFiles request
 -- the work asks only requests of puts and gets, whatever the nodes answer
 abbrev pub AsksOfFiles : Work → Type 0
 AsksOfFiles (ends report) = ⊤
-AsksOfFiles (asks request next) = IsOfFiles request × ((reply : NodeReply) → AsksOfFiles (next reply))
+AsksOfFiles (asks request next) =
+    IsOfFiles request × ((reply : NodeReply) → AsksOfFiles (next reply))

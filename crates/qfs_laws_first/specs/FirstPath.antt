@@ -1,5 +1,5 @@
--- Scripts of puts and gets, and among them those of the first path: one actor puts a few bytes that are spelled out, and
--- gets whole files.
+-- Scripts of puts and gets, and among them those of the first path: one actor puts a few bytes that
+-- are spelled out, and gets whole files. Cited by the laws of this crate.
 use Rattle.std.specs.Prelude.{⊤, ◌≡◌, ◌≤◌, List, [], ◌∷◌, length, flat_map, None}
 use Rattle.qfs_base.specs.Shape.{IsStripe, IsRowCount}
 use Rattle.qfs_base.specs.Table.{Each}

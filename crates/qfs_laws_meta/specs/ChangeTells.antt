@@ -1,9 +1,17 @@
--- What each change tells of the state behind it.
-use Rattle.std.proofs.Common.{◌≡◌, ℕ, ◌≤◌, ◌⊎◌, inl, inr, Bool, true, false, ◌||◌, not, length, List, [], ◌∷◌, ◌++◌, Some, None, refl, sym, ap, ◌∙◌, subst, arith}
+-- What each change tells of the state behind it. For the law `steps_answer`.
+use Rattle.std.proofs.Common.{◌≡◌, ℕ, ◌≤◌, ◌⊎◌, inl, inr, Bool, true, false, ◌||◌, not, length}
+use Rattle.std.proofs.Common.{List, [], ◌∷◌, ◌++◌, Some, None, refl, sym, ap, ◌∙◌, subst, arith}
 use Rattle.std.proofs.lemmas.Bool.{eqb-true}
 use Rattle.std.specs.List.{list_any}
 use Rattle.qfs_base.specs.declared.change.Change.{Change}
-use Rattle.qfs_base.specs.declared.change.Change.TheVariants.{AddDirectory, TakeDirectory, AddFile, CloseFile, AbortFile, RemoveFile, MovePath, GrantSlot, FailGrant, GiveUp, ConfirmSlot, EmptySlot, GiveLease, EndLease, MarkOrdered, TakeCondemned, CondemnStray, ServerUp, ServerDown, ServerLeaves, ServerSleeps, ClockTicks, DropActor}
+use Rattle.qfs_base.specs.declared.change.Change.TheVariants.{AddDirectory, TakeDirectory, AddFile}
+use Rattle.qfs_base.specs.declared.change.Change.TheVariants.{CloseFile, AbortFile, RemoveFile}
+use Rattle.qfs_base.specs.declared.change.Change.TheVariants.{MovePath, GrantSlot, FailGrant}
+use Rattle.qfs_base.specs.declared.change.Change.TheVariants.{GiveUp, ConfirmSlot, EmptySlot}
+use Rattle.qfs_base.specs.declared.change.Change.TheVariants.{GiveLease, EndLease, MarkOrdered}
+use Rattle.qfs_base.specs.declared.change.Change.TheVariants.{TakeCondemned, CondemnStray, ServerUp}
+use Rattle.qfs_base.specs.declared.change.Change.TheVariants.{ServerDown, ServerLeaves}
+use Rattle.qfs_base.specs.declared.change.Change.TheVariants.{ServerSleeps, ClockTicks, DropActor}
 use Rattle.qfs_base.specs.declared.chunk.BlockId.{BlockId}
 use Rattle.qfs_base.specs.declared.chunk.Copy.{Copy}
 use Rattle.qfs_base.specs.declared.history.Entry.{Entry}
@@ -11,12 +19,15 @@ use Rattle.qfs_base.specs.declared.history.Entry.TheVariants as Wrote
 use Rattle.qfs_base.specs.declared.image.Lease.{Lease}
 use Rattle.qfs_base.specs.declared.image.MetaImage.{MetaImage}
 use Rattle.qfs_base.specs.declared.image.ServerView.{ServerView}
-use Rattle.qfs_model_meta.specs.Apply.{apply, write_entry, add_file, with_slots, change_record, grant_slot, confirm_slot, finish_lease, bring_up}
+use Rattle.qfs_model_meta.specs.Apply.{apply, write_entry, add_file, with_slots, change_record}
+use Rattle.qfs_model_meta.specs.Apply.{grant_slot, confirm_slot, finish_lease, bring_up}
 use Rattle.qfs_model_meta.specs.Grammar.{IsServer}
 use Rattle.qfs_model_meta.specs.Leases.{is_lease, is_live_lease, give_lease, end_lease}
 use Rattle.qfs_model_meta.specs.Past.{Past}
-use Rattle.qfs_model_meta.specs.Servers.{server_at, change_server, server_up, server_down, server_leaving, server_asleep}
-use Rattle.qfs_model_meta.specs.Slots.{never_granted, slot_at, granted_copy, granted_slot, change_slot, sealed_slot, confirmed_slot}
+use Rattle.qfs_model_meta.specs.Servers.{server_at, change_server, server_up, server_down}
+use Rattle.qfs_model_meta.specs.Servers.{server_leaving, server_asleep}
+use Rattle.qfs_model_meta.specs.Slots.{never_granted, slot_at, granted_copy, granted_slot}
+use Rattle.qfs_model_meta.specs.Slots.{change_slot, sealed_slot, confirmed_slot}
 use Rattle.qfs_laws_tables.specs.SomeRow.{any_of_append, any_of_filter}
 use Rattle.qfs_laws_slots.specs.Changes.{MayMake}
 use Rattle.qfs_laws_slots.specs.Losing.{losing-frame, stray-frame, condemned-slots}
@@ -24,7 +35,9 @@ use Rattle.qfs_laws_slots.specs.RowKeys.{own-lease}
 use Rattle.qfs_laws_slots.specs.Servers.{change-length}
 use Rattle.qfs_laws_slots.specs.Slots.{slot-cases, placed-cases, sealed-cases}
 use Rattle.qfs_laws_meta.specs.Lives.{changed-server}
-use Rattle.qfs_laws_meta.specs.Tells.{Tells, current_at, granted_at, SlotsDrop, no-drop, given_up-drop, failed-drop, emptied-drop, forgotten-drop, append-none, same-le}
+use Rattle.qfs_laws_meta.specs.Tells.{Tells, current_at, granted_at, SlotsDrop, no-drop}
+use Rattle.qfs_laws_meta.specs.Tells.{given_up-drop, failed-drop, emptied-drop, forgotten-drop}
+use Rattle.qfs_laws_meta.specs.Tells.{append-none, same-le}
 
 -- the slots whose grants become current, the copies that are granted, and the leases that are given
 abbrev pub Seals : Change → BlockId → ℕ → Type 0
@@ -47,48 +60,54 @@ abbrev pub Lends : MetaImage → Change → ℕ → Type 0
 Lends m (GiveLease actor file until) lease = m.next_lease ≡ lease
 Lends m change lease = ⊥
 
-module _ {seals : BlockId → ℕ → Type 0} {gives : BlockId → ℕ → Copy → Type 0} {lends : ℕ → Type 0} where
-  -- slots that keep or drop their copies, with entries of the history
-  drop-tells : (m n : MetaImage) → SlotsDrop m.slots n.slots → n.servers ≡ m.servers
-      → n.leases ≡ m.leases → (entries : List Entry) → n.history ≡ m.history ++ entries
-      → Tells seals gives lends m n
-  drop-tells m n drop servers leases entries history = record {
-    current = λ block slot copy is. inl (drop.current block slot copy is);
-    granted = λ block slot copy is. inl (drop.granted block slot copy is);
-    as_many = ap length servers;
-    lives = λ server. let e : (server_at n.servers server).life ≡ (server_at m.servers
-        server).life = ap (λ vs. (server_at vs server).life) servers in omega arith;
-    leases = λ lease live. inl (subst (λ ls. is_live_lease lease ls ≡ true) leases live);
-    entries = entries;
-    history = history;
-  }
+module _ {seals : BlockId → ℕ → Type 0} {gives : BlockId → ℕ → Copy → Type 0} {lends : ℕ → Type 0}
+  where
+    -- slots that keep or drop their copies, with entries of the history
+    drop-tells : (m n : MetaImage) → SlotsDrop m.slots n.slots → n.servers ≡ m.servers
+        → n.leases ≡ m.leases → (entries : List Entry) → n.history ≡ m.history ++ entries
+        → Tells seals gives lends m n
+    drop-tells m n drop servers leases entries history = record {
+      current = λ block slot copy is. inl (drop.current block slot copy is);
+      granted = λ block slot copy is. inl (drop.granted block slot copy is);
+      as_many = ap length servers;
+      lives = λ server. let e : (server_at n.servers server).life ≡ (server_at m.servers
+          server).life = ap (λ vs. (server_at vs server).life) servers in omega arith;
+      leases = λ lease live. inl (subst (λ ls. is_live_lease lease ls ≡ true) leases live);
+      entries = entries;
+      history = history;
+    }
 
-  frame-tells : (m n : MetaImage)
-      → n ≡ record m { slots = n.slots; condemned = n.condemned; next_condemned = n.next_condemned }
-      → SlotsDrop m.slots n.slots → Tells seals gives lends m n
-  frame-tells m n frame drop =
-      drop-tells m n drop (ap (λ (k : MetaImage). k.servers) frame)
-      (ap (λ (k : MetaImage). k.leases) frame) []
-      (ap (λ (k : MetaImage). k.history) frame ∙ append-none m.history)
+    frame-tells : (m n : MetaImage)
+        → n ≡ record m {
+          slots = n.slots;
+          condemned = n.condemned;
+          next_condemned =
+              n.next_condemned;
+        }
+        → SlotsDrop m.slots n.slots → Tells seals gives lends m n
+    frame-tells m n frame drop =
+        drop-tells m n drop (ap (λ (k : MetaImage). k.servers) frame)
+        (ap (λ (k : MetaImage). k.leases) frame) []
+        (ap (λ (k : MetaImage). k.history) frame ∙ append-none m.history)
 
-  -- a server changes, whose life doesn't fall
-  server-tells : (change : ServerView → ServerView) (server : ℕ) (m n : MetaImage)
-      → n.slots ≡ m.slots → n.leases ≡ m.leases → n.history ≡ m.history
-      → n.servers ≡ change_server change m.servers server
-      → IsServer (length m.servers) server → (server_at m.servers server).life ≤
-      (change (server_at m.servers server)).life → Tells seals gives lends m n
-  server-tells change server m n slots leases history servers is rises = record {
-    current = λ block slot copy at. inl
-        (subst (λ rows. (slot_at rows block slot).current ≡ Some copy) slots at);
-    granted = λ block slot copy at. inl
-        (subst (λ rows. granted_copy (slot_at rows block slot).grant ≡ Some copy) slots at);
-    as_many = ap length servers ∙ change-length change m.servers server;
-    lives = λ s. subst (λ vs. (server_at m.servers s).life ≤ (server_at vs s).life) (sym servers)
-        (changed-server change m server s is rises);
-    leases = λ lease live. inl (subst (λ ls. is_live_lease lease ls ≡ true) leases live);
-    entries = [];
-    history = history ∙ append-none m.history;
-  }
+    -- a server changes, whose life doesn't fall
+    server-tells : (change : ServerView → ServerView) (server : ℕ) (m n : MetaImage)
+        → n.slots ≡ m.slots → n.leases ≡ m.leases → n.history ≡ m.history
+        → n.servers ≡ change_server change m.servers server
+        → IsServer (length m.servers) server → (server_at m.servers server).life ≤
+        (change (server_at m.servers server)).life → Tells seals gives lends m n
+    server-tells change server m n slots leases history servers is rises = record {
+      current = λ block slot copy at. inl
+          (subst (λ rows. (slot_at rows block slot).current ≡ Some copy) slots at);
+      granted = λ block slot copy at. inl
+          (subst (λ rows. granted_copy (slot_at rows block slot).grant ≡ Some copy) slots at);
+      as_many = ap length servers ∙ change-length change m.servers server;
+      lives = λ s. subst (λ vs. (server_at m.servers s).life ≤ (server_at vs s).life) (sym servers)
+          (changed-server change m server s is rises);
+      leases = λ lease live. inl (subst (λ ls. is_live_lease lease ls ≡ true) leases live);
+      entries = [];
+      history = history ∙ append-none m.history;
+    }
 
 no-copy : {copy : Copy} → granted_copy None ≡ Some copy → ⊥
 no-copy is = unfold granted_copy in cc
@@ -221,7 +240,8 @@ ending-tells number m = record {
 
 pub change-tells : (past : Past) (m : MetaImage) (change : Change) → MayMake past m change
     → Tells (Seals change) (Gives m change) (Lends m change) m (apply m change)
-unfolding apply write_entry add_file with_slots finish_lease bring_up server_up server_down server_leaving server_asleep
+unfolding apply write_entry add_file with_slots finish_lease bring_up server_up server_down
+    server_leaving server_asleep
 change-tells past m (AddDirectory path) may =
     drop-tells m (apply m (AddDirectory path)) (no-drop m.slots) refl refl (Wrote.Mkdir path ∷ [])
     refl

@@ -1,18 +1,21 @@
 -- Which actors count as dropped behind a step: those that did before, and the one that the request
--- drops. A dropped actor is told so, whatever it asks, and changes nothing.
-use Rattle.std.proofs.Common.{◌≡◌, ℕ, ◌⊎◌, inl, inr, ⊎_elim, ◌==◌, Bool, true, false, cond, List, [], ◌∷◌, ◌++◌, map, filter, find, length, Option, Some, None, refl, sym, ap, ◌∙◌, subst}
+-- drops. A dropped actor is told so, whatever it asks, and changes nothing. The law
+-- `dropped_actors_stay`.
+use Rattle.std.proofs.Common.{◌≡◌, ℕ, ◌⊎◌, inl, inr, ⊎_elim, ◌==◌, Bool, true, false, cond, List}
+use Rattle.std.proofs.Common.{[], ◌∷◌, ◌++◌, map, filter, length, Option, Some, None, refl, sym, ap}
+use Rattle.std.proofs.Common.{◌∙◌, subst}
 use Rattle.std.proofs.lemmas.Bool.{eqb-true}
 use Rattle.std.specs.Cmp.{ranked}
 use Rattle.std.specs.Option.{option_map}
-use Rattle.std.specs.Ordering.{nat_cmp, is_eq}
 use Rattle.std.specs.Prelude.{⊤, flat_map}
-use Rattle.std.specs.declared.cmp.Ordering.{Ordering}
-use Rattle.std.specs.declared.cmp.Ordering.TheVariants.{Less, Equal, Greater}
+use Rattle.std.specs.declared.cmp.Ordering.TheVariants.{Equal}
 use Rattle.qfs_base.specs.EachLaws.{each_append}
 use Rattle.qfs_base.specs.NameTree.{PathNames}
-use Rattle.qfs_base.specs.Table.{Each, has_key, place, place_before}
+use Rattle.qfs_base.specs.Table.{Each, has_key, place}
 use Rattle.qfs_base.specs.declared.change.Change.{Change}
-use Rattle.qfs_base.specs.declared.change.Change.TheVariants.{AddDirectory, FailGrant, GiveUp, ConfirmSlot, EmptySlot, EndLease, CondemnStray, DropActor}
+use Rattle.qfs_base.specs.declared.change.Change.TheVariants.{AddDirectory, FailGrant, GiveUp}
+use Rattle.qfs_base.specs.declared.change.Change.TheVariants.{ConfirmSlot, EmptySlot, EndLease}
+use Rattle.qfs_base.specs.declared.change.Change.TheVariants.{CondemnStray, DropActor}
 use Rattle.qfs_base.specs.declared.chunk.BlockId.{BlockId}
 use Rattle.qfs_base.specs.declared.history.Outcome.{Outcome}
 use Rattle.qfs_base.specs.declared.history.Outcome.TheVariants as Ended
@@ -26,29 +29,47 @@ use Rattle.qfs_base.specs.declared.reply.TreeRefusal.{TreeRefusal}
 use Rattle.qfs_base.specs.declared.request.MetaRequest.{MetaRequest}
 use Rattle.qfs_base.specs.declared.request.MetaRequest.TheVariants as Ask
 use Rattle.qfs_base.specs.declared.rules.Rules.{Rules}
-use Rattle.qfs_model_meta.specs.Apply.{apply, apply_all, write_entry, add_file, with_slots, grant_slot, finish_lease, bring_up}
+use Rattle.qfs_model_meta.specs.Apply.{apply, apply_all, write_entry, add_file, with_slots}
+use Rattle.qfs_model_meta.specs.Apply.{grant_slot, finish_lease, bring_up}
 use Rattle.qfs_model_meta.specs.Counters.{counters_fit}
 use Rattle.qfs_model_meta.specs.Decide.{decide, decide_request}
-use Rattle.qfs_model_meta.specs.Decision.{Decision, Tells, UsesDisks, Makes, refuse, unless, need, refuse_file, refuse_path}
-use Rattle.qfs_model_meta.specs.DropRequest.{decide_drop, changes_unless_dropped, drop_changes, recovery_changes, unclosed_changes, is_recovery_of}
+use Rattle.qfs_model_meta.specs.Decision.{Decision, Tells, UsesDisks, Makes, refuse, unless, need}
+use Rattle.qfs_model_meta.specs.Decision.{refuse_file, refuse_path}
+use Rattle.qfs_model_meta.specs.DropRequest.{decide_drop, changes_unless_dropped, drop_changes}
+use Rattle.qfs_model_meta.specs.DropRequest.{recovery_changes, unclosed_changes, is_recovery_of}
 use Rattle.qfs_model_meta.specs.Dropped.{dropped_order, dropped_cmp, dropped_at, add_dropped}
 use Rattle.qfs_model_meta.specs.GetRequests.{decide_open, decide_release}
-use Rattle.qfs_model_meta.specs.LeasedGrants.{lease_and_grant, grant_leased, grant_chosen, grant_recovery}
+use Rattle.qfs_model_meta.specs.LeasedGrants.{lease_and_grant, grant_leased, grant_chosen}
+use Rattle.qfs_model_meta.specs.LeasedGrants.{grant_recovery}
 use Rattle.qfs_model_meta.specs.Leases.{leases_of, leases_over, is_live_lease, holds_lease}
 use Rattle.qfs_model_meta.specs.Lists.{NineCopies}
-use Rattle.qfs_model_meta.specs.MoveRequests.{decide_move, move_copy, decide_evacuate, evacuate_slot, decide_balance, give_to_lightest, even_out, move_slot}
-use Rattle.qfs_model_meta.specs.PutRequests.{decide_create, decide_grant, grant_in, grant_for_put, failed_grant, decide_close, close_complete, decide_abort, abort_unclosed, abort_changes}
+use Rattle.qfs_model_meta.specs.MoveRequests.{decide_move, move_copy, decide_evacuate}
+use Rattle.qfs_model_meta.specs.MoveRequests.{evacuate_slot, decide_balance, give_to_lightest}
+use Rattle.qfs_model_meta.specs.MoveRequests.{even_out, move_slot}
+use Rattle.qfs_model_meta.specs.PutRequests.{decide_create, decide_grant, grant_in, grant_for_put}
+use Rattle.qfs_model_meta.specs.PutRequests.{failed_grant, decide_close, close_complete}
+use Rattle.qfs_model_meta.specs.PutRequests.{decide_abort, abort_unclosed, abort_changes}
 use Rattle.qfs_model_meta.specs.Range.{in_range}
 use Rattle.qfs_model_meta.specs.RepairRequests.{decide_recover, decide_heal, heal_slot}
-use Rattle.qfs_model_meta.specs.ServerRequests.{decide_hello, decide_bye, decide_leave, decide_hibernate, decide_tick, decide_left_on}
-use Rattle.qfs_model_meta.specs.SettleRequests.{decide_confirm, confirm_grant, end_own_lease, end_live_lease, decide_abandon, abandon_changes, give_up_own, is_own_grant}
+use Rattle.qfs_model_meta.specs.ServerRequests.{decide_hello, decide_bye, decide_leave}
+use Rattle.qfs_model_meta.specs.ServerRequests.{decide_hibernate, decide_tick, decide_left_on}
+use Rattle.qfs_model_meta.specs.SettleRequests.{decide_confirm, confirm_grant, end_own_lease}
+use Rattle.qfs_model_meta.specs.SettleRequests.{end_live_lease, decide_abandon, abandon_changes}
+use Rattle.qfs_model_meta.specs.SettleRequests.{give_up_own, is_own_grant}
 use Rattle.qfs_model_meta.specs.Slots.{slots_of, slot_at}
-use Rattle.qfs_model_meta.specs.Step.{Served, stays, take_step, next_turn, carry_out, fail_disks, end_step, serve_unless_dropped, meta_step}
+use Rattle.qfs_model_meta.specs.Step.{stays, take_step, next_turn, carry_out, fail_disks, end_step}
+use Rattle.qfs_model_meta.specs.Step.{serve_unless_dropped, meta_step}
 use Rattle.qfs_model_meta.specs.SweepRequests.{decide_order, order_row, decide_swept}
-use Rattle.qfs_model_meta.specs.TreeRequests.{decide_mkdir, decide_rmdir, decide_remove, remove_changes, decide_rename, decide_list}
+use Rattle.qfs_model_meta.specs.TreeRequests.{decide_mkdir, decide_rmdir, decide_remove}
+use Rattle.qfs_model_meta.specs.TreeRequests.{remove_changes, decide_rename, decide_list}
 use Rattle.qfs_model_meta.specs.TreeRows.{file_stands, unclosed_files, row_at}
 use Rattle.qfs_laws_tables.specs.Keys.{key-is}
 use Rattle.qfs_laws_slots.specs.Losing.{losing-frame, stray-frame}
+use Rattle.qfs_laws_tables.specs.Placed.{find-apart, find-placed}
+use Rattle.std.proofs.Common.{arith, ◌<◌}
+use Rattle.std.proofs.lemmas.Bool.{eq-eqb, ne_eqb}
+use Rattle.qfs_laws_tables.specs.EachRow.{each_of_all}
+use Rattle.std.specs.declared.cmp.Ordering.TheVariants.{Greater}
 
 -- ---- what is told
 
@@ -222,7 +243,12 @@ IsNoDrop request = ⊤
 
 request-spares : (rules : Rules) (actor : ℕ) (m : MetaImage) (request : MetaRequest)
     → IsNoDrop request → Spares (decide_request rules actor m request)
-unfolding decide_request decide_mkdir decide_rmdir decide_remove decide_rename decide_create decide_grant grant_in decide_close close_complete decide_abort abort_unclosed decide_open decide_release decide_recover grant_recovery decide_heal heal_slot decide_move move_copy decide_evacuate evacuate_slot decide_balance give_to_lightest even_out move_slot decide_confirm decide_abandon decide_order order_row decide_swept decide_hello decide_bye decide_leave decide_hibernate decide_tick decide_list decide_left_on
+unfolding decide_request decide_mkdir decide_rmdir decide_remove decide_rename decide_create
+    decide_grant grant_in decide_close close_complete decide_abort abort_unclosed decide_open
+    decide_release decide_recover grant_recovery decide_heal heal_slot decide_move move_copy
+    decide_evacuate evacuate_slot decide_balance give_to_lightest even_out move_slot decide_confirm
+    decide_abandon decide_order order_row decide_swept decide_hello decide_bye decide_leave
+    decide_hibernate decide_tick decide_list decide_left_on
 request-spares rules actor m (Ask.Mkdir path) is = file-spares _ _ _ (tt, tt)
 request-spares rules actor m (Ask.Rmdir path) is = file-spares _ _ _ (tt, tt)
 request-spares rules actor m (Ask.Remove path) is =
@@ -330,20 +356,6 @@ others-stay rules actor request outcome m who is =
 
 -- ---- an actor is dropped
 
-find-apart : {X : Type 0} (order : X → X → Ordering) (test : X → Bool) (new : X) (rows : List X)
-    → test new ≡ false → ((row : X) → order new row ≡ Equal → test row ≡ false)
-    → find test (place order new rows) ≡ find test rows
-find-apart order test new [] off apart = ap (λ b. cond b (Some new) None) off
-find-apart order test new (row ∷ rows) off apart =
-    elim (order new row) as (λ o. order new row ≡ o → find test
-    (place_before new row rows (place order new rows) o) ≡ cond (test row) (Some row)
-    (find test rows)) [
-      | Less ↦ λ _. ap (λ b. cond b (Some new) (cond (test row) (Some row) (find test rows))) off
-      | Equal ↦ λ tie. ap (λ b. cond b (Some new) (find test rows)) off ∙ sym
-          (ap (λ b. cond b (Some row) (find test rows)) (apart row tie))
-      | Greater ↦ λ _. ap (cond (test row) (Some row)) (find-apart order test new rows off apart)
-    ] refl
-
 -- what holds of an actor where this one is dropped
 abbrev Behind : ℕ → ℕ → List DroppedActor → List DroppedActor → Type 0
 Behind dropped who before after =
@@ -377,12 +389,12 @@ added-behind dropped turn who ds none =
         (λ row tie. key-is who row.actor ∙ ap (λ k. k == who)
         (sym (ranked dropped row.actor Equal (sym tie))) ∙ differs))
 
-dropping-leaves : (dropped who : ℕ) (m : MetaImage) (reply : MetaReply) (o : Option ℕ)
-    → dropped_at dropped m.dropped ≡ o
-    → Behind dropped who m.dropped (apply_all (changes_unless_dropped dropped m o) m).dropped
+-- the list of dropped actors behind the changes of a drop
+drop-list : (dropped : ℕ) (m : MetaImage)
+    → (apply_all (changes_unless_dropped dropped m None) m).dropped
+    ≡ add_dropped dropped m.turn m.dropped
 unfolding changes_unless_dropped drop_changes recovery_changes unclosed_changes apply_all apply
-dropping-leaves dropped who m reply (Some turn) is = ((λ t at. at), (λ at. inl at))
-dropping-leaves dropped who m reply None is =
+drop-list dropped m =
     let n : MetaImage = record m { dropped = add_dropped dropped m.turn m.dropped } in
     let rest : List Change = map EndLease (leases_of dropped m.leases) ++ map
     (λ (row : SlotRow). GiveUp row.block row.slot)
@@ -396,17 +408,55 @@ dropping-leaves dropped who m reply None is =
     (none-map EndLease (λ lease. tt) (leases_of dropped m.leases))
     (none-map (λ (row : SlotRow). GiveUp row.block row.slot) (λ row. tt)
     (filter (is_recovery_of dropped m.tree) m.slots)))
-    (none-flat (λ file. abort_changes file m.slots) (λ file. aborting m file)
+    (none-flat (λ file. abort_changes file m.slots) (λ file. aborting file)
     (unclosed_files dropped m.tree)) in
-    subst (Behind dropped who m.dropped) (sym (same-all rest n none))
-    (added-behind dropped m.turn who m.dropped is)
+    same-all rest n none
   where
-    aborting : (m : MetaImage) (file : ℕ) → Each DropsNone (abort_changes file m.slots)
-    aborting m file =
+    aborting : (file : ℕ) → Each DropsNone (abort_changes file m.slots)
+    aborting file =
         unfold abort_changes in each_append DropsNone
         (map (λ (row : SlotRow). GiveUp row.block row.slot) (slots_of file m.slots)) _
         (none-map (λ (row : SlotRow). GiveUp row.block row.slot) (λ row. tt)
         (slots_of file m.slots)) (tt, tt)
+
+-- who is dropped counts as dropped from then on
+added-counts : (who turn : ℕ) (ds : List DroppedActor)
+    → dropped_at who (add_dropped who turn ds) ≡ Some turn
+unfolding add_dropped dropped_at dropped_cmp
+added-counts who turn ds =
+    ap (option_map (λ (d : DroppedActor). d.turn))
+    (find-placed dropped_cmp (has_key (dropped_order who)) (record { actor = who; turn = turn }) ds
+    (key-is who who ∙ eq-eqb who who refl)
+    (each_of_all (λ (row : DroppedActor). dropped_cmp (record { actor = who; turn = turn }) row
+    ≡ Greater → has_key (dropped_order who) row ≡ false)
+    (λ row after. key-is who row.actor ∙ apart row.actor (ranked who row.actor Greater
+    (sym after))) ds))
+  where
+    apart : (a : ℕ) → a < who → (a == who) ≡ false
+    apart a low = ne_eqb a who (λ e. omega arith)
+
+pub drop-counts : (who : ℕ) (m : MetaImage)
+    → dropped_at who (apply_all (changes_unless_dropped who m (dropped_at who m.dropped))
+    m).dropped ≡ None → ⊥
+drop-counts who m none = one (dropped_at who m.dropped) refl none
+  where
+    no-none : {turn : ℕ} → Some turn ≡ None → ⊥
+    no-none e = cc
+
+    one : (o : Option ℕ) → dropped_at who m.dropped ≡ o
+        → dropped_at who (apply_all (changes_unless_dropped who m o) m).dropped ≡ None → ⊥
+    one (Some turn) is none = no-none (sym is ∙ (unfold changes_unless_dropped apply_all in none))
+    one None is none = no-none (sym (added-counts who m.turn m.dropped)
+        ∙ ap (dropped_at who) (sym (drop-list who m)) ∙ none)
+
+dropping-leaves : (dropped who : ℕ) (m : MetaImage) (reply : MetaReply) (o : Option ℕ)
+    → dropped_at dropped m.dropped ≡ o
+    → Behind dropped who m.dropped (apply_all (changes_unless_dropped dropped m o) m).dropped
+unfolding changes_unless_dropped drop_changes recovery_changes unclosed_changes apply_all apply
+dropping-leaves dropped who m reply (Some turn) is = ((λ t at. at), (λ at. inl at))
+dropping-leaves dropped who m reply None is =
+    subst (Behind dropped who m.dropped) (sym (drop-list dropped m))
+    (added-behind dropped m.turn who m.dropped is)
 
 drop-stays : (rules : Rules) (actor dropped : ℕ) (outcome : Outcome) (m : MetaImage) (who : ℕ)
     → DroppedBehind (Ask.Drop dropped) m (meta_step rules actor (Ask.Drop dropped) outcome m).meta
@@ -420,7 +470,11 @@ drop-stays rules actor dropped outcome m who =
     (Told.Done (length m.history))) outcome (dropped_at actor m.dropped)
     (dropping-leaves dropped who m (Told.Done (length m.history)) (dropped_at dropped m.dropped)
     refl) in
-    record { stays = b.0; fresh = λ none. ⊎_elim (λ same. inl same) (λ e. inr (ap Ask.Drop e)) (b.1 none) }
+    record {
+      stays = b.0;
+      fresh = λ none. ⊎_elim (λ same. inl same) (λ e. inr (ap Ask.Drop e))
+          (b.1 none);
+    }
 
 which : (request : MetaRequest) → IsNoDrop request ⊎ ((dropped : ℕ) × (request ≡ Ask.Drop dropped))
 which (Ask.Drop dropped) = inr (dropped, refl)

@@ -1,34 +1,39 @@
 -- Decisions that answer as a request may be answered, and whose changes tell no more of the state
--- behind them.
-use Rattle.std.proofs.Common.{◌≡◌, ℕ, ◌⊎◌, inl, inr, Bool, true, false, cond, List, [], ◌∷◌, map, Option, Some, None, refl}
-use Rattle.std.specs.Prelude.{⊤, flat_map}
+-- behind them. For the law `steps_answer`.
+use Rattle.qfs_base.specs.EachLaws.{each_append}
 use Rattle.qfs_base.specs.Table.{Each}
+use Rattle.qfs_base.specs.declared.change.Change.TheVariants.{AddDirectory, CloseFile, ConfirmSlot}
+use Rattle.qfs_base.specs.declared.change.Change.TheVariants.{GiveLease, GrantSlot}
 use Rattle.qfs_base.specs.declared.change.Change.{Change}
-use Rattle.qfs_base.specs.declared.change.Change.TheVariants.{AddDirectory, CloseFile, GrantSlot, ConfirmSlot, GiveLease}
 use Rattle.qfs_base.specs.declared.chunk.BlockId.{BlockId}
 use Rattle.qfs_base.specs.declared.chunk.Copy.{Copy}
-use Rattle.qfs_base.specs.declared.history.Outcome.{Outcome}
 use Rattle.qfs_base.specs.declared.history.Outcome.TheVariants as Ended
+use Rattle.qfs_base.specs.declared.history.Outcome.{Outcome}
 use Rattle.qfs_base.specs.declared.image.MetaImage.{MetaImage}
 use Rattle.qfs_base.specs.declared.reply.Granted.{Granted}
-use Rattle.qfs_base.specs.declared.reply.MetaReply.{MetaReply}
 use Rattle.qfs_base.specs.declared.reply.MetaReply.TheVariants as Told
+use Rattle.qfs_base.specs.declared.reply.MetaReply.{MetaReply}
 use Rattle.qfs_base.specs.declared.reply.TreeRefusal.{TreeRefusal}
-use Rattle.qfs_base.specs.declared.request.MetaRequest.{MetaRequest}
 use Rattle.qfs_base.specs.declared.request.MetaRequest.TheVariants as Ask
+use Rattle.qfs_base.specs.declared.request.MetaRequest.{MetaRequest}
 use Rattle.qfs_base.specs.declared.rules.Rules.{Rules}
-use Rattle.qfs_model_meta.specs.Apply.{apply, apply_all}
-use Rattle.qfs_model_meta.specs.Counters.{counters_fit}
-use Rattle.qfs_model_meta.specs.Decision.{Decision, Tells, UsesDisks, Makes, refuse, unless, need, refuse_file, refuse_path}
-use Rattle.qfs_model_meta.specs.Dropped.{dropped_at}
-use Rattle.qfs_model_meta.specs.Past.{Past, granted_slot_copy}
-use Rattle.qfs_model_meta.specs.Step.{Served, stays, take_step, next_turn, carry_out, fail_disks, end_step, serve_unless_dropped}
-use Rattle.qfs_base.specs.EachLaws.{each_append}
-use Rattle.qfs_laws_slots.specs.Changes.{MayMake, told}
-use Rattle.qfs_laws_meta.specs.ChangeTells.{Seals, Gives, Lends, change-tells}
-use Rattle.qfs_laws_meta.specs.MayTell.{MayTell, AnyMayGet}
+use Rattle.qfs_laws_meta.specs.ChangeTells.{Gives, Lends, Seals, change-tells}
+use Rattle.qfs_laws_meta.specs.MayTell.{AnyMayGet, MayTell}
 use Rattle.qfs_laws_meta.specs.Requests.{AllMake, Fine}
 use Rattle.qfs_laws_meta.specs.Tells as Of
+use Rattle.qfs_laws_slots.specs.Changes.{MayMake, told}
+use Rattle.qfs_model_meta.specs.Apply.{apply, apply_all}
+use Rattle.qfs_model_meta.specs.Counters.{counters_fit}
+use Rattle.qfs_model_meta.specs.Decide.{decide}
+use Rattle.qfs_model_meta.specs.Decision.{Decision, Makes, Tells, UsesDisks, need, refuse}
+use Rattle.qfs_model_meta.specs.Decision.{refuse_file, refuse_path, unless}
+use Rattle.qfs_model_meta.specs.Dropped.{dropped_at}
+use Rattle.qfs_model_meta.specs.Past.{Past, granted_slot_copy}
+use Rattle.qfs_model_meta.specs.Step.{Served, carry_out, end_step, fail_disks, next_turn}
+use Rattle.qfs_model_meta.specs.Step.{serve_unless_dropped, stays, take_step}
+use Rattle.std.proofs.Common.{Bool, List, None, Option, Some, [], cond, false, inl, inr, map, refl}
+use Rattle.std.proofs.Common.{true, ℕ, ◌∷◌, ◌≡◌, ◌⊎◌}
+use Rattle.std.specs.Prelude.{flat_map, ⊤}
 
 -- ---- what a step tells of the state behind it
 
@@ -171,8 +176,10 @@ module _ (rules : Rules) (actor : ℕ) (past : Past) (m : MetaImage) (request : 
 -- ---- the step
 
 -- what a step answers, and what it tells of the state behind it
-pub record IsAnswered (rules : Rules) (actor : ℕ) (outcome : Outcome) (m : MetaImage) (request : MetaRequest) (served : Served) : Type 0 where
-  pub answer : MayTell rules actor m served.reply request ⊎ AnyMayGet actor outcome m served.reply
+pub record IsAnswered (rules : Rules) (actor : ℕ) (outcome : Outcome) (m : MetaImage)
+    (request : MetaRequest) (served : Served) : Type 0 where
+  pub answer : ((dropped_at actor m.dropped ≡ None) × MayTell rules actor m served.reply request)
+      ⊎ AnyMayGet rules actor outcome m request served.reply
   pub tells : StepTells request served.reply m served.meta
 
 turned-tells : (request : MetaRequest) (reply : MetaReply) (m n : MetaImage)
@@ -189,52 +196,66 @@ turned-tells request reply m n t =
       history = t.history;
     }
 
-module _ (rules : Rules) (actor : ℕ) (outcome : Outcome) (past : Past) (m : MetaImage) (request : MetaRequest) where
+module _ (rules : Rules) (actor : ℕ) (outcome : Outcome) (past : Past) (m : MetaImage)
+    (request : MetaRequest) where
   same-state : (reply : MetaReply)
-      → MayTell rules actor m reply request ⊎ AnyMayGet actor outcome m reply
+      → ((dropped_at actor m.dropped ≡ None) × MayTell rules actor m reply request)
+      ⊎ AnyMayGet rules actor outcome m request reply
       → IsAnswered rules actor outcome m request (stays m reply)
   unfolding stays
   same-state reply may =
       record { answer = may; tells = plain-tells request reply m m (Of.stays-plain m) }
 
-  made : (changes : List Change) (reply : MetaReply) → Fine actor past m (Makes changes reply)
-      → Fair rules actor past m request (Makes changes reply) → (fits : Bool)
-      → IsAnswered rules actor outcome m request (take_step m (apply_all changes m) reply fits)
-  unfolding take_step
-  made changes reply fine fair true =
-      record {
-        answer = inl fair.0;
-        tells = turned-tells request reply m (apply_all changes m)
-            (fair.1 fine.0);
-      }
-  made changes reply fine fair false = same-state Told.NoMemory (inr tt)
+  module _ (none : dropped_at actor m.dropped ≡ None) where
+    made : (changes : List Change) (reply : MetaReply)
+        → decide rules actor m request ≡ Makes changes reply
+        → Fine actor past m (Makes changes reply)
+        → Fair rules actor past m request (Makes changes reply) → (fits : Bool)
+        → counters_fit (apply_all changes m) ≡ fits
+        → IsAnswered rules actor outcome m request (take_step m (apply_all changes m) reply fits)
+    unfolding take_step
+    made changes reply is fine fair true fits =
+        record {
+          answer = inl (none, fair.0);
+          tells = turned-tells request reply m (apply_all changes m)
+              (fair.1 fine.0);
+        }
+    made changes reply is fine fair false out =
+        same-state Told.NoMemory (inr (none, inr (changes, reply, is, out)))
+
+    failed : (changes : List Change) (reply : MetaReply)
+        → decide rules actor m request ≡ Makes changes reply → outcome ≡ Ended.Failed → (b : Bool)
+        → counters_fit (apply_all changes m) ≡ b
+        → IsAnswered rules actor outcome m request
+        (stays m (cond b Told.LogFault Told.NoMemory))
+    failed changes reply is fails true fits =
+        same-state Told.LogFault (inr (none, fails, inr (changes, reply, is, fits)))
+    failed changes reply is fails false out =
+        same-state Told.NoMemory (inr (none, inr (changes, reply, is, out)))
 
 pub step-answers : (rules : Rules) (actor : ℕ) (outcome : Outcome) (past : Past) (m : MetaImage)
     (request : MetaRequest) (decision : Decision) (dropped : Option ℕ)
+    → decide rules actor m request ≡ decision
     → dropped_at actor m.dropped ≡ dropped
     → Fine actor past m decision → Fair rules actor past m request decision → IsAnswered rules actor
     outcome m request (serve_unless_dropped m (end_step m decision outcome) dropped)
 unfolding serve_unless_dropped end_step carry_out fail_disks
-step-answers rules actor outcome past m request decision (Some turn) is fine fair =
-    same-state rules actor outcome past m request (Told.Dropped turn) (inr is)
-step-answers rules actor Ended.NoMemory past m request decision None is fine fair =
-    same-state rules actor Ended.NoMemory past m request Told.NoMemory (inr tt)
-step-answers rules actor Ended.Done past m request (Tells reply) None is fine fair =
-    same-state rules actor Ended.Done past m request reply (inl fair)
-step-answers rules actor Ended.Done past m request (UsesDisks reply) None is fine fair =
-    same-state rules actor Ended.Done past m request reply (inl fair)
-step-answers rules actor Ended.Done past m request (Makes changes reply) None is fine fair =
-    made rules actor Ended.Done past m request changes reply fine fair
-    (counters_fit (apply_all changes m))
-step-answers rules actor Ended.Failed past m request (Tells reply) None is fine fair =
-    same-state rules actor Ended.Failed past m request reply (inl fair)
-step-answers rules actor Ended.Failed past m request (UsesDisks reply) None is fine fair =
-    same-state rules actor Ended.Failed past m request Told.LogFault (inr refl)
-step-answers rules actor Ended.Failed past m request (Makes changes reply) None is fine fair =
-    failed (counters_fit (apply_all changes m))
-  where
-    failed : (b : Bool)
-        → IsAnswered rules actor Ended.Failed m request
-        (stays m (cond b Told.LogFault Told.NoMemory))
-    failed true = same-state rules actor Ended.Failed past m request Told.LogFault (inr refl)
-    failed false = same-state rules actor Ended.Failed past m request Told.NoMemory (inr tt)
+step-answers rules actor outcome past m request decision (Some turn) is at fine fair =
+    same-state rules actor outcome past m request (Told.Dropped turn) (inr at)
+step-answers rules actor Ended.NoMemory past m request decision None is at fine fair =
+    same-state rules actor Ended.NoMemory past m request Told.NoMemory (inr (at, inl refl))
+step-answers rules actor Ended.Done past m request (Tells reply) None is at fine fair =
+    same-state rules actor Ended.Done past m request reply (inl (at, fair))
+step-answers rules actor Ended.Done past m request (UsesDisks reply) None is at fine fair =
+    same-state rules actor Ended.Done past m request reply (inl (at, fair))
+step-answers rules actor Ended.Done past m request (Makes changes reply) None is at fine fair =
+    made rules actor Ended.Done past m request at changes reply is fine fair
+    (counters_fit (apply_all changes m)) refl
+step-answers rules actor Ended.Failed past m request (Tells reply) None is at fine fair =
+    same-state rules actor Ended.Failed past m request reply (inl (at, fair))
+step-answers rules actor Ended.Failed past m request (UsesDisks reply) None is at fine fair =
+    same-state rules actor Ended.Failed past m request Told.LogFault
+    (inr (at, refl, inl (reply, is)))
+step-answers rules actor Ended.Failed past m request (Makes changes reply) None is at fine fair =
+    failed rules actor Ended.Failed past m request at changes reply is refl
+    (counters_fit (apply_all changes m)) refl

@@ -1,4 +1,4 @@
--- The requests that open files and grant slots.
+-- The requests that open files and grant slots. For the law `stays_sound`.
 use Rattle.qfs_base.specs.NameTree.{PathNames, look_refusal, stands_at}
 use Rattle.qfs_base.specs.NumberSet.{has}
 use Rattle.qfs_base.specs.Shape.{Shape}
@@ -12,29 +12,36 @@ use Rattle.qfs_base.specs.declared.reply.MetaReply.{MetaReply}
 use Rattle.qfs_model_meta.specs.Apply.{apply, apply_all, grant_slot, with_slots}
 use Rattle.qfs_model_meta.specs.GetRequests.{decide_open, opened}
 use Rattle.qfs_model_meta.specs.Grammar.{IsActor, IsServer}
-use Rattle.qfs_model_meta.specs.LeasedGrants.{closed_len, grant_chosen, grant_leased, grant_recovery, lease_and_grant, pending_refusal}
+use Rattle.qfs_model_meta.specs.LeasedGrants.{closed_len, grant_chosen, grant_leased}
+use Rattle.qfs_model_meta.specs.LeasedGrants.{grant_recovery, lease_and_grant, pending_refusal}
 use Rattle.qfs_model_meta.specs.Leases.{lease_end}
-use Rattle.qfs_model_meta.specs.Lists.{NineCopies, block_count, listed_blocks, new_grant, one_source}
+use Rattle.qfs_model_meta.specs.Lists.{NineCopies, block_count, listed_blocks, new_grant}
+use Rattle.qfs_model_meta.specs.Lists.{one_source}
 use Rattle.qfs_model_meta.specs.MoveRequests.{decide_move, is_barred, may_get, move_copy}
-use Rattle.qfs_model_meta.specs.Past.{GivenLease, Past, granted_slot_copy, is_of_put, listed_in, listed_in_file, remember, with_copy, with_grant, with_lease}
+use Rattle.qfs_model_meta.specs.Past.{GivenLease, Past, granted_slot_copy, is_of_put, listed_in}
+use Rattle.qfs_model_meta.specs.Past.{listed_in_file, remember, with_copy, with_grant, with_lease}
 use Rattle.qfs_model_meta.specs.Placing.{barred_for_block}
 use Rattle.qfs_model_meta.specs.Range.{is_server, is_slot_number}
 use Rattle.qfs_model_meta.specs.RepairRequests.{decide_recover}
 use Rattle.qfs_model_meta.specs.Slots.{granted_slot, slot_at}
 use Rattle.qfs_model_meta.specs.Sound.{live_servers}
-use Rattle.qfs_model_meta.specs.TreeRows.{closed_file, directory_row, has_file, is_closed, is_closed_row, kind_of, row_at, row_path, standing}
-use Rattle.std.proofs.Common.{List, None, Option, Some, [], ap, arith, false, find, length, nat_lt, refl, subst, sym, true, ℕ, ◌&&◌, ◌++◌, ◌<◌, ◌==◌, ◌∙◌, ◌∷◌, ◌≡◌, ◌≤◌}
+use Rattle.qfs_model_meta.specs.TreeRows.{closed_file, directory_row, has_file, is_closed}
+use Rattle.qfs_model_meta.specs.TreeRows.{is_closed_row, kind_of, row_at, row_path, standing}
+use Rattle.std.proofs.Common.{List, None, Option, Some, [], ap, arith, false, find, length, nat_lt}
+use Rattle.std.proofs.Common.{refl, subst, sym, true, ℕ, ◌&&◌, ◌++◌, ◌<◌, ◌==◌, ◌∙◌, ◌∷◌, ◌≡◌, ◌≤◌}
 use Rattle.std.proofs.lemmas.Bool.{and_from, and_parts, eq-eqb, ltb-true, not-true}
 use Rattle.std.proofs.lemmas.Bool.Decides.{nat_tests}
 use Rattle.std.specs.List.{enumerate_from, list_any}
 use Rattle.std.specs.Prelude.{IsTrue, is_some, unwrap_or}
 use Rattle.qfs_base.specs.declared.lists.NameKind.TheVariants as Is
 use Rattle.qfs_base.specs.declared.reply.MetaReply.TheVariants as Told
-use Rattle.qfs_laws_meta.specs.Granting.{chosen-is, unbarred-apart, version-left}
+use Rattle.qfs_laws_meta.specs.Granting.{unbarred-apart, version-left}
 use Rattle.qfs_laws_meta.specs.Kept.{Fits, Keeps}
-use Rattle.qfs_laws_meta.specs.Listing.{AreCurrent, file-each, listed-each, one-current, others-current}
+use Rattle.qfs_laws_meta.specs.Listing.{AreCurrent, file-each, listed-each, one-current}
+use Rattle.qfs_laws_meta.specs.Listing.{others-current}
 use Rattle.qfs_laws_meta.specs.Replies.{listed-kept}
-use Rattle.qfs_laws_meta.specs.Requests.{Fine, Quiet, file-fine, need-fine, path-fine, refuse-fine, told_all, unless-fine}
+use Rattle.qfs_laws_meta.specs.Requests.{Fine, Quiet, file-fine, need-fine, path-fine, refuse-fine}
+use Rattle.qfs_laws_meta.specs.Requests.{told_all, unless-fine}
 use Rattle.qfs_laws_meta.specs.SimpleRequests.{server-is}
 use Rattle.qfs_laws_slots.specs.Changes.{HasVersionsLeft, MayGrant, told}
 use Rattle.qfs_laws_slots.specs.RowKeys.{has_file-is}
@@ -46,6 +53,7 @@ use Rattle.qfs_laws_tree.specs.Stands.{stands_of_closed}
 use Rattle.qfs_laws_tree.specs.Tree.{HasTree}
 use Rattle.qfs_laws_tree.specs.TreeChanges.{closed-any, closed_test}
 use Rattle.qfs_laws_tree.specs.TreeFacts.{kind-row, look-closed}
+use Rattle.qfs_laws_slots.specs.Choice.{chosen-is}
 
 -- ---- what a lease and a grant tell
 
@@ -100,7 +108,18 @@ lease-may : (actor until : ℕ) (m : MetaImage) (block : BlockId) (slot server :
 unfolding apply live_servers
 lease-may actor until m block slot server who left may =
     let a = unbarred-apart m block server may.apart in
-    record { stands = stands_of_closed block.file m.tree may.closed; slot_number = may.small; server_number = may.server_number; free = may.free; apart = unfold live_servers in a; versions = version-left m.slots block slot left; is_actor = who; lease_given = omega arith }
+    record {
+      stands = stands_of_closed block.file m.tree may.closed;
+      slot_number = may.small;
+      server_number = may.server_number;
+      free = may.free;
+      apart = unfold live_servers in
+          a;
+      versions = version-left m.slots block slot left;
+      is_actor = who;
+      lease_given =
+          omega arith;
+    }
 
 still-current : (m n : MetaImage) (block : BlockId) (slot server actor lease : ℕ)
     (nine : NineCopies)
@@ -175,7 +194,7 @@ pending-quiet actor past None reply is = absurd (cc)
 pending-quiet actor past (Some g) reply is =
     let e : Told.Taken g.copy.version ≡ reply = cc in subst (Quiet actor past) e refl
 
-pending-none : (o : Option Grant) → pending_refusal o ≡ None → o ≡ None
+pub pending-none : (o : Option Grant) → pending_refusal o ≡ None → o ≡ None
 unfolding pending_refusal
 pending-none None e = refl
 pending-none (Some g) e = absurd (cc)
@@ -193,7 +212,7 @@ found-closed : (path : PathNames) (tree : List TreeRow) (row : TreeRow)
 found-closed path tree row found is =
     found-any _ (closed_test row.file) tree row found (closed-passes row is)
 
-closed-at : (next : ℕ) (path : PathNames) (tree : List TreeRow)
+pub closed-at : (next : ℕ) (path : PathNames) (tree : List TreeRow)
     → look_refusal (standing tree) path ≡ None → HasTree next tree
     → IsTrue (is_some (closed_file (row_at tree path).file tree))
 unfolding row_at

@@ -1,28 +1,29 @@
--- A server that is chosen, or that isn't barred, may get a grant.
+-- A server that is chosen, or that isn't barred, may get a grant. For the law `stays_sound`.
 use Rattle.qfs_base.specs.NumberSet.{has, with_member}
 use Rattle.qfs_base.specs.Sizes.{LAST_U32}
 use Rattle.qfs_base.specs.Table.{Each}
 use Rattle.qfs_base.specs.declared.change.Change.{Change}
 use Rattle.qfs_base.specs.declared.chunk.BlockId.{BlockId}
 use Rattle.qfs_base.specs.declared.chunk.Copy.{Copy}
-use Rattle.qfs_base.specs.declared.image.Load.{Load}
 use Rattle.qfs_base.specs.declared.image.MetaImage.{MetaImage}
 use Rattle.qfs_base.specs.declared.image.ServerView.{ServerView}
 use Rattle.qfs_base.specs.declared.image.SlotRow.{SlotRow}
 use Rattle.qfs_base.specs.declared.image.TreeRow.{TreeRow}
 use Rattle.qfs_model_meta.specs.Apply.{apply}
 use Rattle.qfs_model_meta.specs.Grammar.{IsServer}
-use Rattle.qfs_model_meta.specs.Placing.{Numbered, barred_for_block, barred_for_put, census, choose, is_open, lighter, load_of, open_servers, with_live_servers}
+use Rattle.qfs_model_meta.specs.Placing.{barred_for_block, barred_for_put, with_live_servers}
 use Rattle.qfs_model_meta.specs.Servers.{is_live}
-use Rattle.qfs_model_meta.specs.Slots.{copies_of_block, granted_copy, grants_of_block, is_of_block, never_granted, slot_at}
+use Rattle.qfs_model_meta.specs.Slots.{copies_of_block, granted_copy, grants_of_block, is_of_block}
+use Rattle.qfs_model_meta.specs.Slots.{never_granted, slot_at}
 use Rattle.qfs_model_meta.specs.Sound.{live_servers}
 use Rattle.qfs_model_meta.specs.TreeRows.{closed_file}
-use Rattle.std.proofs.Common.{Bool, List, None, Option, Some, [], ap, arith, cond, false, filter, length, map, nat_eq, nat_lt, not, refl, subst, suc, sym, true, ℕ, ◌&&◌, ◌++◌, ◌+◌, ◌<◌, ◌||◌, ◌∙◌, ◌∷◌, ◌≡◌, ◌≤◌}
-use Rattle.std.proofs.lemmas.Bool.{and_parts, not-true, or_parts, true≢false}
+use Rattle.std.proofs.Common.{List, None, Option, Some, [], ap, arith, cond, false, filter, length}
+use Rattle.std.proofs.Common.{nat_eq, refl, subst, sym, true, ℕ, ◌++◌, ◌+◌, ◌<◌, ◌||◌, ◌∙◌, ◌∷◌}
+use Rattle.std.proofs.Common.{◌≡◌}
+use Rattle.std.proofs.lemmas.Bool.{or_parts, true≢false}
 use Rattle.std.specs.BTreeSet.{insert_key}
 use Rattle.std.specs.Cmp.{ranked}
-use Rattle.std.specs.List.{enumerate_from, reduce}
-use Rattle.std.specs.Option.{option_map, option_to_list}
+use Rattle.std.specs.Option.{option_to_list}
 use Rattle.std.specs.Ordering.{match_ordering, nat_cmp}
 use Rattle.std.specs.Prelude.{IsTrue, flat_map, fold, is_some}
 use Rattle.std.specs.declared.cmp.Ordering.TheVariants.{Equal, Greater, Less}
@@ -32,80 +33,8 @@ use Rattle.qfs_laws_slots.specs.Losing.{IsLosing, losing-slots}
 use Rattle.qfs_laws_slots.specs.SlotTable.{RowFits}
 use Rattle.qfs_laws_slots.specs.Slots.{of_block-is, slot-cases, slot_has}
 use Rattle.qfs_laws_tables.specs.Distinct.{copies, one_if}
-use Rattle.qfs_base.specs.EachLaws.{each_filter, each_weaker}
-use Rattle.qfs_laws_tables.specs.EachRow.{each_both, each_passes}
+use Rattle.qfs_base.specs.EachLaws.{each_weaker}
 use Rattle.qfs_laws_tables.specs.Sums.{total, total-filter, total-map, weigh_if}
-
--- ---- the choice of a server
-
-abbrev pub IsNumbered : ℕ → ℕ → Numbered → Type 0
-IsNumbered from to s = (from ≤ s.0) × (s.0 < to)
-
-pub enumerated : (from : ℕ) (loads : List Load)
-    → Each (IsNumbered from (from + length loads)) (enumerate_from from loads)
-enumerated from [] = tt
-enumerated from (load ∷ loads) =
-    let to : from + 1 + length loads ≡ from + length (load ∷ loads) = omega arith in
-    let rest : Each (IsNumbered (from + 1) (from + length (load ∷ loads)))
-    (enumerate_from (from + 1) loads) = subst
-    (λ to. Each (IsNumbered (from + 1) to) (enumerate_from (from + 1) loads)) to
-    (enumerated (from + 1) loads) in (
-      (omega arith, omega arith),
-      each_weaker (IsNumbered (from + 1) (from + length (load ∷ loads)))
-          _ (λ s is. wider s is) (enumerate_from (from + 1) loads) rest,
-    )
-  where
-    wider : (s : Numbered) → IsNumbered (from + 1) (from + length (load ∷ loads)) s
-        → IsNumbered from (from + length (load ∷ loads)) s
-    wider s is = (omega (arith, is.0), is.1)
-
-pub census-length : (slots : List SlotRow) (from : ℕ) (servers : List ServerView)
-    → length (map (λ (s : ℕ × ServerView). load_of slots s.0 s.1)
-    (enumerate_from from servers)) ≡ length servers
-census-length slots from [] = refl
-census-length slots from (s ∷ servers) = ap suc (census-length slots (from + 1) servers)
-
-pub lightest : (P : Numbered → Type 0) (best : Numbered) (servers : List Numbered) → P best
-    → Each P servers → P (fold lighter best servers)
-unfolding lighter
-lightest P best [] b each = b
-lightest P best (next ∷ servers) b each =
-    lightest P (cond (nat_lt next.1.count best.1.count) next best) servers
-    (elim (nat_lt next.1.count best.1.count) as (λ t. P (cond t next best))
-    [ true ↦ each.0 | false ↦ b ]) each.1
-
-pub reduced : (P : Numbered → Type 0) (servers : List Numbered) (number : ℕ)
-    → ((s : Numbered) → P s → (n : ℕ) → s.0 ≡ n → P (n, s.1)) → Each P servers
-    → option_map (λ (s : Numbered). s.0) (reduce lighter servers) ≡ Some number
-    → (s : Numbered) × (s.0 ≡ number) × P s
-reduced P [] number moves each e = absurd (cc)
-reduced P (best ∷ rest) number moves each e =
-    let s : Numbered = fold lighter best rest in
-    (s, (let q : Some s.0 ≡ Some number = e in cc), lightest P best rest each.0 each.1)
-
-pub chosen-is : (servers : List ServerView) (slots : List SlotRow) (barred : List ℕ) (server : ℕ)
-    → choose (census servers slots) barred ≡ Some server
-    → IsServer (length servers) server × (has barred server ≡ false)
-unfolding choose open_servers is_open census
-chosen-is servers slots barred server chosen =
-    let loads : List Load = map (λ (s : ℕ × ServerView). load_of slots s.0 s.1)
-    (enumerate_from 1 servers) in
-    let test : Numbered → Bool = λ s. s.1.up && not s.1.leaving && not (has barred s.0) in
-    let r = reduced (λ s. IsNumbered 1 (1 + length loads) s × (test s ≡ true))
-    (filter test (enumerate_from 1 loads)) server
-    (λ s p n e. subst (λ k. IsNumbered 1 (1 + length loads) (k, s.1) × (test (k, s.1) ≡ true)) e p)
-    (each_both (IsNumbered 1 (1 + length loads)) (λ s. test s ≡ true)
-    (filter test (enumerate_from 1 loads))
-    (each_filter (IsNumbered 1 (1 + length loads)) test (enumerate_from 1 loads)
-    (enumerated 1 loads)) (each_passes test (enumerate_from 1 loads))) chosen in
-    let l = census-length slots 1 servers in
-    let low = r.2.0.0 in
-    let high = r.2.0.1 in
-    let same = r.1 in (
-      (omega arith, omega arith),
-      ap (has barred) (sym r.1) ∙ not-true _
-          (and_parts (r.0.1.up && not r.0.1.leaving) (not (has barred r.0.0)) r.2.1).1,
-    )
 
 -- ---- who is barred
 
@@ -190,7 +119,7 @@ rows-bare : (servers next : ℕ) (tree : List TreeRow) (file : ℕ)
     → is_some (closed_file file tree) ≡ false → (rows : List SlotRow)
     → Each (RowFits servers next tree) rows
     → Each (λ (row : SlotRow). row.block.file ≡ file → row.state.current ≡ None) rows
-rows-bare servers next tree file open' rows each =
+rows-bare servers next tree file still_open rows each =
     each_weaker (RowFits servers next tree) _
     (λ row f own. none row.state.current
     (subst (λ k. Each (λ (copy : Copy). IsServer servers copy.server × IsTrue
@@ -202,17 +131,18 @@ rows-bare servers next tree file open' rows each =
         (is_some (closed_file file tree))) (option_to_list o)
         → o ≡ None
     none None each = refl
-    none (Some copy) each = absurd (true≢false (sym each.0.1 ∙ open'))
+    none (Some copy) each = absurd (true≢false (sym each.0.1 ∙ still_open))
 
 pub put-apart : (m : MetaImage) (block : BlockId) (failed : List ℕ) (server : ℕ) → Fits m
     → is_some (closed_file block.file m.tree) ≡ false
     → has (barred_for_put m.servers m.slots block failed) server ≡ false
     → copies server (live_servers block m.servers m.slots) ≡ 0
 unfolding barred_for_put
-put-apart m block failed server f open' off =
+put-apart m block failed server f still_open off =
     live-total block server m
     ∙ ap (total (stands_on m.servers server))
-    (bare-copies block m.slots (rows-bare (length m.servers) m.next_lease m.tree block.file open'
+    (bare-copies block m.slots
+    (rows-bare (length m.servers) m.next_lease m.tree block.file still_open
     m.slots f.table.rows))
     ∙ (live-free m.servers (grants_of_block block m.slots) failed server off).1
 

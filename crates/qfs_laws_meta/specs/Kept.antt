@@ -1,9 +1,16 @@
--- A state that keeps to its past, between two changes as behind them: every change that may be
--- made keeps it.
+-- A state that keeps to its past, between two changes as behind them: every change that may be made
+-- keeps it. For the law `stays_sound`.
 use Rattle.qfs_base.specs.Sizes.{LAST_U16, MOST_SERVERS}
 use Rattle.qfs_base.specs.Table.{Each, IsRising}
 use Rattle.qfs_base.specs.declared.change.Change.{Change}
-use Rattle.qfs_base.specs.declared.change.Change.TheVariants.{AbortFile, AddDirectory, AddFile, ClockTicks, CloseFile, CondemnStray, ConfirmSlot, DropActor, EmptySlot, EndLease, FailGrant, GiveLease, GiveUp, GrantSlot, MarkOrdered, MovePath, RemoveFile, ServerDown, ServerLeaves, ServerSleeps, ServerUp, TakeCondemned, TakeDirectory}
+use Rattle.qfs_base.specs.declared.change.Change.TheVariants.{AbortFile, AddDirectory, AddFile}
+use Rattle.qfs_base.specs.declared.change.Change.TheVariants.{ClockTicks, CloseFile, CondemnStray}
+use Rattle.qfs_base.specs.declared.change.Change.TheVariants.{ConfirmSlot, DropActor, EmptySlot}
+use Rattle.qfs_base.specs.declared.change.Change.TheVariants.{EndLease, FailGrant, GiveLease}
+use Rattle.qfs_base.specs.declared.change.Change.TheVariants.{GiveUp, GrantSlot, MarkOrdered}
+use Rattle.qfs_base.specs.declared.change.Change.TheVariants.{MovePath, RemoveFile, ServerDown}
+use Rattle.qfs_base.specs.declared.change.Change.TheVariants.{ServerLeaves, ServerSleeps, ServerUp}
+use Rattle.qfs_base.specs.declared.change.Change.TheVariants.{TakeCondemned, TakeDirectory}
 use Rattle.qfs_base.specs.declared.chunk.BlockId.{BlockId}
 use Rattle.qfs_base.specs.declared.chunk.ChunkKey.{ChunkKey}
 use Rattle.qfs_base.specs.declared.chunk.Copy.{Copy}
@@ -15,16 +22,24 @@ use Rattle.qfs_base.specs.declared.image.ServerView.{ServerView}
 use Rattle.qfs_base.specs.declared.image.SlotRecord.{SlotRecord}
 use Rattle.qfs_base.specs.declared.image.SlotRow.{SlotRow}
 use Rattle.qfs_base.specs.declared.image.TreeRow.{TreeRow}
-use Rattle.qfs_model_meta.specs.Apply.{add_file, apply, bring_up, change_record, condemn_stray, condemn_unknown, confirm_slot, empty_slot, fail_grant, finish_lease, give_up, grant_slot, with_slots, write_entry}
+use Rattle.qfs_model_meta.specs.Apply.{add_file, apply, bring_up, change_record, condemn_stray}
+use Rattle.qfs_model_meta.specs.Apply.{condemn_unknown, confirm_slot, empty_slot, fail_grant}
+use Rattle.qfs_model_meta.specs.Apply.{finish_lease, give_up, grant_slot, with_slots, write_entry}
 use Rattle.qfs_model_meta.specs.Condemned.{condemn_any, forget_if_risen, mark_ordered, sweep}
 use Rattle.qfs_model_meta.specs.Dropped.{add_dropped, dropped_cmp}
-use Rattle.qfs_model_meta.specs.Grammar.{IsActor, IsCondemnedList, IsDroppedList, IsEntry, IsLeaseList, IsServer}
+use Rattle.qfs_model_meta.specs.Grammar.{IsActor, IsCondemnedList, IsDroppedList, IsEntry}
+use Rattle.qfs_model_meta.specs.Grammar.{IsLeaseList, IsServer}
 use Rattle.qfs_model_meta.specs.Past.{GivenLease, ListedCopy, Past, SlotCopy, with_copy}
-use Rattle.qfs_model_meta.specs.Servers.{change_server, server_asleep, server_at, server_down, server_leaving, server_up}
+use Rattle.qfs_model_meta.specs.Servers.{change_server, server_asleep, server_at, server_down}
+use Rattle.qfs_model_meta.specs.Servers.{server_leaving, server_up}
 use Rattle.qfs_model_meta.specs.Slots.{granted_copy, never_granted, slot_at, slot_cmp}
 use Rattle.qfs_model_meta.specs.Sound.{IsLetGo, LeasesHold, LivesRise, TreeIsHistory, is_lease_of}
-use Rattle.qfs_model_meta.specs.TreeRows.{close_file, closed_file, directory_row, file_row, file_stands, has_file, is_unclosed_of, is_unclosed_row, standing, unclosed_file}
-use Rattle.std.proofs.Common.{Bool, List, None, Option, Some, ap, arith, false, find, length, nat_lt, refl, subst, sym, true, ℕ, ◌&&◌, ◌+◌, ◌<◌, ◌==◌, ◌∙◌, ◌≡◌, ◌≢◌, ◌≤◌}
+use Rattle.qfs_model_meta.specs.TreeRows.{close_file, closed_file, directory_row, file_row}
+use Rattle.qfs_model_meta.specs.TreeRows.{file_stands, has_file, is_unclosed_of, is_unclosed_row}
+use Rattle.qfs_model_meta.specs.TreeRows.{standing, unclosed_file}
+use Rattle.std.proofs.Common.{Bool, List, None, Option, Some, ap, arith, false, find, length}
+use Rattle.std.proofs.Common.{nat_lt, refl, subst, sym, true, ℕ, ◌&&◌, ◌+◌, ◌<◌, ◌==◌, ◌∙◌, ◌≡◌}
+use Rattle.std.proofs.Common.{◌≢◌, ◌≤◌}
 use Rattle.std.proofs.lemmas.Bool.{and_parts, eqb-true}
 use Rattle.std.specs.Cmp.{IsTotalOrder, nat_cmp_total, on_total}
 use Rattle.std.specs.List.{list_any}
@@ -40,22 +55,33 @@ use Rattle.qfs_laws_meta.specs.OneServer.{KnownLife, OneEach, copies_of, kept-on
 use Rattle.qfs_laws_slots.specs.Changes.{MayAbort, MayClose, MayCondemn, MayGrant, MayMake, told}
 use Rattle.qfs_laws_slots.specs.Condemning.{condemn-cases, condemn_any-frame}
 use Rattle.qfs_laws_slots.specs.Granted.{Granted, granted-has}
-use Rattle.qfs_laws_slots.specs.Lists.{HasRows, IsSome_, leases-ended, leases-given, rows-condemned, rows-condemned_any, rows-ended, rows-filtered, rows-given, rows-marked}
+use Rattle.qfs_laws_slots.specs.Lists.{HasRows, HasOne, leases-ended, leases-given, rows-condemned}
+use Rattle.qfs_laws_slots.specs.Lists.{rows-condemned_any, rows-ended, rows-filtered, rows-given}
+use Rattle.qfs_laws_slots.specs.Lists.{rows-marked}
 use Rattle.qfs_laws_slots.specs.Losing.{IsLosing, losing-frame, stray-frame}
 use Rattle.qfs_laws_slots.specs.RowKeys.{own-file}
 use Rattle.qfs_laws_slots.specs.Servers.{change-length}
-use Rattle.qfs_laws_slots.specs.SlotTable.{HasTable, bare-of, slot-fits, slot-small, table-forgotten, table-granted, table-later, table-losing, table-onward, table-sealed}
+use Rattle.qfs_laws_slots.specs.SlotTable.{HasTable, bare-of, slot-fits, slot-small}
+use Rattle.qfs_laws_slots.specs.SlotTable.{table-forgotten, table-granted, table-later}
+use Rattle.qfs_laws_slots.specs.SlotTable.{table-losing, table-onward, table-sealed}
 use Rattle.qfs_laws_slots.specs.Slots.{rows-found}
 use Rattle.qfs_base.specs.EachLaws.{each_append, each_weaker}
 use Rattle.qfs_laws_tables.specs.EachRow.{each_place, each_push, found_has}
 use Rattle.qfs_laws_tables.specs.InOrder.{place_rises}
 use Rattle.qfs_laws_tables.specs.SomeRow.{any_each, none-there}
-use Rattle.qfs_laws_tree.specs.Files.{closed-after, closed-root, emptied-root, not-closed, path-of, source-path, unclosed-rows, without_file-back}
-use Rattle.qfs_laws_tree.specs.History.{IsUnclosedFile, history-aborted, history-closed, history-directory, history-file, history-moved, history-removed, history-taken}
+use Rattle.qfs_laws_tree.specs.Files.{closed-after, closed-root, emptied-root, not-closed, path-of}
+use Rattle.qfs_laws_tree.specs.Files.{source-path, unclosed-rows, without_file-back}
+use Rattle.qfs_laws_tree.specs.History.{IsUnclosedFile, history-aborted, history-closed}
+use Rattle.qfs_laws_tree.specs.History.{history-directory, history-file, history-moved}
+use Rattle.qfs_laws_tree.specs.History.{history-removed, history-taken}
 use Rattle.qfs_laws_tree.specs.Move.{move-back, move-onward, move-tree}
-use Rattle.qfs_laws_tree.specs.Stands.{added-back, added-onward, closing-back, closing-onward, directory-off, emptied-onward, file-off, removed-gone, removed-onward, taken-back, without_file-gone, without_file-onward}
+use Rattle.qfs_laws_tree.specs.Stands.{added-back, added-onward, closing-back, closing-onward}
+use Rattle.qfs_laws_tree.specs.Stands.{directory-off, emptied-onward, file-off, removed-gone}
+use Rattle.qfs_laws_tree.specs.Stands.{removed-onward, taken-back, without_file-gone}
+use Rattle.qfs_laws_tree.specs.Stands.{without_file-onward}
 use Rattle.qfs_laws_tree.specs.Tree.{HasTree, RowIs}
-use Rattle.qfs_laws_tree.specs.TreeChanges.{stands-below, tree-added, tree-closed, tree-emptied, tree-removed, tree-without_file}
+use Rattle.qfs_laws_tree.specs.TreeChanges.{stands-below, tree-added, tree-closed, tree-emptied}
+use Rattle.qfs_laws_tree.specs.TreeChanges.{tree-removed, tree-without_file}
 use Rattle.qfs_laws_tree.specs.TreeFacts.{add-free, look-closed, none-at, rmdir-empty}
 
 -- the parts that are about the image alone, but for the counters
@@ -81,7 +107,7 @@ pub record Keeps (past : Past) (m : MetaImage) : Type 0 where
 
 -- ---- files that are closed or given up
 
-unclosed-of : (m : MetaImage) (file actor command : ℕ) → MayClose m file actor command → Fits m
+pub unclosed-of : (m : MetaImage) (file actor command : ℕ) → MayClose m file actor command → Fits m
     → IsUnclosedFile file m.tree × Each
     (λ (row : TreeRow). row.file ≡ file → (row.actor ≡ actor) × (row.command ≡ command)) m.tree
     × IsActor actor × (command ≤ LAST_U16)
@@ -110,7 +136,7 @@ unclosed-of m file actor command may f =
     numbered : may.row.file ≡ file → 0 < file → may.row.file ≢ 0
     numbered own some z = omega arith
 
-aborted-of : (m : MetaImage) (file : ℕ) → MayAbort m file → Fits m → IsUnclosedFile file m.tree
+pub aborted-of : (m : MetaImage) (file : ℕ) → MayAbort m file → Fits m → IsUnclosedFile file m.tree
 aborted-of m file may f =
     one (find (λ (row : TreeRow). is_unclosed_row row && (has_file file row)) m.tree) refl
   where
@@ -142,7 +168,7 @@ rows-slots m n a b c d e h = record {
 }
 
 current-small : (m : MetaImage) (block : BlockId) (slot : ℕ) → Fits m → (o : Option Copy)
-    → (slot_at m.slots block slot).current ≡ o → IsSome_ o → slot < 9
+    → (slot_at m.slots block slot).current ≡ o → HasOne o → slot < 9
 unfolding never_granted
 current-small m block slot f None is some = absurd some
 current-small m block slot f (Some copy) is some =
@@ -150,7 +176,7 @@ current-small m block slot f (Some copy) is some =
     copy f.table is
 
 pending-small : (m : MetaImage) (block : BlockId) (slot : ℕ) → Fits m → (o : Option Copy)
-    → granted_copy (slot_at m.slots block slot).grant ≡ o → IsSome_ o → slot < 9
+    → granted_copy (slot_at m.slots block slot).grant ≡ o → HasOne o → slot < 9
 unfolding never_granted granted_copy
 pending-small m block slot f None is some = absurd some
 pending-small m block slot f (Some copy) is some =
@@ -338,7 +364,8 @@ granted-fits block slot server actor lease m may f =
 
 pub kept-fits : (past : Past) (m : MetaImage) (change : Change) → MayMake past m change → Fits m
     → Fits (apply m change)
-unfolding apply write_entry add_file with_slots finish_lease bring_up add_dropped directory_row file_row
+unfolding apply write_entry add_file with_slots finish_lease bring_up add_dropped directory_row
+    file_row
 kept-fits past m (AddDirectory path) may f =
     let none = none-at m.tree path (add-free (standing m.tree) path may.free).1 in
     fits-tree m _ refl (omega arith)
@@ -564,7 +591,7 @@ after-some m file is other f stands =
     (stands-below m.next_file other (close_file file m.tree)
     (tree-closed m.next_file file m.tree is.some f.tree) stands).1
 
-tree-back : (past : Past) (m : MetaImage) (change : Change) → MayMake past m change → Fits m
+pub tree-back : (past : Past) (m : MetaImage) (change : Change) → MayMake past m change → Fits m
     → TreeBack m change
 unfolding apply write_entry add_file with_slots finish_lease bring_up directory_row file_row
 tree-back past m (AddDirectory path) may f =

@@ -1,5 +1,5 @@
 -- Each version of a slot is granted once, and each copy that is known was granted: what losses of
--- copies keep of this.
+-- copies keep of this. For the law `stays_sound`.
 use Rattle.qfs_base.specs.Table.{Each}
 use Rattle.qfs_base.specs.declared.chunk.BlockId.{BlockId}
 use Rattle.qfs_base.specs.declared.chunk.Copy.{Copy}
@@ -10,15 +10,18 @@ use Rattle.qfs_base.specs.declared.image.SlotRow.{SlotRow}
 use Rattle.qfs_base.specs.declared.reply.Condemned.{Condemned}
 use Rattle.qfs_model_meta.specs.Condemned.{condemn_any}
 use Rattle.qfs_model_meta.specs.Past.{ListedCopy, Past, SlotCopy, same_version}
-use Rattle.qfs_model_meta.specs.Slots.{change_slot, change_state, granted_copy, is_slot, never_granted, same_block, slot_at}
+use Rattle.qfs_model_meta.specs.Slots.{change_slot, change_state, granted_copy, is_slot}
+use Rattle.qfs_model_meta.specs.Slots.{never_granted, same_block, slot_at}
 use Rattle.qfs_model_meta.specs.Sound.{IsBehind}
 use Rattle.qfs_model_meta.specs.TreeRows.{file_stands}
-use Rattle.std.proofs.Common.{List, Option, ap, arith, false, find, length, refl, subst, sym, true, ℕ, ◌+◌, ◌<◌, ◌∙◌, ◌≡◌, ◌≤◌}
+use Rattle.std.proofs.Common.{List, Option, ap, arith, false, find, length, refl, subst, sym, true}
+use Rattle.std.proofs.Common.{ℕ, ◌+◌, ◌<◌, ◌∙◌, ◌≡◌, ◌≤◌}
 use Rattle.std.proofs.lemmas.Bool.Decides.{nat_tests}
 use Rattle.std.specs.List.{IsDistinct}
 use Rattle.std.specs.Option.{option_to_list}
 use Rattle.std.specs.Prelude.{IsTrue, is_some}
-use Rattle.qfs_laws_slots.specs.Condemning.{condemn_any-frame, condemned-count, condemned-each, condemned_count, count_in, same_slot}
+use Rattle.qfs_laws_slots.specs.Condemning.{condemn_any-frame, condemned-count, condemned-each}
+use Rattle.qfs_laws_slots.specs.Condemning.{condemned_count, count_in, same_slot}
 use Rattle.qfs_laws_slots.specs.Granted.{Granted}
 use Rattle.qfs_laws_slots.specs.Losses.{Loses, current_in, loses-current, loses-pending, pending_in}
 use Rattle.qfs_laws_slots.specs.Slots.{has-changed, same_block-self, slot-cases}

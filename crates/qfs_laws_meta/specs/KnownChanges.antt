@@ -1,8 +1,14 @@
--- Each version of a slot is granted once: every change keeps it.
+-- Each version of a slot is granted once: every change keeps it. For the law `stays_sound`.
 use Rattle.qfs_base.specs.Sizes.{LAST_U32}
 use Rattle.qfs_base.specs.Table.{Each}
 use Rattle.qfs_base.specs.declared.change.Change.{Change}
-use Rattle.qfs_base.specs.declared.change.Change.TheVariants.{AbortFile, AddDirectory, AddFile, CloseFile, CondemnStray, ConfirmSlot, EmptySlot, EndLease, FailGrant, GiveLease, GiveUp, GrantSlot, MarkOrdered, MovePath, RemoveFile, ServerUp, TakeCondemned, TakeDirectory}
+use Rattle.qfs_base.specs.declared.change.Change.TheVariants.{AbortFile, AddDirectory, AddFile}
+use Rattle.qfs_base.specs.declared.change.Change.TheVariants.{CloseFile, CondemnStray, ConfirmSlot}
+use Rattle.qfs_base.specs.declared.change.Change.TheVariants.{EmptySlot, EndLease, FailGrant}
+use Rattle.qfs_base.specs.declared.change.Change.TheVariants.{GiveLease, GiveUp, GrantSlot}
+use Rattle.qfs_base.specs.declared.change.Change.TheVariants.{MarkOrdered, MovePath, RemoveFile}
+use Rattle.qfs_base.specs.declared.change.Change.TheVariants.{ServerUp, TakeCondemned}
+use Rattle.qfs_base.specs.declared.change.Change.TheVariants.{TakeDirectory}
 use Rattle.qfs_base.specs.declared.chunk.BlockId.{BlockId}
 use Rattle.qfs_base.specs.declared.chunk.ChunkKey.{ChunkKey}
 use Rattle.qfs_base.specs.declared.chunk.Copy.{Copy}
@@ -12,25 +18,42 @@ use Rattle.qfs_base.specs.declared.image.MetaImage.{MetaImage}
 use Rattle.qfs_base.specs.declared.image.SlotRecord.{SlotRecord}
 use Rattle.qfs_base.specs.declared.image.SlotRow.{SlotRow}
 use Rattle.qfs_base.specs.declared.reply.Condemned.{Condemned}
-use Rattle.qfs_model_meta.specs.Apply.{add_file, apply, bring_up, change_record, condemn_stray, condemn_unknown, confirm_slot, empty_slot, fail_grant, finish_lease, give_up, grant_slot, is_known_copy, is_that_copy, with_slots, write_entry}
+use Rattle.qfs_model_meta.specs.Apply.{add_file, apply, bring_up, change_record, condemn_stray}
+use Rattle.qfs_model_meta.specs.Apply.{condemn_unknown, confirm_slot, empty_slot, fail_grant}
+use Rattle.qfs_model_meta.specs.Apply.{finish_lease, give_up, grant_slot, is_known_copy}
+use Rattle.qfs_model_meta.specs.Apply.{is_that_copy, with_slots, write_entry}
 use Rattle.qfs_model_meta.specs.Condemned.{condemn_any, condemned_row, is_copy_of, unblock}
-use Rattle.qfs_model_meta.specs.Past.{ListedCopy, Past, SlotCopy, same_version, was_granted, with_copy}
+use Rattle.qfs_model_meta.specs.Past.{ListedCopy, Past, SlotCopy, same_version, was_granted}
+use Rattle.qfs_model_meta.specs.Past.{with_copy}
 use Rattle.qfs_model_meta.specs.Servers.{server_at}
-use Rattle.qfs_model_meta.specs.Slots.{change_slot, change_state, confirmed_slot, emptied_slot, failed_slot, forget_file, granted_copy, granted_slot, is_of_file, is_slot, never_granted, same_copy, seal_file, sealed_slot, slot_at, slot_cmp, ungranted_slot, with_slot}
+use Rattle.qfs_model_meta.specs.Slots.{change_slot, change_state, confirmed_slot, emptied_slot}
+use Rattle.qfs_model_meta.specs.Slots.{failed_slot, forget_file, granted_copy, granted_slot}
+use Rattle.qfs_model_meta.specs.Slots.{is_of_file, is_slot, never_granted, same_copy, seal_file}
+use Rattle.qfs_model_meta.specs.Slots.{sealed_slot, slot_at, slot_cmp, ungranted_slot, with_slot}
 use Rattle.qfs_model_meta.specs.Sound.{IsBehind, is_condemned_of}
 use Rattle.qfs_model_meta.specs.TreeRows.{file_stands}
-use Rattle.std.proofs.Common.{Bool, List, None, Option, Some, [], ap, arith, false, find, length, length-append, nat_eq, not, refl, subst, sym, true, ℕ, ◌&&◌, ◌++◌, ◌+◌, ◌<◌, ◌==◌, ◌∙◌, ◌∷◌, ◌≡◌, ◌≤◌}
+use Rattle.std.proofs.Common.{Bool, List, None, Option, Some, [], ap, arith, false, find, length}
+use Rattle.std.proofs.Common.{length-append, nat_eq, not, refl, subst, sym, true, ℕ, ◌&&◌, ◌++◌}
+use Rattle.std.proofs.Common.{◌+◌, ◌<◌, ◌==◌, ◌∙◌, ◌∷◌, ◌≡◌, ◌≤◌}
 use Rattle.std.proofs.lemmas.Bool.{and_parts, eqb-true, or_parts, true≢false}
 use Rattle.std.proofs.lemmas.Bool.Decides.{nat_tests}
 use Rattle.std.specs.List.{IsDistinct, list_any}
 use Rattle.std.specs.Option.{option_to_list}
 use Rattle.std.specs.Prelude.{IsTrue, is_some}
-use Rattle.qfs_laws_meta.specs.Known.{Counted, Knows, Once, RowGranted, held, knows-condemned, knows-lost}
+use Rattle.qfs_laws_meta.specs.Known.{Counted, Knows, Once, RowGranted, held, knows-condemned}
+use Rattle.qfs_laws_meta.specs.Known.{knows-lost}
 use Rattle.qfs_laws_slots.specs.Changes.{MayCondemn, MayGrant, MayMake, told}
-use Rattle.qfs_laws_slots.specs.Condemning.{condemn-cases, condemn_any-frame, condemned-count, condemned-each, condemned_count, count_in, marked-count, marked-each, risen-count, risen-each, same_slot, swept-count, swept-each, unblocked-count, unblocked-each, version_of, weight_of, with_condemned}
+use Rattle.qfs_laws_slots.specs.Condemning.{condemn-cases, condemn_any-frame, condemned-count}
+use Rattle.qfs_laws_slots.specs.Condemning.{condemned-each, condemned_count, count_in, marked-count}
+use Rattle.qfs_laws_slots.specs.Condemning.{marked-each, risen-count, risen-each, same_slot}
+use Rattle.qfs_laws_slots.specs.Condemning.{swept-count, swept-each, unblocked-count}
+use Rattle.qfs_laws_slots.specs.Condemning.{unblocked-each, version_of, weight_of, with_condemned}
 use Rattle.qfs_laws_slots.specs.Granted.{Granted, granted-has, granted-more, granted-new, one_copy}
-use Rattle.qfs_laws_slots.specs.Losses.{Loses, confirmed-loses, current_in, emptied-loses, failed-loses, pending_in, ungranted-loses}
-use Rattle.qfs_laws_slots.specs.Slots.{forgotten-cases, has-changed, has-forgotten, has-placed, is_slot-self, placed-cases, same_block-is, same_copy-self, sealed-cases, slot_has}
+use Rattle.qfs_laws_slots.specs.Losses.{Loses, confirmed-loses, current_in, emptied-loses}
+use Rattle.qfs_laws_slots.specs.Losses.{failed-loses, pending_in, ungranted-loses}
+use Rattle.qfs_laws_slots.specs.Slots.{forgotten-cases, has-changed, has-forgotten, has-placed}
+use Rattle.qfs_laws_slots.specs.Slots.{is_slot-self, placed-cases, same_block-is, same_copy-self}
+use Rattle.qfs_laws_slots.specs.Slots.{sealed-cases, slot_has}
 use Rattle.qfs_laws_tables.specs.Distinct.{distinct-push, one_if}
 use Rattle.qfs_base.specs.EachLaws.{each_filter, each_weaker}
 use Rattle.qfs_laws_tables.specs.EachRow.{each_both, each_change, each_place, each_push}
@@ -131,7 +154,8 @@ older-rows v block slot rows older =
         → weight_of v block slot row ≡ 0
     one row h =
         (elim (is_condemned_of block slot row) as
-        (λ b. is_condemned_of block slot row ≡ b → weigh_if b (version_of v row.condemned.copy) ≡ 0) [
+        (λ b. is_condemned_of block slot row ≡ b
+        → weigh_if b (version_of v row.condemned.copy) ≡ 0) [
           | true ↦ λ is. let l = h is in let e : nat_eq row.condemned.copy.version v ≡ false = grind
               (arith, nat_tests) in ap one_if e
           | false ↦ λ _. refl
@@ -196,7 +220,8 @@ still : (block : BlockId) (slot server actor lease : ℕ) (m : MetaImage)
     → (slot_at m.slots block slot).next < LAST_U32 → (x : SlotCopy) → IsBehind m x
     → IsBehind (record m {
       slots = with_slot block slot
-          (granted_slot server (server_at m.servers server).life actor lease (slot_at m.slots block slot))
+          (granted_slot server (server_at m.servers server).life actor lease
+          (slot_at m.slots block slot))
           m.slots;
     }) x
 unfolding granted_slot
@@ -471,7 +496,8 @@ unknown-count past block slot copy xs once was granted differ =
     (each_weaker (λ c. Granted past block slot c × (same_copy c copy ≡ false))
     (λ c. version_of copy.version c ≡ 0)
     (λ c h.
-    (elim (nat_eq c.version copy.version) as (λ b. nat_eq c.version copy.version ≡ b → one_if b ≡ 0) [
+    (elim (nat_eq c.version copy.version) as
+    (λ b. nat_eq c.version copy.version ≡ b → one_if b ≡ 0) [
       | true ↦ λ is. let same : c ≡ copy = one_copy block slot c copy past.granted once
           (eqb-true _ _ is) h.0 was in absurd
           (true≢false (sym (ap (λ k. same_copy k copy) same ∙ same_copy-self copy) ∙ h.1))

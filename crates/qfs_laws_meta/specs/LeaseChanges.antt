@@ -1,4 +1,4 @@
--- Each lease keeps what it lists: every change keeps it.
+-- Each lease keeps what it lists: every change keeps it. For the law `stays_sound`.
 use Rattle.qfs_base.specs.Table.{Each, without}
 use Rattle.qfs_base.specs.declared.chunk.BlockId.{BlockId}
 use Rattle.qfs_base.specs.declared.chunk.ChunkKey.{ChunkKey}
@@ -9,27 +9,40 @@ use Rattle.qfs_base.specs.declared.image.Lease.{Lease}
 use Rattle.qfs_base.specs.declared.image.MetaImage.{MetaImage}
 use Rattle.qfs_base.specs.declared.image.ServerView.{ServerView}
 use Rattle.qfs_base.specs.declared.image.SlotRecord.{SlotRecord}
-use Rattle.qfs_model_meta.specs.Apply.{bring_up, change_record, condemn_stray, condemn_unknown, confirm_slot, empty_slot, fail_grant, finish_lease, give_up, grant_slot, with_slots}
-use Rattle.qfs_model_meta.specs.Condemned.{condemn_any, condemned_row, forget_if_risen, is_copy_of, is_numbered, is_on_server, mark_ordered, sweep, unblock, unblock_all}
+use Rattle.qfs_model_meta.specs.Apply.{bring_up, change_record, condemn_stray, condemn_unknown}
+use Rattle.qfs_model_meta.specs.Apply.{confirm_slot, empty_slot, fail_grant, finish_lease, give_up}
+use Rattle.qfs_model_meta.specs.Apply.{grant_slot, with_slots}
+use Rattle.qfs_model_meta.specs.Condemned.{condemn_any, condemned_row, forget_if_risen, is_copy_of}
+use Rattle.qfs_model_meta.specs.Condemned.{is_numbered, is_on_server, mark_ordered, sweep, unblock}
+use Rattle.qfs_model_meta.specs.Condemned.{unblock_all}
 use Rattle.qfs_model_meta.specs.Grammar.{IsServer}
 use Rattle.qfs_model_meta.specs.Leases.{end_lease, give_lease, is_lease, is_live_lease, leases_on}
 use Rattle.qfs_model_meta.specs.Past.{GivenLease, ListedCopy, Past}
 use Rattle.qfs_model_meta.specs.Servers.{change_server, is_live, server_at, server_up}
-use Rattle.qfs_model_meta.specs.Slots.{change_slot, confirmed_slot, emptied_slot, failed_slot, forget_file, granted_copy, granted_slot, never_granted, same_copy, seal_file, slot_at, ungranted_slot}
-use Rattle.qfs_model_meta.specs.Sound.{KeepsListed, is_blocked_copy, is_lease_of, same_lease, same_lease_number}
-use Rattle.std.proofs.Common.{Bool, List, None, Option, Some, [], ap, arith, cond, false, filter, inl, inr, length, map, nat_eq, nat_lt, not, refl, subst, sym, true, ℕ, ⊎_elim, ◌&&◌, ◌+◌, ◌<◌, ◌==◌, ◌||◌, ◌∙◌, ◌∷◌, ◌≡◌, ◌≤◌, ◌⊎◌}
-use Rattle.std.proofs.lemmas.Bool.{and_from, and_parts, eq-eqb, eqb-true, ne_eqb, not-true, true≢false}
+use Rattle.qfs_model_meta.specs.Slots.{change_slot, confirmed_slot, emptied_slot, failed_slot}
+use Rattle.qfs_model_meta.specs.Slots.{forget_file, granted_copy, granted_slot, never_granted}
+use Rattle.qfs_model_meta.specs.Slots.{same_copy, seal_file, slot_at, ungranted_slot}
+use Rattle.qfs_model_meta.specs.Sound.{KeepsListed, is_blocked_copy, is_lease_of, same_lease}
+use Rattle.qfs_model_meta.specs.Sound.{same_lease_number}
+use Rattle.std.proofs.Common.{Bool, List, None, Option, Some, [], ap, arith, cond, false, filter}
+use Rattle.std.proofs.Common.{inl, inr, length, map, nat_eq, nat_lt, not, refl, subst, sym, true, ℕ}
+use Rattle.std.proofs.Common.{⊎_elim, ◌&&◌, ◌+◌, ◌<◌, ◌==◌, ◌||◌, ◌∙◌, ◌∷◌, ◌≡◌, ◌≤◌, ◌⊎◌}
+use Rattle.std.proofs.lemmas.Bool.{and_from, and_parts, eq-eqb, eqb-true, ne_eqb, not-true}
+use Rattle.std.proofs.lemmas.Bool.{true≢false}
 use Rattle.std.proofs.lemmas.Bool.Decides.{nat_tests}
 use Rattle.std.specs.List.{IsDistinct, list_any}
 use Rattle.std.specs.Prelude.{IsTrue}
 use Rattle.qfs_laws_slots.specs.Condemning.{condemn-cases, condemn_any-cases, condemn_any-frame}
 use Rattle.qfs_laws_slots.specs.RowKeys.{is_lease-is, own-lease, own-number}
 use Rattle.qfs_laws_slots.specs.Servers.{server-cases}
-use Rattle.qfs_laws_slots.specs.Slots.{forgotten-cases, placed-cases, same_block-self, same_copy-is, same_copy-self, sealed-cases, slot-cases}
+use Rattle.qfs_laws_slots.specs.Slots.{forgotten-cases, placed-cases, same_block-self, same_copy-is}
+use Rattle.qfs_laws_slots.specs.Slots.{same_copy-self, sealed-cases, slot-cases}
 use Rattle.qfs_laws_tables.specs.Distinct.{distinct-both}
 use Rattle.qfs_base.specs.EachLaws.{each_weaker}
 use Rattle.qfs_laws_tables.specs.EachRow.{each_passes}
-use Rattle.qfs_laws_tables.specs.SomeRow.{any_append, any_change_given, any_each, any_filter, any_last, any_map, any_of_append, any_of_filter}
+use Rattle.qfs_laws_tables.specs.SomeRow.{any_append, any_change_given, any_each, any_filter}
+use Rattle.qfs_laws_tables.specs.SomeRow.{any_last, any_map, any_of_filter}
+use Rattle.qfs_laws_slots.specs.Lists.{live-before}
 
 -- ---- a live lease is on the file of what it lists
 
@@ -309,22 +322,11 @@ pub keeps-given : (actor file until : ℕ) (m : MetaImage) (l : ListedCopy) → 
       leases = give_lease m.next_lease actor file until m.leases;
       next_lease = m.next_lease + 1;
     }) l
-unfolding give_lease is_live_lease
+unfolding is_live_lease
 keeps-given actor file until m l older keeps live =
     let lives = and_parts _ _ live in
-    let new : Lease = record { lease = m.next_lease; actor = actor; file = file; until = until } in
-    let apart : is_lease l.lease new ≡ false = is_lease-is l.lease new ∙ later m.next_lease l.lease
-    older in
-    let before : (list_any (is_lease l.lease) m.leases || (is_lease l.lease new || false)) ≡ true =
-    sym (any_of_append (is_lease l.lease) m.leases (new ∷ [])) ∙ lives.0 in
-    keeps (and_from _ _ (drop_last _ _ apart before) lives.1)
-  where
-    later : (a b : ℕ) → b < a → (a == b) ≡ false
-    later a b l = grind (arith, nat_tests)
-
-    drop_last : (a b : Bool) → b ≡ false → (a || (b || false)) ≡ true → a ≡ true
-    drop_last true b e h = refl
-    drop_last false b e h = absurd (true≢false (sym h ∙ (λ i. e i || false)))
+    keeps (and_from _ _ (live-before actor file until m.next_lease l.lease m.leases older lives.0)
+    lives.1)
 
 pub keeps-granted : (block : BlockId) (slot server actor lease : ℕ) (m : MetaImage) (l : ListedCopy)
     → KeepsListed m l → KeepsListed (grant_slot block slot server actor lease m) l

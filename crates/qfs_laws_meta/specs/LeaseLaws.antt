@@ -1,21 +1,33 @@
--- Leases hold: every change keeps it.
+-- Leases hold: every change keeps it. For the law `stays_sound`.
 use Rattle.qfs_base.specs.Table.{Each}
 use Rattle.qfs_base.specs.declared.change.Change.{Change}
-use Rattle.qfs_base.specs.declared.change.Change.TheVariants.{AbortFile, AddDirectory, CloseFile, CondemnStray, ConfirmSlot, EmptySlot, EndLease, FailGrant, GiveLease, GiveUp, GrantSlot, MarkOrdered, RemoveFile, ServerDown, ServerLeaves, ServerSleeps, ServerUp, TakeCondemned}
+use Rattle.qfs_base.specs.declared.change.Change.TheVariants.{AbortFile, AddDirectory, CloseFile}
+use Rattle.qfs_base.specs.declared.change.Change.TheVariants.{CondemnStray, ConfirmSlot, EmptySlot}
+use Rattle.qfs_base.specs.declared.change.Change.TheVariants.{EndLease, FailGrant, GiveLease}
+use Rattle.qfs_base.specs.declared.change.Change.TheVariants.{GiveUp, GrantSlot, MarkOrdered}
+use Rattle.qfs_base.specs.declared.change.Change.TheVariants.{RemoveFile, ServerDown, ServerLeaves}
+use Rattle.qfs_base.specs.declared.change.Change.TheVariants.{ServerSleeps, ServerUp, TakeCondemned}
 use Rattle.qfs_base.specs.declared.chunk.BlockId.{BlockId}
 use Rattle.qfs_base.specs.declared.image.Lease.{Lease}
 use Rattle.qfs_base.specs.declared.image.MetaImage.{MetaImage}
-use Rattle.qfs_model_meta.specs.Apply.{add_file, apply, bring_up, condemn_stray, finish_lease, grant_slot, with_slots, write_entry}
+use Rattle.qfs_model_meta.specs.Apply.{add_file, apply, bring_up, condemn_stray, finish_lease}
+use Rattle.qfs_model_meta.specs.Apply.{grant_slot, with_slots, write_entry}
 use Rattle.qfs_model_meta.specs.Leases.{end_lease, give_lease, is_lease}
 use Rattle.qfs_model_meta.specs.Past.{GivenLease, ListedCopy, Past, SlotCopy, with_copy}
 use Rattle.qfs_model_meta.specs.Servers.{server_asleep, server_at, server_down, server_leaving}
-use Rattle.qfs_model_meta.specs.Sound.{KeepsListed, LeasesHold, LivesRise, is_lease_of, same_lease, same_lease_number}
-use Rattle.std.proofs.Common.{[], ap, arith, false, not, refl, subst, sym, true, ℕ, ◌+◌, ◌<◌, ◌==◌, ◌∷◌, ◌≡◌, ◌≤◌}
+use Rattle.qfs_model_meta.specs.Sound.{KeepsListed, LeasesHold, LivesRise, is_lease_of, same_lease}
+use Rattle.qfs_model_meta.specs.Sound.{same_lease_number}
+use Rattle.std.proofs.Common.{[], ap, arith, false, not, refl, subst, sym, true, ℕ, ◌+◌, ◌<◌, ◌==◌}
+use Rattle.std.proofs.Common.{◌∷◌, ◌≡◌, ◌≤◌}
 use Rattle.std.proofs.lemmas.Bool.{and_parts, eqb-true}
 use Rattle.std.proofs.lemmas.Bool.Decides.{nat_tests}
 use Rattle.std.specs.List.{list_any}
 use Rattle.std.specs.Prelude.{IsTrue, ⊤}
-use Rattle.qfs_laws_meta.specs.LeaseChanges.{OnFile, keeps-confirmed, keeps-emptied, keeps-failed, keeps-forgotten, keeps-given, keeps-given_up, keeps-granted, keeps-marked, keeps-risen, keeps-sealed, keeps-server, keeps-stray, keeps-swept, keeps-unblocked, on_file, was_given}
+use Rattle.qfs_laws_meta.specs.LeaseChanges.{OnFile, keeps-confirmed, keeps-emptied, keeps-failed}
+use Rattle.qfs_laws_meta.specs.LeaseChanges.{keeps-forgotten, keeps-given, keeps-given_up}
+use Rattle.qfs_laws_meta.specs.LeaseChanges.{keeps-granted, keeps-marked, keeps-risen, keeps-sealed}
+use Rattle.qfs_laws_meta.specs.LeaseChanges.{keeps-server, keeps-stray, keeps-swept}
+use Rattle.qfs_laws_meta.specs.LeaseChanges.{keeps-unblocked, on_file, was_given}
 use Rattle.qfs_laws_slots.specs.Changes.{MayMake, told}
 use Rattle.qfs_laws_slots.specs.Granted.{Granted, granted-has}
 use Rattle.qfs_laws_slots.specs.Losing.{losing-frame, stray-frame}
@@ -83,10 +95,10 @@ unfolding grant_slot with_slots
 granted-leases block slot server actor lease m past given = given
 
 -- a lease is given
-leases-given : (past : Past) (actor file until : ℕ) (m : MetaImage) → LeasesHold past m
+given-holds : (past : Past) (actor file until : ℕ) (m : MetaImage) → LeasesHold past m
     → LeasesHold (told (GiveLease actor file until) m past) (apply m (GiveLease actor file until))
 unfolding apply give_lease same_lease_number
-leases-given past actor file until m h =
+given-holds past actor file until m h =
     let new : GivenLease = record { lease = m.next_lease; actor = actor; file = file } in
     let live : Lease = record { lease = m.next_lease; actor = actor; file = file; until = until } in
     record {
@@ -127,9 +139,10 @@ pub kept-leases : (past : Past) (m : MetaImage) (change : Change) → MayMake pa
     → Each (λ (l : ListedCopy). Granted past l.of_slot.block l.of_slot.slot l.of_slot.copy)
     past.listed
     → LeasesHold past m → LeasesHold (told change m past) (apply m change)
-unfolding apply write_entry add_file with_slots with_copy server_down server_leaving server_asleep finish_lease bring_up
+unfolding apply write_entry add_file with_slots with_copy server_down server_leaving server_asleep
+    finish_lease bring_up
 kept-leases past m (GiveLease actor file until) may bare lives known h =
-    leases-given past actor file until m h
+    given-holds past actor file until m h
 kept-leases past m (EndLease lease) may bare lives known h =
     leases-stay past m (finish_lease lease m) refl (ended lease m past h.given)
     (λ l on. keeps-unblocked lease m l) h

@@ -1,35 +1,37 @@
--- Copies that were ordered deleted stay let go: every change keeps it.
+-- Copies that were ordered deleted stay let go: every change keeps it. For the law `stays_sound`.
 use Rattle.qfs_base.specs.Table.{Each}
 use Rattle.qfs_base.specs.declared.change.Change.{Change}
-use Rattle.qfs_base.specs.declared.change.Change.TheVariants.{AbortFile, AddDirectory, CloseFile, CondemnStray, ConfirmSlot, EmptySlot, EndLease, FailGrant, GiveLease, GiveUp, GrantSlot, RemoveFile}
+use Rattle.qfs_base.specs.declared.change.Change.TheVariants.{AbortFile, AddDirectory, CloseFile}
+use Rattle.qfs_base.specs.declared.change.Change.TheVariants.{CondemnStray, ConfirmSlot, EmptySlot}
+use Rattle.qfs_base.specs.declared.change.Change.TheVariants.{EndLease, FailGrant, GiveLease}
+use Rattle.qfs_base.specs.declared.change.Change.TheVariants.{GiveUp, GrantSlot, RemoveFile}
 use Rattle.qfs_base.specs.declared.chunk.BlockId.{BlockId}
 use Rattle.qfs_base.specs.declared.chunk.Copy.{Copy}
-use Rattle.qfs_base.specs.declared.image.Lease.{Lease}
 use Rattle.qfs_base.specs.declared.image.MetaImage.{MetaImage}
 use Rattle.qfs_base.specs.declared.image.SlotRecord.{SlotRecord}
 use Rattle.qfs_base.specs.declared.image.SlotRow.{SlotRow}
 use Rattle.qfs_base.specs.declared.reply.Condemned.{Condemned}
-use Rattle.qfs_model_meta.specs.Apply.{add_file, apply, bring_up, finish_lease, grant_slot, with_slots, write_entry}
+use Rattle.qfs_model_meta.specs.Apply.{add_file, apply, bring_up, finish_lease, grant_slot}
+use Rattle.qfs_model_meta.specs.Apply.{with_slots, write_entry}
 use Rattle.qfs_model_meta.specs.Leases.{end_lease, give_lease, is_lease, is_live_lease}
 use Rattle.qfs_model_meta.specs.Past.{ListedCopy, Past, is_copy, with_copy}
-use Rattle.qfs_model_meta.specs.Slots.{change_slot, forget_file, granted_copy, granted_slot, never_granted, seal_file, sealed_slot, slot_at}
+use Rattle.qfs_model_meta.specs.Slots.{change_slot, forget_file, granted_copy, granted_slot}
+use Rattle.qfs_model_meta.specs.Slots.{never_granted, seal_file, sealed_slot, slot_at}
 use Rattle.qfs_model_meta.specs.Sound.{IsBehind, IsLetGo}
 use Rattle.qfs_model_meta.specs.TreeRows.{file_stands}
-use Rattle.std.proofs.Common.{Bool, List, None, Option, Some, [], ap, arith, false, not, refl, subst, sym, true, ℕ, ◌<◌, ◌==◌, ◌||◌, ◌∙◌, ◌∷◌, ◌≡◌, ◌≢◌}
-use Rattle.std.proofs.lemmas.Bool.{true≢false}
-use Rattle.std.proofs.lemmas.Bool.Decides.{nat_tests}
-use Rattle.std.specs.List.{list_any}
+use Rattle.std.proofs.Common.{List, None, Option, Some, ap, arith, not, refl, subst, sym, true, ℕ}
+use Rattle.std.proofs.Common.{◌<◌, ◌≡◌, ◌≢◌}
 use Rattle.std.specs.Option.{option_to_list}
 use Rattle.std.specs.Prelude.{IsTrue}
 use Rattle.qfs_laws_slots.specs.Changes.{MayGrant, MayMake, told}
 use Rattle.qfs_laws_slots.specs.Granted.{Granted, granted-has}
 use Rattle.qfs_laws_slots.specs.Losing.{IsLosing, losing-frame, losing-slots, stray-frame}
 use Rattle.qfs_laws_slots.specs.Losses.{Loses, current_in, loses-current, loses-pending, pending_in}
-use Rattle.qfs_laws_slots.specs.RowKeys.{is_lease-is}
 use Rattle.qfs_laws_slots.specs.Slots.{forgotten-cases, placed-cases, sealed-cases}
 use Rattle.qfs_base.specs.EachLaws.{each_weaker}
 use Rattle.qfs_laws_tables.specs.EachRow.{each_both}
-use Rattle.qfs_laws_tables.specs.SomeRow.{any_of_append, any_of_filter}
+use Rattle.qfs_laws_tables.specs.SomeRow.{any_of_filter}
+use Rattle.qfs_laws_slots.specs.Lists.{live-before}
 
 -- no copy of a slot is this one
 abbrev pub Differs : Copy → BlockId → ℕ → Copy → Type 0
@@ -148,20 +150,9 @@ ended-lease number own m live =
 given-lease : (actor file until own : ℕ) (m : MetaImage) → own < m.next_lease
     → IsTrue (is_live_lease own (give_lease m.next_lease actor file until m.leases))
     → IsTrue (is_live_lease own m.leases)
-unfolding give_lease is_live_lease
+unfolding is_live_lease
 given-lease actor file until own m older live =
-    let new : Lease = record { lease = m.next_lease; actor = actor; file = file; until = until } in
-    let apart : is_lease own new ≡ false = is_lease-is own new ∙ later m.next_lease own older in
-    let before : (list_any (is_lease own) m.leases || (is_lease own new || false)) ≡ true = sym
-    (any_of_append (is_lease own) m.leases (new ∷ [])) ∙ live in
-    drop_last _ _ apart before
-  where
-    later : (a b : ℕ) → b < a → (a == b) ≡ false
-    later a b l = grind (arith, nat_tests)
-
-    drop_last : (a b : Bool) → b ≡ false → (a || (b || false)) ≡ true → a ≡ true
-    drop_last true b e h = refl
-    drop_last false b e h = absurd (true≢false (sym h ∙ (λ i. e i || false)))
+    live-before actor file until m.next_lease own m.leases older live
 
 -- the slots that a change leaves keep a copy let go
 frees : (past : Past) (m n : MetaImage) → n.leases ≡ m.leases

@@ -26,3 +26,14 @@ pub mod GrantsAnswer
 pub mod StepsAnswer
 pub mod FileRequests
 pub mod DroppedActors
+pub mod StillStands
+pub mod SlotsBehind
+pub mod RequestChanges
+pub mod GrantsFit
+pub mod HoldingKept
+pub mod HoldingStays
+pub mod OwnHolding
+pub mod HeldAnswers
+pub mod SlotsTold
+pub mod StepParts
+pub mod ListedTold

@@ -1,16 +1,19 @@
--- The copies that a lease lists are current.
+-- The copies that a lease lists are current. For the law `stays_sound`.
 use Rattle.qfs_base.specs.Table.{Each}
 use Rattle.qfs_base.specs.declared.chunk.BlockId.{BlockId}
 use Rattle.qfs_base.specs.declared.chunk.Copy.{Copy}
 use Rattle.qfs_base.specs.declared.image.MetaImage.{MetaImage}
 use Rattle.qfs_base.specs.declared.image.ServerView.{ServerView}
 use Rattle.qfs_base.specs.declared.image.SlotRow.{SlotRow}
-use Rattle.qfs_model_meta.specs.Lists.{NineCopies, listed_blocks, listed_nine, listed_others, no_sources, one_source}
-use Rattle.qfs_model_meta.specs.Past.{GivenLease, ListedCopy, Past, listed_copy_of, listed_in, listed_in_file}
+use Rattle.qfs_model_meta.specs.Lists.{NineCopies, listed_blocks, listed_nine, listed_others}
+use Rattle.qfs_model_meta.specs.Lists.{no_sources, one_source}
+use Rattle.qfs_model_meta.specs.Past.{GivenLease, ListedCopy, Past, listed_copy_of, listed_in}
+use Rattle.qfs_model_meta.specs.Past.{listed_in_file}
 use Rattle.qfs_model_meta.specs.Servers.{is_listed, listed_copy}
 use Rattle.qfs_model_meta.specs.Slots.{slot_at}
 use Rattle.qfs_model_meta.specs.Sound.{is_lease_of}
-use Rattle.std.proofs.Common.{Bool, List, None, Option, Some, [], arith, false, map, refl, subst, suc, sym, true, zero, ℕ, ◌&&◌, ◌+◌, ◌==◌, ◌∙◌, ◌∷◌, ◌≡◌}
+use Rattle.std.proofs.Common.{Bool, List, None, Option, Some, [], arith, false, map, refl, subst}
+use Rattle.std.proofs.Common.{suc, sym, true, zero, ℕ, ◌&&◌, ◌+◌, ◌==◌, ◌∙◌, ◌∷◌, ◌≡◌}
 use Rattle.std.specs.Bool.{then_some}
 use Rattle.std.specs.List.{cons_option, enumerate_from, list_any, range_with_len}
 use Rattle.std.specs.Prelude.{IsTrue, filter_map, flat_map, replicate, slice_set}

@@ -1,12 +1,18 @@
--- The life of a grant is at most the known life of its server: every change keeps it.
+-- The life of a grant is at most the known life of its server: every change keeps it. For the law
+-- `stays_sound`.
 use Rattle.qfs_base.specs.declared.change.Change.{Change}
-use Rattle.qfs_base.specs.declared.change.Change.TheVariants.{AddDirectory, CondemnStray, ConfirmSlot, EmptySlot, FailGrant, GiveUp, GrantSlot, ServerDown, ServerLeaves, ServerSleeps, ServerUp}
+use Rattle.qfs_base.specs.declared.change.Change.TheVariants.{AddDirectory, CondemnStray}
+use Rattle.qfs_base.specs.declared.change.Change.TheVariants.{ConfirmSlot, EmptySlot, FailGrant}
+use Rattle.qfs_base.specs.declared.change.Change.TheVariants.{GiveUp, GrantSlot, ServerDown}
+use Rattle.qfs_base.specs.declared.change.Change.TheVariants.{ServerLeaves, ServerSleeps, ServerUp}
 use Rattle.qfs_base.specs.declared.image.MetaImage.{MetaImage}
 use Rattle.qfs_base.specs.declared.image.ServerView.{ServerView}
-use Rattle.qfs_model_meta.specs.Apply.{add_file, apply, bring_up, finish_lease, grant_slot, with_slots, write_entry}
+use Rattle.qfs_model_meta.specs.Apply.{add_file, apply, bring_up, finish_lease, grant_slot}
+use Rattle.qfs_model_meta.specs.Apply.{with_slots, write_entry}
 use Rattle.qfs_model_meta.specs.Grammar.{IsServer}
 use Rattle.qfs_model_meta.specs.Past.{Past, SlotCopy, with_copy}
-use Rattle.qfs_model_meta.specs.Servers.{change_server, server_asleep, server_at, server_down, server_leaving, server_up}
+use Rattle.qfs_model_meta.specs.Servers.{change_server, server_asleep, server_at, server_down}
+use Rattle.qfs_model_meta.specs.Servers.{server_leaving, server_up}
 use Rattle.qfs_model_meta.specs.Sound.{LivesRise}
 use Rattle.std.proofs.Common.{ap, arith, length, subst, ℕ, ◌≡◌, ◌≤◌}
 use Rattle.qfs_laws_slots.specs.Changes.{MayMake, told}
@@ -42,7 +48,8 @@ same-lives past m n same h =
 
 pub kept-lives : (past : Past) (m : MetaImage) (change : Change) → MayMake past m change
     → LivesRise past m → LivesRise (told change m past) (apply m change)
-unfolding apply write_entry add_file with_slots finish_lease bring_up grant_slot with_copy server_up server_down server_leaving server_asleep
+unfolding apply write_entry add_file with_slots finish_lease bring_up grant_slot with_copy server_up
+    server_down server_leaving server_asleep
 kept-lives past m (GrantSlot block slot server actor lease) may h =
     each_push _ past.granted _ h (omega arith)
 kept-lives past m (ServerUp server life) may h =

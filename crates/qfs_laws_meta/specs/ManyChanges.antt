@@ -1,10 +1,12 @@
 -- The requests that make many changes: a file is removed or given up, an actor is dropped, a
--- deletion is ordered.
+-- deletion is ordered. For the law `stays_sound`.
 use Rattle.qfs_base.specs.NameTree.{PathNames, look_refusal}
 use Rattle.qfs_base.specs.Sizes.{LAST_U32}
 use Rattle.qfs_base.specs.Table.{Each, IsRising}
 use Rattle.qfs_base.specs.declared.change.Change.{Change}
-use Rattle.qfs_base.specs.declared.change.Change.TheVariants.{AbortFile, DropActor, EmptySlot, EndLease, GiveUp, MarkOrdered, RemoveFile}
+use Rattle.qfs_base.specs.declared.change.Change.TheVariants.{AbortFile, DropActor, EmptySlot}
+use Rattle.qfs_base.specs.declared.change.Change.TheVariants.{EndLease, GiveUp, MarkOrdered}
+use Rattle.qfs_base.specs.declared.change.Change.TheVariants.{RemoveFile}
 use Rattle.qfs_base.specs.declared.chunk.BlockId.{BlockId}
 use Rattle.qfs_base.specs.declared.chunk.Copy.{Copy}
 use Rattle.qfs_base.specs.declared.image.CondemnedRow.{CondemnedRow}
@@ -13,24 +15,34 @@ use Rattle.qfs_base.specs.declared.image.SlotRecord.{SlotRecord}
 use Rattle.qfs_base.specs.declared.image.SlotRow.{SlotRow}
 use Rattle.qfs_base.specs.declared.image.TreeRow.{TreeRow}
 use Rattle.qfs_base.specs.declared.reply.Condemned.{Condemned}
-use Rattle.qfs_model_meta.specs.Apply.{apply, apply_all, change_record, empty_slot, finish_lease, with_slots, write_entry}
-use Rattle.qfs_model_meta.specs.Condemned.{condemn_any, condemned_cmp, is_copy_of, is_unblocked, may_go, next_to_go}
+use Rattle.qfs_model_meta.specs.Apply.{apply, apply_all, change_record, empty_slot, finish_lease}
+use Rattle.qfs_model_meta.specs.Apply.{with_slots, write_entry}
+use Rattle.qfs_model_meta.specs.Condemned.{condemn_any, condemned_cmp, is_copy_of, is_unblocked}
+use Rattle.qfs_model_meta.specs.Condemned.{may_go, next_to_go}
 use Rattle.qfs_model_meta.specs.Counters.{counters_fit}
 use Rattle.qfs_model_meta.specs.Decision.{Makes}
-use Rattle.qfs_model_meta.specs.DropRequest.{changes_unless_dropped, decide_drop, drop_changes, is_recovery_of, recovery_changes, unclosed_changes}
+use Rattle.qfs_model_meta.specs.DropRequest.{changes_unless_dropped, decide_drop, drop_changes}
+use Rattle.qfs_model_meta.specs.DropRequest.{is_recovery_of, recovery_changes, unclosed_changes}
 use Rattle.qfs_model_meta.specs.Dropped.{dropped_at}
 use Rattle.qfs_model_meta.specs.Grammar.{IsActor}
 use Rattle.qfs_model_meta.specs.Leases.{leases_of}
 use Rattle.qfs_model_meta.specs.Past.{ListedCopy, Past, remember}
 use Rattle.qfs_model_meta.specs.PutRequests.{abort_changes, abort_unclosed, decide_abort}
 use Rattle.qfs_model_meta.specs.Servers.{is_listed, is_live, server_at}
-use Rattle.qfs_model_meta.specs.Slots.{change_slot, emptied_slot, granted_copy, is_of_file, is_slot, never_granted, same_block, slot_at, slots_of}
+use Rattle.qfs_model_meta.specs.Slots.{change_slot, emptied_slot, granted_copy, is_of_file, is_slot}
+use Rattle.qfs_model_meta.specs.Slots.{never_granted, same_block, slot_at, slots_of}
 use Rattle.qfs_model_meta.specs.Sound.{IsLetGo, KeepsListed, is_blocked_copy, is_condemned_of}
 use Rattle.qfs_model_meta.specs.SweepRequests.{decide_order, order_row}
 use Rattle.qfs_model_meta.specs.TreeRequests.{decide_remove, remove_changes}
-use Rattle.qfs_model_meta.specs.TreeRows.{has_file, is_unclosed_of, is_unclosed_row, rising_files, row_at, standing, take_file, unclosed_file, unclosed_files}
-use Rattle.std.proofs.Common.{Bool, List, None, Option, Some, [], ap, arith, cond, false, filter, find, inl, inr, length, map, nat_eq, nat_lt, not, refl, subst, suc, sym, true, zero, ℕ, ⊎_elim, ◌&&◌, ◌++◌, ◌+◌, ◌<◌, ◌==◌, ◌||◌, ◌∙◌, ◌∷◌, ◌≡◌, ◌≢◌, ◌≤◌, ◌⊎◌}
-use Rattle.std.proofs.lemmas.Bool.{and_from, and_parts, eq-eqb, eqb-true, ne_eqb, true≢false}
+use Rattle.qfs_model_meta.specs.TreeRows.{has_file, is_unclosed_of, is_unclosed_row, rising_files}
+use Rattle.qfs_model_meta.specs.TreeRows.{row_at, standing, take_file, unclosed_file}
+use Rattle.qfs_model_meta.specs.TreeRows.{unclosed_files}
+use Rattle.std.proofs.Common.{Bool, List, None, Option, Some, [], ap, arith, cond, false, filter}
+use Rattle.std.proofs.Common.{find, inl, inr, length, map, nat_eq, nat_lt, not, refl, subst, suc}
+use Rattle.std.proofs.Common.{sym, true, zero, ℕ, ⊎_elim, ◌&&◌, ◌++◌, ◌+◌, ◌<◌, ◌==◌, ◌||◌, ◌∙◌}
+use Rattle.std.proofs.Common.{◌∷◌, ◌≡◌, ◌≢◌, ◌≤◌, ◌⊎◌}
+use Rattle.std.proofs.lemmas.Bool.{and_from, and_parts, eq-eqb, eqb-true, ne_eqb, or_right}
+use Rattle.std.proofs.lemmas.Bool.{true≢false}
 use Rattle.std.specs.Cmp.{ranked}
 use Rattle.std.specs.List.{list_any}
 use Rattle.std.specs.Ordering.{nat_cmp}
@@ -40,14 +52,17 @@ use Rattle.qfs_base.specs.declared.reply.MetaReply.TheVariants as Told
 use Rattle.qfs_laws_meta.specs.Kept.{Fits, Keeps}
 use Rattle.qfs_laws_meta.specs.Known.{Knows, RowGranted, held}
 use Rattle.qfs_laws_meta.specs.Replies.{ordered-kept}
-use Rattle.qfs_laws_meta.specs.Requests.{AllMake, Fine, apply-append, file-fine, make-append, need-fine, told-append, told_all}
-use Rattle.qfs_laws_meta.specs.SimpleRequests.{IsFree, each-map, free-make, free-told, next-fits, unclosed-fits}
+use Rattle.qfs_laws_meta.specs.Requests.{AllMake, Fine, apply-append, file-fine, make-append}
+use Rattle.qfs_laws_meta.specs.Requests.{need-fine, told-append, told_all}
+use Rattle.qfs_laws_meta.specs.SimpleRequests.{IsAlwaysAllowed, each-map, free-make, free-told}
+use Rattle.qfs_laws_meta.specs.SimpleRequests.{next-fits, unclosed-fits}
 use Rattle.qfs_laws_slots.specs.Changes.{MayAbort}
 use Rattle.qfs_laws_slots.specs.Condemning.{condemned_count, count_in, version_of, weight_of}
 use Rattle.qfs_laws_slots.specs.Granted.{is_copy-is}
 use Rattle.qfs_laws_slots.specs.Losing.{IsLosing, condemned-slots, losing-frame}
 use Rattle.qfs_laws_slots.specs.RowKeys.{has_file-is, own-file}
-use Rattle.qfs_laws_slots.specs.Slots.{Bare, is_slot-is, is_slot-self, of_file-is, same_block-is, same_block-self, same_copy-is, slot-cases, slot_at-behind}
+use Rattle.qfs_laws_slots.specs.Slots.{Bare, is_slot-is, is_slot-self, of_file-is, same_block-is}
+use Rattle.qfs_laws_slots.specs.Slots.{same_block-self, same_copy-is, slot-cases, slot_at-behind}
 use Rattle.qfs_laws_tables.specs.Distinct.{one_if}
 use Rattle.qfs_base.specs.EachLaws.{each_append, each_filter, each_weaker}
 use Rattle.qfs_laws_tables.specs.EachRow.{each_of_all, each_both, each_map, each_passes, found_has}
@@ -164,7 +179,7 @@ remove-fine actor past m path =
     let n : MetaImage = apply_all empties m in
     let trees : n.tree ≡ m.tree = keep-tree empties m
     (each-tree empty_row (λ row. losing-tree (empty_row row) tt) rows) in
-    let free : Each IsFree empties = each-map empty_row (λ row p k. (tt, refl)) rows in (
+    let free : Each IsAlwaysAllowed empties = each-map empty_row (λ row p k. (tt, refl)) rows in (
       make-append past m empties (RemoveFile path file ∷ []) (free-make empties free past m) (
         record {
           closed = ap (λ t. look_refusal (standing t) path) trees ∙ closed;
@@ -212,7 +227,12 @@ abort-may : (actor file : ℕ) (m : MetaImage) (row : TreeRow) → Fits m → Is
 unfolding unclosed_file
 abort-may actor file m row f counters found =
     let u = unclosed-fits actor file m row f (next-fits m counters) found in
-    record { unclosed = found-any _ (λ (row : TreeRow). is_unclosed_row row && (has_file file row)) m.tree row found (and_from (is_unclosed_row row) (has_file file row) u.1 (has_file-is file row ∙ eq-eqb _ _ u.2)); number = u.0 }
+    record {
+      unclosed = found-any _ (λ (row : TreeRow). is_unclosed_row row && (has_file file row))
+          m.tree row found (and_from (is_unclosed_row row) (has_file file row) u.1
+          (has_file-is file row ∙ eq-eqb _ _ u.2));
+      number = u.0;
+    }
 
 pub abort-fine : (actor : ℕ) (past : Past) (m : MetaImage) (file : ℕ) → Fits m
     → IsTrue (counters_fit m) → Fine actor past m (decide_abort actor file m)
@@ -262,10 +282,6 @@ files-unclosed actor tree next fits h =
     small zero e below = omega arith
     small (suc n) e below = let l = below (omega arith) in omega arith
 
-    or_true : (a b : Bool) → b ≡ true → (a || b) ≡ true
-    or_true true b e = refl
-    or_true false b e = e
-
     own : (rows : List TreeRow)
         → Each (λ (row : TreeRow). is_unclosed_row row ≡ true → list_any
         (λ (other : TreeRow). is_unclosed_row other && has_file row.file other) rows ≡ true) rows
@@ -278,7 +294,7 @@ files-unclosed actor tree next fits h =
           (λ (other : TreeRow). is_unclosed_row other && has_file later.file other) rows ≡ true)
           (λ (later : TreeRow). is_unclosed_row later ≡ true → list_any
           (λ (other : TreeRow). is_unclosed_row other && has_file later.file other)
-          (row ∷ rows) ≡ true) (λ later any is. or_true
+          (row ∷ rows) ≡ true) (λ later any is. or_right
           (is_unclosed_row row && has_file later.file row) _ (any is)) rows (own rows),
     )
 
@@ -333,10 +349,11 @@ aborts-told past slots (file ∷ files) m =
     ∙ aborts-told past slots files (apply_all (map give_row rows ++ AbortFile file ∷ []) m)
 
 drop-free : (actor : ℕ) (m : MetaImage)
-    → Each IsFree (map EndLease (leases_of actor m.leases) ++ recovery_changes actor m.tree m.slots)
+    → Each IsAlwaysAllowed
+    (map EndLease (leases_of actor m.leases) ++ recovery_changes actor m.tree m.slots)
 unfolding recovery_changes
 drop-free actor m =
-    each_append IsFree (map EndLease (leases_of actor m.leases)) _
+    each_append IsAlwaysAllowed (map EndLease (leases_of actor m.leases)) _
     (each-map EndLease (λ lease p n. (tt, refl)) (leases_of actor m.leases))
     (each-map give_row (λ row p n. (tt, refl)) (filter (is_recovery_of actor m.tree) m.slots))
 

@@ -1,4 +1,4 @@
--- The requests that grant what they find, and the grant of a put.
+-- The requests that grant what they find, and the grant of a put. For the law `stays_sound`.
 use Rattle.qfs_base.specs.Mask.{all_slots}
 use Rattle.qfs_base.specs.Shape.{Shape}
 use Rattle.qfs_base.specs.Sizes.{LAST_U32}
@@ -15,29 +15,43 @@ use Rattle.qfs_base.specs.declared.image.SlotRow.{SlotRow}
 use Rattle.qfs_base.specs.declared.image.TreeRow.{TreeRow}
 use Rattle.qfs_base.specs.declared.reply.MetaReply.{MetaReply}
 use Rattle.qfs_base.specs.declared.request.SlotId.{SlotId}
-use Rattle.qfs_model_meta.specs.Apply.{apply, apply_all, change_record, fail_grant, give_up, with_slots}
+use Rattle.qfs_model_meta.specs.Apply.{apply, apply_all, change_record, fail_grant, give_up}
+use Rattle.qfs_model_meta.specs.Apply.{with_slots}
 use Rattle.qfs_model_meta.specs.Condemned.{condemn}
 use Rattle.qfs_model_meta.specs.Counters.{counters_fit}
-use Rattle.qfs_laws_slots.specs.FreedLaws.{decides_as_freed}
+use Rattle.qfs_model_meta.specs.FreedLaws.{decides_as_freed}
 use Rattle.qfs_model_meta.specs.Grammar.{IsActor, IsServer}
 use Rattle.qfs_model_meta.specs.GrantedAgain.{freed}
-use Rattle.qfs_model_meta.specs.LeasedGrants.{closed_len, comes_after, grant_recovery, has_block, is_at_rest, is_live_on, move_source}
+use Rattle.qfs_model_meta.specs.LeasedGrants.{closed_len, comes_after, grant_recovery, has_block}
+use Rattle.qfs_model_meta.specs.LeasedGrants.{is_at_rest, is_live_on, move_source}
 use Rattle.qfs_model_meta.specs.Lists.{block_count, new_grant}
-use Rattle.qfs_model_meta.specs.MoveRequests.{decide_balance, decide_evacuate, evacuate_slot, even_out, fits_move, give_to_lightest, is_barred, is_to_move, move_slot, next_to_move}
-use Rattle.qfs_model_meta.specs.Past.{Past, granted_slot_copy, is_of_put, remember, with_copy, with_grant}
-use Rattle.qfs_model_meta.specs.Placing.{Numbered, barred_for_put, census, choose, is_open, lighter, load_of, open_servers}
-use Rattle.qfs_model_meta.specs.PutRequests.{block_slots, chosen_for_put, decide_grant, failed_grant, file_slots, grant_for_put, grant_in, lacks_grant, put_granted, taken_refusal}
+use Rattle.qfs_model_meta.specs.MoveRequests.{decide_balance, decide_evacuate, evacuate_slot}
+use Rattle.qfs_model_meta.specs.MoveRequests.{even_out, fits_move, give_to_lightest, is_barred}
+use Rattle.qfs_model_meta.specs.MoveRequests.{is_to_move, move_slot, next_to_move}
+use Rattle.qfs_model_meta.specs.Past.{Past, granted_slot_copy, is_of_put, remember, with_copy}
+use Rattle.qfs_model_meta.specs.Past.{with_grant}
+use Rattle.qfs_model_meta.specs.Placing.{Numbered, barred_for_put, census, choose, is_open, lighter}
+use Rattle.qfs_model_meta.specs.Placing.{load_of, open_servers}
+use Rattle.qfs_model_meta.specs.PutRequests.{block_slots, chosen_for_put, decide_grant}
+use Rattle.qfs_model_meta.specs.PutRequests.{failed_grant, file_slots, grant_for_put, grant_in}
+use Rattle.qfs_model_meta.specs.PutRequests.{lacks_grant, put_granted, taken_refusal}
 use Rattle.qfs_model_meta.specs.Range.{is_slot_number}
-use Rattle.qfs_model_meta.specs.RepairRequests.{closed_slots, decide_heal, heal_slot, is_to_heal, next_to_heal, slots_of_closed}
-use Rattle.qfs_model_meta.specs.Slots.{change_slot, failed_slot, never_granted, slot_at, slot_id, ungranted_slot}
-use Rattle.qfs_model_meta.specs.TreeRows.{closed_file, has_file, is_closed_row, is_unclosed_row, rising_files, unclosed_file}
-use Rattle.std.proofs.Common.{Bool, List, None, Option, Some, [], ap, arith, false, filter, find, length, map, refl, subst, suc, sym, true, zero, ℕ, ◌&&◌, ◌+◌, ◌<◌, ◌||◌, ◌∙◌, ◌∷◌, ◌≡◌, ◌≤◌}
-use Rattle.std.proofs.lemmas.Bool.{and_from, and_parts, eq-eqb, ltb-true, not-true, true≢false}
+use Rattle.qfs_model_meta.specs.RepairRequests.{closed_slots, decide_heal, heal_slot, is_to_heal}
+use Rattle.qfs_model_meta.specs.RepairRequests.{next_to_heal, slots_of_closed}
+use Rattle.qfs_model_meta.specs.Slots.{change_slot, failed_slot, never_granted, slot_at, slot_id}
+use Rattle.qfs_model_meta.specs.Slots.{ungranted_slot}
+use Rattle.qfs_model_meta.specs.TreeRows.{closed_file, has_file, is_closed_row, is_unclosed_row}
+use Rattle.qfs_model_meta.specs.TreeRows.{rising_files, unclosed_file}
+use Rattle.std.proofs.Common.{Bool, List, None, Option, Some, [], ap, arith, false, filter, find}
+use Rattle.std.proofs.Common.{length, map, refl, subst, suc, sym, true, zero, ℕ, ◌&&◌, ◌+◌, ◌<◌}
+use Rattle.std.proofs.Common.{◌||◌, ◌∙◌, ◌∷◌, ◌≡◌, ◌≤◌}
+use Rattle.std.proofs.lemmas.Bool.{and_from, and_parts, eq-eqb, ltb-true, not-true, or_right}
+use Rattle.std.proofs.lemmas.Bool.{true≢false}
 use Rattle.std.specs.List.{enumerate_from, list_any, range_with_len, reduce}
 use Rattle.std.specs.Prelude.{IsTrue, fold, is_none, is_some}
 use Rattle.qfs_base.specs.declared.reply.MetaReply.TheVariants as Told
 use Rattle.qfs_laws_meta.specs.GrantRequests.{chosen-fine, leased-fine}
-use Rattle.qfs_laws_meta.specs.Granting.{IsNumbered, census-length, chosen-is, enumerated, lightest, put-apart, version-kept, version-left}
+use Rattle.qfs_laws_meta.specs.Granting.{put-apart, version-kept, version-left}
 use Rattle.qfs_laws_meta.specs.Kept.{Fits, Keeps, kept}
 use Rattle.qfs_laws_meta.specs.Listing.{AreCurrent, none-current, one-current, others-current}
 use Rattle.qfs_laws_meta.specs.Requests.{Fine, Quiet, need-fine, refuse-fine, unless-fine}
@@ -48,22 +62,24 @@ use Rattle.qfs_laws_slots.specs.RowKeys.{has_file-is}
 use Rattle.qfs_laws_slots.specs.SlotTable.{RowFits}
 use Rattle.qfs_laws_slots.specs.Slots.{is_slot-self, rows-found, slot-cases}
 use Rattle.qfs_base.specs.EachLaws.{each_filter, each_weaker}
-use Rattle.qfs_laws_tables.specs.EachRow.{each_of_all, each_both, each_flat, each_map, each_passes, found_has, none-is}
+use Rattle.qfs_laws_tables.specs.EachRow.{each_of_all, each_both, each_flat, each_map, each_passes}
+use Rattle.qfs_laws_tables.specs.EachRow.{found_has, none-is}
 use Rattle.qfs_laws_tables.specs.InOrder.{numbers-each}
 use Rattle.qfs_laws_tables.specs.SomeRow.{found-any}
 use Rattle.qfs_laws_tree.specs.Files.{not-closed, unclosed-rows}
 use Rattle.qfs_laws_tree.specs.TreeChanges.{closed-any, closed_test, stands-any, stands_test}
+use Rattle.qfs_laws_slots.specs.Choice.{IsNumbered, census-length, chosen-is, enumerated, lightest}
 
 -- ---- lists of slots
 
-abbrev IsSlotOf : ℕ → SlotId → Type 0
+abbrev pub IsSlotOf : ℕ → SlotId → Type 0
 IsSlotOf file id = (id.block.file ≡ file) × (id.slot < 9)
 
 small-slots : (k n : ℕ) → k + n ≤ 9 → Each (λ slot. slot < 9) (range_with_len k n)
 small-slots k zero high = tt
 small-slots k (suc n) high = (omega arith, small-slots (k + 1) n (omega arith))
 
-file-slots : (file count : ℕ) → Each (IsSlotOf file) (file_slots file count)
+pub file-slots : (file count : ℕ) → Each (IsSlotOf file) (file_slots file count)
 unfolding file_slots block_slots
 file-slots file count =
     each_flat (λ _. Unit {0}) (IsSlotOf file)
@@ -74,7 +90,7 @@ file-slots file count =
     (range_with_len 0 count) (each_of_all _ (λ _. tt) (range_with_len 0 count))
 
 -- what is healed is a slot of a closed file
-abbrev IsOfClosed : List TreeRow → SlotId → Type 0
+abbrev pub IsOfClosed : List TreeRow → SlotId → Type 0
 IsOfClosed tree id = IsTrue (is_some (closed_file id.block.file tree)) × (id.slot < 9)
 
 own-closed : (rows : List TreeRow)
@@ -88,12 +104,8 @@ own-closed (row ∷ rows) = (
   each_weaker (λ (later : TreeRow). is_closed_row later ≡ true → list_any (closed_test later.file)
       rows ≡ true) (λ (later : TreeRow). is_closed_row later ≡ true → list_any
       (closed_test later.file) (row ∷ rows) ≡ true)
-      (λ later any is. or_true (closed_test later.file row) _ (any is)) rows (own-closed rows),
+      (λ later any is. or_right (closed_test later.file row) _ (any is)) rows (own-closed rows),
 )
-  where
-    or_true : (a b : Bool) → b ≡ true → (a || b) ≡ true
-    or_true true b e = refl
-    or_true false b e = e
 
 closed-files : (tree : List TreeRow)
     → Each (λ file. IsTrue (is_some (closed_file file tree)))
@@ -109,7 +121,7 @@ closed-files tree =
     (each_both (λ row. is_closed_row row ≡ true) _ (filter is_closed_row tree)
     (each_passes is_closed_row tree) (each_filter _ is_closed_row tree (own-closed tree)))) tt
 
-closed-slots : (layout : Shape) (tree : List TreeRow)
+pub closed-slots : (layout : Shape) (tree : List TreeRow)
     → Each (IsOfClosed tree) (closed_slots layout tree)
 unfolding closed_slots slots_of_closed
 closed-slots layout tree =
@@ -136,14 +148,15 @@ heal-fine layout term actor past m after f who left =
 
 -- ---- moves that are found
 
-source-current : (slots : List SlotRow) (row : SlotRow) (o : Option Copy)
+pub source-current : (slots : List SlotRow) (row : SlotRow) (o : Option Copy)
     → (slot_at slots row.block row.slot).current ≡ o
     → AreCurrent slots row.block (move_source row.slot o)
 unfolding move_source
 source-current slots row None is = none-current slots row.block
 source-current slots row (Some copy) is = one-current slots row.block row.slot copy is
 
-at-rest : (layout : Shape) (tree : List TreeRow) (row : SlotRow) → is_at_rest layout tree row ≡ true
+pub at-rest : (layout : Shape) (tree : List TreeRow) (row : SlotRow)
+    → is_at_rest layout tree row ≡ true
     → (row.state.grant ≡ None) × IsTrue (is_some (closed_file row.block.file tree))
 unfolding is_at_rest has_block
 at-rest layout tree row is =
@@ -155,7 +168,7 @@ at-rest layout tree row is =
     one (Some r) e = refl
 
 -- a row of the table that is found is what is known of its slot
-row-of : (m : MetaImage) (test : SlotRow → Bool) (row : SlotRow) → Fits m
+pub row-of : (m : MetaImage) (test : SlotRow → Bool) (row : SlotRow) → Fits m
     → find test m.slots ≡ Some row
     → (row.slot < 9) × (slot_at m.slots row.block row.slot ≡ row.state) × (test row ≡ true)
 row-of m test row f found =
@@ -233,15 +246,12 @@ taken-quiet actor past true (Some g) reply is = absurd (cc)
 taken-quiet actor past false (Some g) reply is =
     let e : Told.Taken g.copy.version ≡ reply = cc in subst (Quiet actor past) e refl
 
-unclosed-stands : (file : ℕ) (row : TreeRow) → is_unclosed_row row ≡ true → has_file file row ≡ true
+pub unclosed-stands : (file : ℕ) (row : TreeRow) → is_unclosed_row row ≡ true
+    → has_file file row ≡ true
     → stands_test file row ≡ true
 unclosed-stands file row is own =
     and_from (is_closed_row row || is_unclosed_row row) (has_file file row)
-    (right (is_closed_row row) (is_unclosed_row row) is) own
-  where
-    right : (a b : Bool) → b ≡ true → (a || b) ≡ true
-    right true b e = refl
-    right false b e = e
+    (or_right (is_closed_row row) (is_unclosed_row row) is) own
 
 of-file : (file : ℕ) (row : TreeRow) → row.file ≡ file → has_file file row ≡ true
 of-file file row e = has_file-is file row ∙ eq-eqb row.file file e
@@ -258,7 +268,7 @@ put-may actor n block slot server row f counters found small free left who chose
     let c = chosen-is n.servers n.slots
     (barred_for_put n.servers n.slots block (slot_at n.slots block slot).failed) server chosen
     in
-    let open' = not-closed block.file n.tree
+    let still_open = not-closed block.file n.tree
     (unclosed-rows n.next_file block.file _ n.tree row f.tree found u.2 u.1).0 in
     record {
       stands = subst IsTrue (sym (stands-any block.file n.tree))
@@ -267,7 +277,7 @@ put-may actor n block slot server row f counters found small free left who chose
       slot_number = small;
       server_number = c.0;
       free = free;
-      apart = put-apart n block (slot_at n.slots block slot).failed server f open' c.1;
+      apart = put-apart n block (slot_at n.slots block slot).failed server f still_open c.1;
       versions = left;
       is_actor = who;
       lease_given = f.first_lease;
@@ -333,12 +343,13 @@ granted-free : (layout : Shape) (actor : ℕ) (past : Past) (m n : MetaImage) (b
     (apply n (GrantSlot block slot server actor 0)) → Keeps
     (remember actor past (put_granted layout row.len block slot m server))
     (apply n (GrantSlot block slot server actor 0)))
-granted-free layout actor past m n block slot server row f counters found small free left who chosen same = (
-  put-may actor n block slot server row f counters found small free left who chosen,
-  λ k. subst (λ reply. Keeps (remember actor past reply)
-      (apply n (GrantSlot block slot server actor 0))) (sym same)
-      (put-ends layout actor past n row.len block slot server k),
-)
+granted-free layout actor past m n block slot server row f counters found small free left who chosen
+    same = (
+      put-may actor n block slot server row f counters found small free left who chosen,
+      λ k. subst (λ reply. Keeps (remember actor past reply)
+          (apply n (GrantSlot block slot server actor 0))) (sym same)
+          (put-ends layout actor past n row.len block slot server k),
+    )
 
 granted : (layout : Shape) (actor : ℕ) (past : Past) (m : MetaImage) (block : BlockId) (slot : ℕ)
     (again : Bool)
@@ -350,7 +361,8 @@ granted : (layout : Shape) (actor : ℕ) (past : Past) (m : MetaImage) (block : 
     server
     → Fine actor past m (grant_for_put layout actor row.len block slot m o server)
 unfolding grant_for_put failed_grant apply_all
-granted layout actor past m block slot again h counters who left small row found None is server chosen =
+granted layout actor past m block slot again h counters who left small row found None is server
+    chosen =
     let decides = decides_as_freed block slot m in
     let still : freed block slot m ≡ m = ap (λ o. apply_all (failed_grant block slot o) m) is in
     let r = granted-free layout actor past m m block slot server row h.fits (next-fits m counters)
@@ -359,7 +371,8 @@ granted layout actor past m block slot again h counters who left small row found
     (barred_for_put n.servers n.slots block (slot_at n.slots block slot).failed)) (sym still) ∙ sym
     decides.chosen ∙ chosen) refl in
     ((r.0, tt), r.1)
-granted layout actor past m block slot again h counters who left small row found (Some g) is server chosen =
+granted layout actor past m block slot again h counters who left small row found
+    (Some g) is server chosen =
     let decides = decides_as_freed block slot m in
     let n : MetaImage = apply m (FailGrant block slot) in
     let after : freed block slot m ≡ n = ap (λ o. apply_all (failed_grant block slot o) m) is in

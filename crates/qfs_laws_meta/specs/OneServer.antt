@@ -1,22 +1,33 @@
--- The live copies and grants of a block stand on different servers: every change keeps it.
+-- The live copies and grants of a block stand on different servers: every change keeps it. For the
+-- law `stays_sound`.
 use Rattle.qfs_base.specs.Key.{block_cmp}
 use Rattle.qfs_base.specs.KeyLaws.{block_cmp-Equal}
 use Rattle.qfs_base.specs.Table.{Each, IsRising}
 use Rattle.qfs_base.specs.declared.change.Change.{Change}
-use Rattle.qfs_base.specs.declared.change.Change.TheVariants.{AbortFile, AddDirectory, CloseFile, CondemnStray, ConfirmSlot, EmptySlot, FailGrant, GiveUp, GrantSlot, RemoveFile, ServerDown, ServerLeaves, ServerSleeps, ServerUp}
+use Rattle.qfs_base.specs.declared.change.Change.TheVariants.{AbortFile, AddDirectory, CloseFile}
+use Rattle.qfs_base.specs.declared.change.Change.TheVariants.{CondemnStray, ConfirmSlot, EmptySlot}
+use Rattle.qfs_base.specs.declared.change.Change.TheVariants.{FailGrant, GiveUp, GrantSlot}
+use Rattle.qfs_base.specs.declared.change.Change.TheVariants.{RemoveFile, ServerDown, ServerLeaves}
+use Rattle.qfs_base.specs.declared.change.Change.TheVariants.{ServerSleeps, ServerUp}
 use Rattle.qfs_base.specs.declared.chunk.BlockId.{BlockId}
 use Rattle.qfs_base.specs.declared.chunk.Copy.{Copy}
 use Rattle.qfs_base.specs.declared.image.MetaImage.{MetaImage}
 use Rattle.qfs_base.specs.declared.image.ServerView.{ServerView}
 use Rattle.qfs_base.specs.declared.image.SlotRecord.{SlotRecord}
 use Rattle.qfs_base.specs.declared.image.SlotRow.{SlotRow}
-use Rattle.qfs_model_meta.specs.Apply.{add_file, apply, bring_up, finish_lease, grant_slot, with_slots, write_entry}
+use Rattle.qfs_model_meta.specs.Apply.{add_file, apply, bring_up, finish_lease, grant_slot}
+use Rattle.qfs_model_meta.specs.Apply.{with_slots, write_entry}
 use Rattle.qfs_model_meta.specs.Grammar.{IsServer}
 use Rattle.qfs_model_meta.specs.Past.{Past}
-use Rattle.qfs_model_meta.specs.Servers.{change_server, is_live, server_asleep, server_at, server_down, server_leaving, server_up}
-use Rattle.qfs_model_meta.specs.Slots.{change_slot, change_state, copies_of_block, forget_file, granted_copy, granted_slot, is_of_block, is_of_file, is_slot, never_granted, seal_file, sealed_slot, slot_at, slot_cmp, with_slot}
+use Rattle.qfs_model_meta.specs.Servers.{change_server, is_live, server_asleep, server_at}
+use Rattle.qfs_model_meta.specs.Servers.{server_down, server_leaving, server_up}
+use Rattle.qfs_model_meta.specs.Slots.{change_slot, change_state, copies_of_block, forget_file}
+use Rattle.qfs_model_meta.specs.Slots.{granted_copy, granted_slot, is_of_block, is_of_file, is_slot}
+use Rattle.qfs_model_meta.specs.Slots.{never_granted, seal_file, sealed_slot, slot_at, slot_cmp}
+use Rattle.qfs_model_meta.specs.Slots.{with_slot}
 use Rattle.qfs_model_meta.specs.Sound.{OneServerEach, live_servers}
-use Rattle.std.proofs.Common.{Bool, List, [], ap, arith, false, filter, length, nat_eq, not, refl, subst, sym, true, ℕ, ◌++◌, ◌+◌, ◌==◌, ◌∙◌, ◌∷◌, ◌≡◌, ◌≤◌}
+use Rattle.std.proofs.Common.{Bool, List, [], ap, arith, false, filter, length, nat_eq, not, refl}
+use Rattle.std.proofs.Common.{subst, sym, true, ℕ, ◌++◌, ◌+◌, ◌==◌, ◌∙◌, ◌∷◌, ◌≡◌, ◌≤◌}
 use Rattle.std.proofs.lemmas.Bool.{eq-eqb, eqb-true}
 use Rattle.std.specs.Option.{option_to_list}
 use Rattle.std.specs.Ordering.{is_eq}
@@ -28,7 +39,9 @@ use Rattle.qfs_laws_slots.specs.Servers.{server-cases}
 use Rattle.qfs_laws_slots.specs.Slots.{total-placed}
 use Rattle.qfs_laws_tables.specs.Distinct.{copies, distinct-once, once-distinct, one_if}
 use Rattle.qfs_laws_tables.specs.Keys.{equal-is}
-use Rattle.qfs_laws_tables.specs.Sums.{changed-fewer, total, total-append, total-filter, total-filter-le, total-flat_map, total-le, total-map, weigh_if}
+use Rattle.qfs_laws_tables.specs.Sums.{changed-fewer, total, total-append, total-filter}
+use Rattle.qfs_laws_tables.specs.Sums.{total-filter-le, total-flat_map, total-le, total-map}
+use Rattle.qfs_laws_tables.specs.Sums.{weigh_if}
 
 -- how many live copies and grants of a block a row has on a server
 abbrev pub stands_on : List ServerView → ℕ → Copy → ℕ
@@ -236,7 +249,8 @@ pub kept-one : (past : Past) (m : MetaImage) (change : Change) → MayMake past 
     → IsRising slot_cmp m.slots
     → Each (λ (row : SlotRow). Each (KnownLife m.servers) (copies_of row.state)) m.slots
     → OneEach m.servers m.slots → OneEach (apply m change).servers (apply m change).slots
-unfolding apply write_entry add_file with_slots finish_lease bring_up server_down server_leaving server_asleep seal_file forget_file
+unfolding apply write_entry add_file with_slots finish_lease bring_up server_down server_leaving
+    server_asleep seal_file forget_file
 kept-one past m (GrantSlot block slot server actor lease) may rising known h =
     granted-one block slot server actor lease m
     (one-granted block slot server actor lease m rising may h)

@@ -1,4 +1,5 @@
--- What a reply adds to the past: copies that a lease lists, and a deletion that is ordered.
+-- What a reply adds to the past: copies that a lease lists, and a deletion that is ordered. For the
+-- law `stays_sound`.
 use Rattle.qfs_base.specs.Table.{Each}
 use Rattle.qfs_base.specs.declared.chunk.BlockId.{BlockId}
 use Rattle.qfs_base.specs.declared.chunk.Copy.{Copy}

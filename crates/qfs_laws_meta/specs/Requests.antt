@@ -1,4 +1,5 @@
--- A request makes changes that may be made, and its reply tells what they tell.
+-- A request makes changes that may be made, and its reply tells what they tell. For the law
+-- `stays_sound`.
 use Rattle.qfs_base.specs.declared.change.Change.{Change}
 use Rattle.qfs_base.specs.declared.history.Outcome.{Outcome}
 use Rattle.qfs_base.specs.declared.image.MetaImage.{MetaImage}
@@ -6,10 +7,13 @@ use Rattle.qfs_base.specs.declared.reply.MetaReply.{MetaReply}
 use Rattle.qfs_base.specs.declared.reply.TreeRefusal.{TreeRefusal}
 use Rattle.qfs_model_meta.specs.Apply.{apply, apply_all}
 use Rattle.qfs_model_meta.specs.Counters.{counters_fit}
-use Rattle.qfs_model_meta.specs.Decision.{Decision, Makes, Tells, UsesDisks, need, refuse, refuse_file, refuse_path, unless}
+use Rattle.qfs_model_meta.specs.Decision.{Decision, Makes, Tells, UsesDisks, need, refuse}
+use Rattle.qfs_model_meta.specs.Decision.{refuse_file, refuse_path, unless}
 use Rattle.qfs_model_meta.specs.Past.{Past, remember}
-use Rattle.qfs_model_meta.specs.Step.{Served, carry_out, end_step, fail_disks, next_turn, serve_unless_dropped, stays, take_step}
-use Rattle.std.proofs.Common.{Bool, List, None, Option, Some, [], cond, false, refl, subst, sym, true, ℕ, ◌++◌, ◌∷◌, ◌≡◌}
+use Rattle.qfs_model_meta.specs.Step.{Served, carry_out, end_step, fail_disks, next_turn}
+use Rattle.qfs_model_meta.specs.Step.{serve_unless_dropped, stays, take_step}
+use Rattle.std.proofs.Common.{Bool, List, None, Option, Some, [], cond, false, refl, subst, sym}
+use Rattle.std.proofs.Common.{true, ℕ, ◌++◌, ◌∷◌, ◌≡◌}
 use Rattle.std.specs.Prelude.{IsTrue, ⊤}
 use Rattle.qfs_base.specs.declared.history.Outcome.TheVariants as Ended
 use Rattle.qfs_base.specs.declared.reply.MetaReply.TheVariants as Told
@@ -40,6 +44,13 @@ pub make-append : (past : Past) (m : MetaImage) (xs ys : List Change) → AllMak
 unfolding apply_all
 make-append past m [] ys a b = b
 make-append past m (x ∷ xs) ys a b = (a.0, make-append (told x m past) (apply m x) xs ys a.1 b)
+
+pub make-split : (past : Past) (m : MetaImage) (xs ys : List Change) → AllMake past m (xs ++ ys)
+    → AllMake past m xs × AllMake (told_all xs m past) (apply_all xs m) ys
+unfolding apply_all
+make-split past m [] ys may = (tt, may)
+make-split past m (x ∷ xs) ys may =
+    let rest = make-split (told x m past) (apply m x) xs ys may.1 in ((may.0, rest.0), rest.1)
 
 pub apply-append : (m : MetaImage) (xs ys : List Change)
     → apply_all (xs ++ ys) m ≡ apply_all ys (apply_all xs m)
@@ -170,7 +181,8 @@ pub step-stays : (actor : ℕ) (past : Past) (m : MetaImage) (decision : Decisio
     (dropped : Option ℕ)
     → Fine actor past m decision → Keeps past m → IsTrue (counters_fit m)
     → Stays actor past (serve_unless_dropped m (end_step m decision outcome) dropped)
-unfolding serve_unless_dropped end_step carry_out fail_disks take_step remember counters_fit next_turn
+unfolding serve_unless_dropped end_step carry_out fail_disks take_step remember counters_fit
+    next_turn
 step-stays actor past m decision outcome (Some turn) fine h counters =
     quiet-stays actor past m (Told.Dropped turn) refl h counters
 step-stays actor past m decision Ended.NoMemory None fine h counters =

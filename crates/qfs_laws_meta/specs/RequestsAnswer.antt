@@ -1,11 +1,17 @@
 -- The requests that give up, take away or tell: what they are answered, and what their changes
 -- tell.
-use Rattle.std.proofs.Common.{◌≡◌, ℕ, ◌+◌, Bool, true, false, cond, List, [], ◌∷◌, ◌++◌, map, filter, length, Option, Some, None, refl, subst}
+use Rattle.std.proofs.Common.{◌≡◌, ℕ, ◌+◌, Bool, true, false, cond, List, [], ◌∷◌, ◌++◌, map}
+use Rattle.std.proofs.Common.{filter, length, Option, Some, None, refl, subst}
 use Rattle.std.specs.Prelude.{min, flat_map}
 use Rattle.qfs_base.specs.Sizes.{LAST_U64}
 use Rattle.qfs_base.specs.Table.{Each}
 use Rattle.qfs_base.specs.NameTree.{PathNames}
-use Rattle.qfs_base.specs.declared.change.Change.TheVariants.{AddDirectory, TakeDirectory, AddFile, CloseFile, MovePath, GiveUp, ConfirmSlot, EmptySlot, EndLease, MarkOrdered, TakeCondemned, CondemnStray, ServerUp, ServerDown, ServerLeaves, ClockTicks}
+use Rattle.qfs_base.specs.declared.change.Change.TheVariants.{AddDirectory, TakeDirectory, AddFile}
+use Rattle.qfs_base.specs.declared.change.Change.TheVariants.{CloseFile, MovePath, GiveUp}
+use Rattle.qfs_base.specs.declared.change.Change.TheVariants.{ConfirmSlot, EmptySlot, EndLease}
+use Rattle.qfs_base.specs.declared.change.Change.TheVariants.{MarkOrdered, TakeCondemned}
+use Rattle.qfs_base.specs.declared.change.Change.TheVariants.{CondemnStray, ServerUp, ServerDown}
+use Rattle.qfs_base.specs.declared.change.Change.TheVariants.{ServerLeaves, ClockTicks}
 use Rattle.qfs_base.specs.declared.chunk.BlockId.{BlockId}
 use Rattle.qfs_base.specs.declared.chunk.ChunkKey.{ChunkKey}
 use Rattle.qfs_base.specs.declared.image.MetaImage.{MetaImage}
@@ -17,22 +23,30 @@ use Rattle.qfs_base.specs.declared.request.MetaRequest.TheVariants as Ask
 use Rattle.qfs_base.specs.declared.request.SlotId.{SlotId}
 use Rattle.qfs_base.specs.declared.rules.Rules.{Rules}
 use Rattle.qfs_model_meta.specs.Apply.{apply, apply_all}
-use Rattle.qfs_model_meta.specs.DropRequest.{decide_drop, changes_unless_dropped, drop_changes, recovery_changes, unclosed_changes, is_recovery_of}
+use Rattle.qfs_model_meta.specs.DropRequest.{decide_drop, changes_unless_dropped, drop_changes}
+use Rattle.qfs_model_meta.specs.DropRequest.{recovery_changes, unclosed_changes, is_recovery_of}
 use Rattle.qfs_model_meta.specs.Dropped.{dropped_at}
 use Rattle.qfs_model_meta.specs.GetRequests.{decide_release}
 use Rattle.qfs_model_meta.specs.Leases.{holds_lease, is_live_lease, leases_of, leases_over}
 use Rattle.qfs_model_meta.specs.Lists.{block_count}
 use Rattle.qfs_model_meta.specs.Past.{Past}
-use Rattle.qfs_model_meta.specs.PutRequests.{decide_create, decide_close, close_complete, incomplete, first_ungranted, decide_abort, abort_unclosed, abort_changes}
-use Rattle.qfs_model_meta.specs.ServerRequests.{decide_hello, decide_bye, decide_leave, decide_hibernate, decide_tick, decide_left_on}
-use Rattle.qfs_model_meta.specs.SettleRequests.{decide_confirm, confirm_grant, end_own_lease, end_live_lease, decide_abandon, abandon_changes, give_up_own, is_own_grant}
+use Rattle.qfs_model_meta.specs.PutRequests.{decide_create, decide_close, close_complete}
+use Rattle.qfs_model_meta.specs.PutRequests.{incomplete, first_ungranted, decide_abort}
+use Rattle.qfs_model_meta.specs.PutRequests.{abort_unclosed, abort_changes}
+use Rattle.qfs_model_meta.specs.ServerRequests.{decide_hello, decide_bye, decide_leave}
+use Rattle.qfs_model_meta.specs.ServerRequests.{decide_hibernate, decide_tick, decide_left_on}
+use Rattle.qfs_model_meta.specs.SettleRequests.{decide_confirm, confirm_grant, end_own_lease}
+use Rattle.qfs_model_meta.specs.SettleRequests.{end_live_lease, decide_abandon, abandon_changes}
+use Rattle.qfs_model_meta.specs.SettleRequests.{give_up_own, is_own_grant}
 use Rattle.qfs_model_meta.specs.Slots.{slot_at, slots_of}
 use Rattle.qfs_model_meta.specs.SweepRequests.{decide_order, order_row, decide_swept}
-use Rattle.qfs_model_meta.specs.TreeRequests.{decide_mkdir, decide_rmdir, decide_remove, remove_changes, decide_rename, decide_list}
+use Rattle.qfs_model_meta.specs.TreeRequests.{decide_mkdir, decide_rmdir, decide_remove}
+use Rattle.qfs_model_meta.specs.TreeRequests.{remove_changes, decide_rename, decide_list}
 use Rattle.qfs_model_meta.specs.TreeRows.{file_stands, unclosed_file, unclosed_files}
 use Rattle.qfs_base.specs.EachLaws.{each_append}
 use Rattle.qfs_laws_meta.specs.ChangeTells.{change-tells}
-use Rattle.qfs_laws_meta.specs.Fair.{Fair, Goes, IsPlain, plain-one, plain-goes, plain-map, plain-flat, refuse-fair, unless-fair, need-fair, file-fair}
+use Rattle.qfs_laws_meta.specs.Fair.{Fair, Goes, IsPlain, plain-one, plain-goes, plain-map}
+use Rattle.qfs_laws_meta.specs.Fair.{plain-flat, refuse-fair, unless-fair, need-fair, file-fair}
 use Rattle.qfs_laws_meta.specs.MayTell.{TellsClosed}
 use Rattle.qfs_laws_meta.specs.Tells as Of
 
@@ -210,8 +224,8 @@ module _ (rules : Rules) (actor : ℕ) (past : Past) (m : MetaImage) where
       )
       one true is =
           unless-fair rules actor past m (Ask.Confirm block slot version lease) _ _ _
-          (λ off. (off, refl, refl)) (λ on.
-          (on, confirming block slot version lease (is_live_lease lease m.leases)))
+          (λ off. (is, off, refl, refl)) (λ on.
+          ((is, on), confirming block slot version lease (is_live_lease lease m.leases)))
 
   pub abandon-fair : (block : BlockId) (slot version lease : ℕ)
       → Fair rules actor past m (Ask.Abandon block slot version lease)

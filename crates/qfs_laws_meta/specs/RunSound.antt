@@ -1,4 +1,5 @@
--- A metaserver that starts with nothing is sound after any run of requests that may be asked.
+-- A metaserver that starts with nothing is sound after any run of requests that may be asked. The
+-- law `runs_stay_sound`.
 use Rattle.qfs_base.specs.Sizes.{LAST_U32}
 use Rattle.qfs_base.specs.declared.history.Outcome.{Outcome}
 use Rattle.qfs_base.specs.declared.image.MetaImage.{MetaImage}
@@ -8,10 +9,12 @@ use Rattle.qfs_base.specs.declared.request.MetaRequest.{MetaRequest}
 use Rattle.qfs_base.specs.declared.rules.Rules.{Rules}
 use Rattle.qfs_model_meta.specs.Asked.{MayAsk}
 use Rattle.qfs_model_meta.specs.Grammar.{IsActor}
-use Rattle.qfs_model_meta.specs.Past.{Past, SlotCopy, is_of_put, remember, with_copy, with_grant, with_lease}
+use Rattle.qfs_model_meta.specs.Past.{Past, SlotCopy, is_of_put, remember, with_copy, with_grant}
+use Rattle.qfs_model_meta.specs.Past.{with_lease}
 use Rattle.qfs_model_meta.specs.Sound.{IsSound}
 use Rattle.qfs_model_meta.specs.Step.{Served, meta_step}
-use Rattle.std.proofs.Common.{Bool, List, [], arith, false, length, length-append, true, ℕ, ◌+◌, ◌<◌, ◌∷◌, ◌≤◌}
+use Rattle.std.proofs.Common.{Bool, List, [], arith, false, length, length-append, true, ℕ, ◌+◌}
+use Rattle.std.proofs.Common.{◌<◌, ◌∷◌, ◌≤◌}
 use Rattle.std.specs.Prelude.{⊤}
 use Rattle.qfs_base.specs.declared.reply.MetaReply.TheVariants as Told
 use Rattle.qfs_laws_meta.specs.StaysSound.{stays-sound}
@@ -28,15 +31,15 @@ served rules m a = meta_step rules a.actor a.request a.outcome m
 -- each may be asked when it is
 abbrev pub MayRun : Rules → Past → MetaImage → List Asking → Type 0
 MayRun rules past m [] = ⊤
-MayRun rules past m (a ∷ as') =
+MayRun rules past m (a ∷ rest) =
     IsActor a.actor × MayAsk past a.request × MayRun rules
-    (remember a.actor past (served rules m a).reply) (served rules m a).meta as'
+    (remember a.actor past (served rules m a).reply) (served rules m a).meta rest
 
 -- the state after them keeps to what was told
 abbrev pub EndsSound : Rules → Past → MetaImage → List Asking → Type 0
 EndsSound rules past m [] = IsSound past m
-EndsSound rules past m (a ∷ as') =
-    EndsSound rules (remember a.actor past (served rules m a).reply) (served rules m a).meta as'
+EndsSound rules past m (a ∷ rest) =
+    EndsSound rules (remember a.actor past (served rules m a).reply) (served rules m a).meta rest
 
 with-one : (copy : SlotCopy) (past : Past)
     → length (with_copy copy past).granted ≤ length past.granted + 1
@@ -69,8 +72,8 @@ RunsStaySound =
 
 pub run-sound : RunsStaySound
 run-sound rules past m [] sound short may = sound
-run-sound rules past m (a ∷ as') sound short may =
+run-sound rules past m (a ∷ rest) sound short may =
     let more = one-more a.actor past (served rules m a).reply in
-    run-sound rules (remember a.actor past (served rules m a).reply) (served rules m a).meta as'
+    run-sound rules (remember a.actor past (served rules m a).reply) (served rules m a).meta rest
     (stays-sound rules a.actor a.request a.outcome past m sound (omega arith) may.0 may.1)
     (omega arith) may.2

@@ -1,11 +1,13 @@
--- The requests that grant nothing.
+-- The requests that grant nothing. For the law `stays_sound`.
 use Rattle.qfs_base.specs.NameTree.{PathNames}
 use Rattle.qfs_base.specs.Path.{IsPath}
 use Rattle.qfs_base.specs.Shape.{Shape}
 use Rattle.qfs_base.specs.Sizes.{LAST_U16, LAST_U32, LAST_U64, MOST_FILE_BYTES}
 use Rattle.qfs_base.specs.Table.{Each}
 use Rattle.qfs_base.specs.declared.change.Change.{Change}
-use Rattle.qfs_base.specs.declared.change.Change.TheVariants.{ClockTicks, CondemnStray, ConfirmSlot, EndLease, GiveUp, ServerUp, TakeCondemned}
+use Rattle.qfs_base.specs.declared.change.Change.TheVariants.{ClockTicks, CondemnStray, ConfirmSlot}
+use Rattle.qfs_base.specs.declared.change.Change.TheVariants.{EndLease, GiveUp, ServerUp}
+use Rattle.qfs_base.specs.declared.change.Change.TheVariants.{TakeCondemned}
 use Rattle.qfs_base.specs.declared.chunk.BlockId.{BlockId}
 use Rattle.qfs_base.specs.declared.chunk.ChunkKey.{ChunkKey}
 use Rattle.qfs_base.specs.declared.image.MetaImage.{MetaImage}
@@ -20,22 +22,31 @@ use Rattle.qfs_model_meta.specs.GetRequests.{decide_release}
 use Rattle.qfs_model_meta.specs.Grammar.{IsActor, IsServer}
 use Rattle.qfs_model_meta.specs.Leases.{holds_lease, is_live_lease, leases_over}
 use Rattle.qfs_model_meta.specs.Past.{Past, remember}
-use Rattle.qfs_model_meta.specs.PutRequests.{close_complete, decide_close, decide_create, incomplete}
+use Rattle.qfs_model_meta.specs.PutRequests.{close_complete, decide_close, decide_create}
+use Rattle.qfs_model_meta.specs.PutRequests.{incomplete}
 use Rattle.qfs_model_meta.specs.Range.{is_server, is_slot_number}
-use Rattle.qfs_model_meta.specs.ServerRequests.{decide_bye, decide_hello, decide_hibernate, decide_leave, decide_left_on, decide_tick}
+use Rattle.qfs_model_meta.specs.ServerRequests.{decide_bye, decide_hello, decide_hibernate}
+use Rattle.qfs_model_meta.specs.ServerRequests.{decide_leave, decide_left_on, decide_tick}
 use Rattle.qfs_model_meta.specs.Servers.{server_up}
-use Rattle.qfs_model_meta.specs.SettleRequests.{abandon_changes, confirm_grant, decide_abandon, decide_confirm, end_live_lease, end_own_lease, give_up_own, is_own_grant, may_confirm}
+use Rattle.qfs_model_meta.specs.SettleRequests.{abandon_changes, confirm_grant, decide_abandon}
+use Rattle.qfs_model_meta.specs.SettleRequests.{decide_confirm, end_live_lease, end_own_lease}
+use Rattle.qfs_model_meta.specs.SettleRequests.{give_up_own, is_own_grant, may_confirm}
 use Rattle.qfs_model_meta.specs.Slots.{slot_at}
 use Rattle.qfs_model_meta.specs.SweepRequests.{decide_swept}
-use Rattle.qfs_model_meta.specs.TreeRequests.{decide_list, decide_mkdir, decide_rename, decide_rmdir}
-use Rattle.qfs_model_meta.specs.TreeRows.{closed_file, file_stands, has_file, is_unclosed_of, is_unclosed_row, unclosed_file}
-use Rattle.std.proofs.Common.{Bool, List, None, Option, Some, [], arith, cond, false, length, map, refl, subst, suc, sym, true, zero, ℕ, ◌&&◌, ◌+◌, ◌<◌, ◌==◌, ◌∙◌, ◌∷◌, ◌≡◌, ◌≤◌}
+use Rattle.qfs_model_meta.specs.TreeRequests.{decide_list, decide_mkdir, decide_rename}
+use Rattle.qfs_model_meta.specs.TreeRequests.{decide_rmdir}
+use Rattle.qfs_model_meta.specs.TreeRows.{closed_file, file_stands, has_file, is_unclosed_of}
+use Rattle.qfs_model_meta.specs.TreeRows.{is_unclosed_row, unclosed_file}
+use Rattle.std.proofs.Common.{Bool, List, None, Option, Some, [], arith, cond, false, length, map}
+use Rattle.std.proofs.Common.{refl, subst, suc, sym, true, zero, ℕ, ◌&&◌, ◌+◌, ◌<◌, ◌==◌, ◌∙◌, ◌∷◌}
+use Rattle.std.proofs.Common.{◌≡◌, ◌≤◌}
 use Rattle.std.proofs.lemmas.Bool.{and_parts, leb-true, ltb-true}
 use Rattle.std.specs.List.{list_all}
 use Rattle.std.specs.Prelude.{IsTrue, is_some, nat_le, ◌++◌}
 use Rattle.qfs_base.specs.declared.reply.MetaReply.TheVariants as Told
 use Rattle.qfs_laws_meta.specs.Kept.{Fits, Keeps}
-use Rattle.qfs_laws_meta.specs.Requests.{AllMake, Fine, Quiet, file-fine, need-fine, refuse-fine, told_all, unless-fine}
+use Rattle.qfs_laws_meta.specs.Requests.{AllMake, Fine, Quiet, file-fine, need-fine, refuse-fine}
+use Rattle.qfs_laws_meta.specs.Requests.{told_all, unless-fine}
 use Rattle.qfs_laws_slots.specs.Changes.{MayMake, told}
 use Rattle.qfs_laws_slots.specs.Losing.{stray-frame}
 use Rattle.qfs_laws_slots.specs.RowKeys.{own-file}
@@ -141,29 +152,33 @@ close-fine layout actor past m file f counters =
 
 -- ---- changes that may always be made, and tell nothing
 
-abbrev pub IsFree : Change → Type 0
-IsFree change = (past : Past) (m : MetaImage) → MayMake past m change × (told change m past ≡ past)
+abbrev pub IsAlwaysAllowed : Change → Type 0
+IsAlwaysAllowed change =
+    (past : Past) (m : MetaImage) → MayMake past m change × (told change m past ≡ past)
 
-pub free-make : (changes : List Change) → Each IsFree changes → (past : Past) (m : MetaImage)
+pub free-make : (changes : List Change) → Each IsAlwaysAllowed changes
+    → (past : Past) (m : MetaImage)
     → AllMake past m changes
 free-make [] each past m = tt
 free-make (change ∷ changes) each past m =
     ((each.0 past m).0, free-make changes each.1 (told change m past) (apply m change))
 
-pub free-told : (changes : List Change) → Each IsFree changes → (past : Past) (m : MetaImage)
+pub free-told : (changes : List Change) → Each IsAlwaysAllowed changes
+    → (past : Past) (m : MetaImage)
     → told_all changes m past ≡ past
 free-told [] each past m = refl
 free-told (change ∷ changes) each past m =
     free-told changes each.1 (told change m past) (apply m change) ∙ (each.0 past m).1
 
-pub each-map : {X : Type 0} (f : X → Change) → ((x : X) → IsFree (f x)) → (xs : List X)
-    → Each IsFree (map f xs)
+pub each-map : {X : Type 0} (f : X → Change) → ((x : X) → IsAlwaysAllowed (f x)) → (xs : List X)
+    → Each IsAlwaysAllowed (map f xs)
 each-map f free [] = tt
 each-map f free (x ∷ xs) = (free x, each-map f free xs)
 
 pub free-fine : (actor : ℕ) (past : Past) (m : MetaImage) (changes : List Change)
     (reply : MetaReply)
-    → Each IsFree changes → Quiet actor past reply → Fine actor past m (Makes changes reply)
+    → Each IsAlwaysAllowed changes → Quiet actor past reply
+    → Fine actor past m (Makes changes reply)
 free-fine actor past m changes reply free quiet = (
   free-make changes free past m,
   λ h. subst (λ p. Keeps p (apply_all changes m))
@@ -191,7 +206,7 @@ tick-fine actor past m =
     let now : ℕ = risen LAST_U64 m.clock in
     free-fine actor past m (ClockTicks ∷ map EndLease (leases_over now m.leases)) (Told.Clock now) (
       (λ p n. (tt, refl)),
-      each_map (λ _. Unit {0}) IsFree EndLease (λ lease _ p n. (tt, refl))
+      each_map (λ _. Unit {0}) IsAlwaysAllowed EndLease (λ lease _ p n. (tt, refl))
           (leases_over now m.leases) (each_of_all _ (λ _. tt) (leases_over now m.leases)),
     ) refl
 
@@ -274,7 +289,7 @@ hello-fine actor past m server life keys range granted =
 
 -- ---- recoveries and moves that end
 
-end_own-free : (b : Bool) (lease : ℕ) → Each IsFree (cond b (EndLease lease ∷ []) [])
+end_own-free : (b : Bool) (lease : ℕ) → Each IsAlwaysAllowed (cond b (EndLease lease ∷ []) [])
 end_own-free true lease = ((λ p n. (tt, refl)), tt)
 end_own-free false lease = tt
 
@@ -323,7 +338,7 @@ confirm-fine actor past m block slot version lease = one (file_stands block.file
     one true = confirmed actor past m block slot version lease
 
 free_give : (b : Bool) (block : BlockId) (slot : ℕ)
-    → Each IsFree (cond b (GiveUp block slot ∷ []) [])
+    → Each IsAlwaysAllowed (cond b (GiveUp block slot ∷ []) [])
 free_give true block slot = ((λ p n. (tt, refl)), tt)
 free_give false block slot = tt
 
@@ -333,7 +348,8 @@ pub abandon-fine : (actor : ℕ) (past : Past) (m : MetaImage) (block : BlockId)
 unfolding decide_abandon abandon_changes end_own_lease give_up_own remember
 abandon-fine actor past m block slot version lease =
     free-fine actor past m _ (Told.Done (length m.history))
-    (each_append IsFree (cond (holds_lease actor lease m.leases) (EndLease lease ∷ []) []) _
+    (each_append IsAlwaysAllowed (cond (holds_lease actor lease m.leases) (EndLease lease ∷ []) [])
+    _
     (end_own-free (holds_lease actor lease m.leases) lease)
     (free_give (is_own_grant actor version lease (slot_at m.slots block slot).grant) block slot))
     refl

@@ -1,4 +1,4 @@
--- A sound metaserver that is asked what may be asked stays sound.
+-- A sound metaserver that is asked what may be asked stays sound. The law `stays_sound`.
 use Rattle.qfs_base.specs.Sizes.{LAST_U32}
 use Rattle.qfs_base.specs.Table.{Each}
 use Rattle.qfs_base.specs.declared.chunk.BlockId.{BlockId}
@@ -17,9 +17,11 @@ use Rattle.qfs_model_meta.specs.Grammar.{IsActor}
 use Rattle.qfs_model_meta.specs.Past.{Past, remember, was_granted}
 use Rattle.qfs_model_meta.specs.Range.{in_range}
 use Rattle.qfs_model_meta.specs.Slots.{granted_copy, slot_at}
-use Rattle.qfs_model_meta.specs.Sound.{GrantedOnce, IsSound, condemned_of, is_condemned_of, known_copies}
+use Rattle.qfs_model_meta.specs.Sound.{GrantedOnce, IsSound, condemned_of, is_condemned_of}
+use Rattle.qfs_model_meta.specs.Sound.{known_copies}
 use Rattle.qfs_model_meta.specs.Step.{meta_step}
-use Rattle.std.proofs.Common.{List, [], arith, filter, length, map, nat_eq, refl, subst, true, ℕ, ◌++◌, ◌+◌, ◌<◌, ◌∙◌, ◌∷◌, ◌≡◌, ◌≤◌}
+use Rattle.std.proofs.Common.{List, [], arith, filter, length, map, nat_eq, refl, subst, true, ℕ}
+use Rattle.std.proofs.Common.{◌++◌, ◌+◌, ◌<◌, ◌∙◌, ◌∷◌, ◌≡◌, ◌≤◌}
 use Rattle.std.proofs.lemmas.Bool.{and_from, eq-eqb, leb-true}
 use Rattle.std.specs.Option.{option_to_list}
 use Rattle.std.specs.Prelude.{IsTrue}
@@ -33,7 +35,10 @@ use Rattle.qfs_laws_meta.specs.ManyChanges.{abort-fine, drop-fine, order-fine, r
 use Rattle.qfs_laws_meta.specs.MoreGrants.{balance-fine, evacuate-fine, grant-fine, heal-fine}
 use Rattle.qfs_laws_meta.specs.OneServer.{each-one, one-each}
 use Rattle.qfs_laws_meta.specs.Requests.{Fine, step-stays, unless-fine}
-use Rattle.qfs_laws_meta.specs.SimpleRequests.{abandon-fine, bye-fine, close-fine, confirm-fine, create-fine, hello-fine, hibernate-fine, leave-fine, left_on-fine, list-fine, mkdir-fine, release-fine, rename-fine, rmdir-fine, swept-fine, tick-fine}
+use Rattle.qfs_laws_meta.specs.SimpleRequests.{abandon-fine, bye-fine, close-fine, confirm-fine}
+use Rattle.qfs_laws_meta.specs.SimpleRequests.{create-fine, hello-fine, hibernate-fine, leave-fine}
+use Rattle.qfs_laws_meta.specs.SimpleRequests.{left_on-fine, list-fine, mkdir-fine, release-fine}
+use Rattle.qfs_laws_meta.specs.SimpleRequests.{rename-fine, rmdir-fine, swept-fine, tick-fine}
 use Rattle.qfs_laws_slots.specs.Changes.{HasVersionsLeft}
 use Rattle.qfs_laws_slots.specs.Condemning.{condemned_count, version_of}
 use Rattle.qfs_laws_slots.specs.Granted.{Granted}
@@ -42,7 +47,8 @@ use Rattle.qfs_laws_slots.specs.SlotTable.{of-table, table-of}
 use Rattle.qfs_laws_slots.specs.Slots.{same_block-self}
 use Rattle.qfs_laws_tables.specs.Distinct.{copies, distinct-once, once-distinct, one_if}
 use Rattle.qfs_base.specs.EachLaws.{each_append, each_filter, each_weaker}
-use Rattle.qfs_laws_tables.specs.EachRow.{each-left, each-right, each_both, each_map, each_of_filter, each_of_map, each_passes}
+use Rattle.qfs_laws_tables.specs.EachRow.{each-left, each-right, each_both, each_map}
+use Rattle.qfs_laws_tables.specs.EachRow.{each_of_filter, each_of_map, each_passes}
 use Rattle.qfs_laws_tables.specs.Sums.{total, total-append, total-filter, total-map}
 use Rattle.qfs_laws_tree.specs.Tree.{of-tree, tree-of}
 
@@ -304,15 +310,22 @@ versions-left past m left h =
     each_weaker (λ (row : SlotRow). row.state.next ≤ length past.granted + 1)
     (λ (row : SlotRow). row.state.next < LAST_U32) (λ row o. omega arith) m.slots h.knows.counted
 
-pub stays-sound : StaysSound
-unfolding meta_step decide remember
-stays-sound rules actor request outcome past m sound left a may =
+-- what is decided on a request that may be asked, in its range or not
+pub decide-fine : (rules : Rules) (actor : ℕ) (past : Past) (m : MetaImage) (request : MetaRequest)
+    → IsSound past m → length past.granted + 1 < LAST_U32 → IsActor actor → MayAsk past request
+    → Fine actor past m (decide rules actor m request)
+unfolding decide remember
+decide-fine rules actor past m request sound left a may =
     let h = keeps-of past m sound in
-    let c = sound.image.counters in
-    let fine = unless-fine actor past m (in_range (length m.servers) request) Told.Nothing
+    unless-fine actor past m (in_range (length m.servers) request) Told.Nothing
     (decide_request rules actor m request) refl
-    (λ range. request-fine rules actor past m request h c (versions-left past m left h) a may
-    range) in
+    (λ range. request-fine rules actor past m request h sound.image.counters
+    (versions-left past m left h) a may range)
+
+pub stays-sound : StaysSound
+unfolding meta_step
+stays-sound rules actor request outcome past m sound left a may =
     let s = step-stays actor past m (decide rules actor m request) outcome
-    (dropped_at actor m.dropped) fine h c in
+    (dropped_at actor m.dropped) (decide-fine rules actor past m request sound left a may)
+    (keeps-of past m sound) sound.image.counters in
     sound-of _ _ s.counters s.keeps

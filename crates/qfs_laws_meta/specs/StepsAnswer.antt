@@ -18,9 +18,14 @@ use Rattle.qfs_model_meta.specs.Range.{in_range}
 use Rattle.qfs_model_meta.specs.Sound.{IsSound}
 use Rattle.qfs_model_meta.specs.Step.{meta_step}
 use Rattle.qfs_laws_meta.specs.Fair.{Fair, IsAnswered, step-answers}
-use Rattle.qfs_laws_meta.specs.GrantsAnswer.{grant-fair, open-fair, recover-fair, heal-fair, move-fair, evacuate-fair, balance-fair}
+use Rattle.qfs_laws_meta.specs.GrantsAnswer.{grant-fair, open-fair, recover-fair, heal-fair}
+use Rattle.qfs_laws_meta.specs.GrantsAnswer.{move-fair, evacuate-fair, balance-fair}
 use Rattle.qfs_laws_meta.specs.Requests.{Fine}
-use Rattle.qfs_laws_meta.specs.RequestsAnswer.{mkdir-fair, rmdir-fair, remove-fair, rename-fair, list-fair, create-fair, close-fair, abort-fair, release-fair, confirm-fair, abandon-fair, order-fair, swept-fair, hello-fair, bye-fair, leave-fair, hibernate-fair, tick-fair, drop-fair, left_on-fair}
+use Rattle.qfs_laws_meta.specs.RequestsAnswer.{mkdir-fair, rmdir-fair, remove-fair, rename-fair}
+use Rattle.qfs_laws_meta.specs.RequestsAnswer.{list-fair, create-fair, close-fair, abort-fair}
+use Rattle.qfs_laws_meta.specs.RequestsAnswer.{release-fair, confirm-fair, abandon-fair, order-fair}
+use Rattle.qfs_laws_meta.specs.RequestsAnswer.{swept-fair, hello-fair, bye-fair, leave-fair}
+use Rattle.qfs_laws_meta.specs.RequestsAnswer.{hibernate-fair, tick-fair, drop-fair, left_on-fair}
 use Rattle.qfs_laws_meta.specs.StaysSound.{keeps-of, request-fine, versions-left}
 
 -- the law: what may be asked, in its range, is answered as it may be, by any outcome of the step
@@ -82,7 +87,7 @@ steps-answer rules actor request outcome past m sound left who may range =
     past m request h sound.image.counters (versions-left past m left h) who may range in
     step-answers rules actor outcome past m request
     (unless (in_range (length m.servers) request) Told.Nothing
-    (decide_request rules actor m request)) (dropped_at actor m.dropped) refl
+    (decide_request rules actor m request)) (dropped_at actor m.dropped) refl refl
     (subst (λ b. Fine actor past m (unless b Told.Nothing (decide_request rules actor m request)))
     (sym range) fine)
     (subst (λ b. Fair rules actor past m request

@@ -1,7 +1,9 @@
 -- Leases with a term: a tick ends just those whose time has come, an ended lease keeps nothing, a
--- live one keeps what it lists from deletion, and a grant is confirmed whether or not its lease
--- is still live.
-use Rattle.std.proofs.Common.{◌≡◌, ◌≢◌, ℕ, ◌+◌, ◌<◌, ◌≤◌, ◌==◌, nat_lt, nat_le, Bool, true, false, cond, not, ◌&&◌, ◌||◌, length, List, [], ◌∷◌, ◌++◌, map, filter, Option, Some, None, refl, sym, ap, ◌∙◌, subst, arith}
+-- live one keeps what it lists from deletion, and a grant is confirmed whether or not its lease is
+-- still live. The laws `ticks_end_leases`, `live_leases_keep_copies` and `confirms_without_lease`.
+use Rattle.std.proofs.Common.{◌≡◌, ◌≢◌, ℕ, ◌+◌, ◌<◌, ◌≤◌, ◌==◌, nat_lt, nat_le, Bool, true, false}
+use Rattle.std.proofs.Common.{cond, not, ◌&&◌, ◌||◌, length, List, [], ◌∷◌, ◌++◌, map, filter}
+use Rattle.std.proofs.Common.{Option, Some, None, refl, sym, ap, ◌∙◌, subst, arith}
 use Rattle.std.proofs.lemmas.Bool.{and_parts, and_from, lt-ltb, ltb-true, ne_eqb, eq-eqb}
 use Rattle.std.specs.Cmp.{ranked}
 use Rattle.std.specs.List.{list_any}
@@ -20,20 +22,24 @@ use Rattle.qfs_base.specs.declared.reply.MetaReply.{MetaReply}
 use Rattle.qfs_base.specs.declared.reply.MetaReply.TheVariants as Told
 use Rattle.qfs_base.specs.declared.request.MetaRequest.TheVariants as Ask
 use Rattle.qfs_base.specs.declared.rules.Rules.{Rules}
-use Rattle.qfs_model_meta.specs.Apply.{apply, apply_all, finish_lease, confirm_slot, change_record, with_slots}
+use Rattle.qfs_model_meta.specs.Apply.{apply, apply_all, finish_lease, confirm_slot, change_record}
+use Rattle.qfs_model_meta.specs.Apply.{with_slots}
 use Rattle.qfs_model_meta.specs.Counters.{counters_fit}
 use Rattle.qfs_model_meta.specs.Decide.{decide, decide_request}
 use Rattle.qfs_model_meta.specs.Decision.{Makes, unless}
 use Rattle.qfs_model_meta.specs.Dropped.{dropped_at}
 use Rattle.qfs_model_meta.specs.Grammar.{IsActor, HasBlockers}
-use Rattle.qfs_model_meta.specs.Leases.{lease_cmp, is_lease, is_live_lease, end_lease, has_run_out, leases_on, leases_over}
+use Rattle.qfs_model_meta.specs.Leases.{lease_cmp, is_lease, is_live_lease, end_lease, has_run_out}
+use Rattle.qfs_model_meta.specs.Leases.{leases_on, leases_over}
 use Rattle.qfs_model_meta.specs.Past.{Past, ListedCopy, is_copy, remember}
 use Rattle.qfs_model_meta.specs.Range.{in_range, is_slot_number}
 use Rattle.qfs_model_meta.specs.ServerRequests.{decide_tick}
-use Rattle.qfs_model_meta.specs.SettleRequests.{is_own_grant, end_live_lease, may_confirm, confirm_grant, decide_confirm}
+use Rattle.qfs_model_meta.specs.SettleRequests.{is_own_grant, end_live_lease, may_confirm}
+use Rattle.qfs_model_meta.specs.SettleRequests.{confirm_grant, decide_confirm}
 use Rattle.qfs_model_meta.specs.Slots.{slot_at, change_slot, confirmed_slot}
 use Rattle.qfs_model_meta.specs.Sound.{IsSound, IsLetGo}
-use Rattle.qfs_model_meta.specs.Step.{meta_step, serve_unless_dropped, end_step, carry_out, take_step, next_turn}
+use Rattle.qfs_model_meta.specs.Step.{meta_step, serve_unless_dropped, end_step, carry_out}
+use Rattle.qfs_model_meta.specs.Step.{take_step, next_turn}
 use Rattle.qfs_model_meta.specs.TreeRows.{file_stands, closed_file}
 use Rattle.qfs_base.specs.EachLaws.{each_weaker, each_filter}
 use Rattle.qfs_laws_tables.specs.EachRow.{each_map, each_of_all, each-right, each-self}
@@ -175,7 +181,8 @@ over-is clock (row ∷ rows) rising = (
         other a b less = ne_eqb a b (λ e. omega arith)
 
 pub ticks-end-leases : TicksEndLeases
-unfolding meta_step decide in_range unless decide_request decide_tick end_step carry_out apply_all apply
+unfolding meta_step decide in_range unless decide_request decide_tick end_step carry_out apply_all
+    apply
 ticks-end-leases rules actor past m sound none =
     let now : ℕ = min (m.clock + 1) LAST_U64 in
     let n : MetaImage = record m { clock = now } in
@@ -326,7 +333,8 @@ confirmed-counts block slot m =
     (λ _ _ _. record { file = refl; lease = refl; condemned = omega arith; history = refl })
 
 pub confirms-without-lease : ConfirmsWithoutLease
-unfolding meta_step decide in_range is_slot_number unless decide_request decide_confirm confirm_grant may_confirm end_live_lease apply_all apply
+unfolding meta_step decide in_range is_slot_number unless decide_request decide_confirm
+    confirm_grant may_confirm end_live_lease apply_all apply
 confirms-without-lease rules actor block slot version lease m none small closed own fits room =
     one (nat_lt slot SLOTS) (lt-ltb slot SLOTS small) (file_stands block.file m.tree)
     (stands_of_closed block.file m.tree closed) (dropped_at actor m.dropped) none

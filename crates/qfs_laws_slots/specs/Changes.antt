@@ -1,11 +1,17 @@
 -- What holds before each change that a request makes, and what a change tells the actors. Cited
 -- by the laws of the tree and of the metaserver.
-use Rattle.qfs_base.specs.NameTree.{PathNames, add_refusal, look_refusal, rename_refusal, rmdir_refusal}
+use Rattle.qfs_base.specs.NameTree.{PathNames, add_refusal, look_refusal, rename_refusal}
+use Rattle.qfs_base.specs.NameTree.{rmdir_refusal}
 use Rattle.qfs_base.specs.Path.{IsPath}
 use Rattle.qfs_base.specs.Sizes.{LAST_U16, LAST_U32, MOST_FILE_BYTES, SLOTS}
 use Rattle.qfs_base.specs.Table.{Each}
 use Rattle.qfs_base.specs.declared.change.Change.{Change}
-use Rattle.qfs_base.specs.declared.change.Change.TheVariants.{AbortFile, AddDirectory, AddFile, CloseFile, CondemnStray, ConfirmSlot, DropActor, GiveLease, GrantSlot, MarkOrdered, MovePath, RemoveFile, ServerDown, ServerLeaves, ServerSleeps, ServerUp, TakeDirectory}
+use Rattle.qfs_base.specs.declared.change.Change.TheVariants.{AbortFile, AddDirectory, AddFile}
+use Rattle.qfs_base.specs.declared.change.Change.TheVariants.{CloseFile, CondemnStray, ConfirmSlot}
+use Rattle.qfs_base.specs.declared.change.Change.TheVariants.{DropActor, GiveLease, GrantSlot}
+use Rattle.qfs_base.specs.declared.change.Change.TheVariants.{MarkOrdered, MovePath, RemoveFile}
+use Rattle.qfs_base.specs.declared.change.Change.TheVariants.{ServerDown, ServerLeaves}
+use Rattle.qfs_base.specs.declared.change.Change.TheVariants.{ServerSleeps, ServerUp, TakeDirectory}
 use Rattle.qfs_base.specs.declared.chunk.BlockId.{BlockId}
 use Rattle.qfs_base.specs.declared.chunk.ChunkKey.{ChunkKey}
 use Rattle.qfs_base.specs.declared.image.CondemnedRow.{CondemnedRow}
@@ -17,7 +23,8 @@ use Rattle.qfs_model_meta.specs.Past.{Past, was_granted, with_copy}
 use Rattle.qfs_model_meta.specs.Servers.{server_at}
 use Rattle.qfs_model_meta.specs.Slots.{slot_at}
 use Rattle.qfs_model_meta.specs.Sound.{live_servers}
-use Rattle.qfs_model_meta.specs.TreeRows.{closed_file, file_stands, has_file, is_unclosed_row, row_at, standing, unclosed_file}
+use Rattle.qfs_model_meta.specs.TreeRows.{closed_file, file_stands, has_file, is_unclosed_row}
+use Rattle.qfs_model_meta.specs.TreeRows.{row_at, standing, unclosed_file}
 use Rattle.std.proofs.Common.{None, Some, [], length, ℕ, ◌&&◌, ◌++◌, ◌<◌, ◌∷◌, ◌≡◌, ◌≤◌}
 use Rattle.std.specs.List.{list_any}
 use Rattle.std.specs.Prelude.{IsTrue, is_some, ⊤}
@@ -37,7 +44,10 @@ told (GrantSlot block slot server actor lease) m past =
       };
     }) past
 told (GiveLease actor file until) m past =
-    record past { leases = past.leases ++ record { lease = m.next_lease; actor = actor; file = file } ∷ [] }
+    record past {
+      leases =
+          past.leases ++ record { lease = m.next_lease; actor = actor; file = file } ∷ [];
+    }
 told _ m past = past
 
 pub record MayAdd (m : MetaImage) (path : PathNames) : Type 0 where
@@ -82,11 +92,12 @@ pub record MayGrant (m : MetaImage) (block : BlockId) (slot server actor lease :
   pub is_actor : IsActor actor
   pub lease_given : lease < m.next_lease
 
-pub record MayCondemn (past : Past) (m : MetaImage) (server life : ℕ) (key : ChunkKey) : Type 0 where
-  pub granted : IsTrue (was_granted past.granted key.block key.slot
-      (record { server = server; life = life; version = key.version }))
-  pub slot_number : key.slot < SLOTS
-  pub server_number : IsServer (length m.servers) server
+pub record MayCondemn (past : Past) (m : MetaImage) (server life : ℕ) (key : ChunkKey) : Type 0
+  where
+    pub granted : IsTrue (was_granted past.granted key.block key.slot
+        (record { server = server; life = life; version = key.version }))
+    pub slot_number : key.slot < SLOTS
+    pub server_number : IsServer (length m.servers) server
 
 -- a slot that has a record gets a version of its own yet
 abbrev pub HasVersionsLeft : MetaImage → Type 0

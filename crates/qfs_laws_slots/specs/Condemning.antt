@@ -5,11 +5,14 @@ use Rattle.qfs_base.specs.declared.chunk.BlockId.{BlockId}
 use Rattle.qfs_base.specs.declared.chunk.Copy.{Copy}
 use Rattle.qfs_base.specs.declared.image.CondemnedRow.{CondemnedRow}
 use Rattle.qfs_base.specs.declared.image.MetaImage.{MetaImage}
-use Rattle.qfs_model_meta.specs.Condemned.{condemn, condemn_any, condemned_row, forget_if_risen, is_numbered, is_on_server, list_if_live, mark_ordered, sweep, unblock, unblock_all}
+use Rattle.qfs_model_meta.specs.Condemned.{condemn, condemn_any, condemned_row, forget_if_risen}
+use Rattle.qfs_model_meta.specs.Condemned.{is_numbered, is_on_server, list_if_live, mark_ordered}
+use Rattle.qfs_model_meta.specs.Condemned.{sweep, unblock, unblock_all}
 use Rattle.qfs_model_meta.specs.Servers.{is_live}
 use Rattle.qfs_model_meta.specs.Slots.{same_block}
 use Rattle.qfs_model_meta.specs.Sound.{is_condemned_of}
-use Rattle.std.proofs.Common.{Bool, List, None, Option, Some, [], ap, arith, false, nat_eq, not, refl, subst, sym, true, ℕ, ◌&&◌, ◌++◌, ◌+◌, ◌==◌, ◌∷◌, ◌≡◌, ◌≤◌}
+use Rattle.std.proofs.Common.{Bool, List, None, Option, Some, [], ap, arith, false, nat_eq, not}
+use Rattle.std.proofs.Common.{refl, subst, sym, true, ℕ, ◌&&◌, ◌++◌, ◌+◌, ◌==◌, ◌∷◌, ◌≡◌, ◌≤◌}
 use Rattle.std.specs.Option.{option_to_list}
 use Rattle.qfs_laws_tables.specs.Distinct.{one_if}
 use Rattle.qfs_base.specs.EachLaws.{each_filter}
@@ -19,7 +22,11 @@ use Rattle.qfs_laws_tables.specs.Sums.{total, total-append, total-filter-le, wei
 -- a state in which a live copy was condemned just now
 abbrev pub with_condemned : BlockId → ℕ → Copy → MetaImage → MetaImage
 with_condemned block slot copy m =
-    record m { condemned = m.condemned ++ condemned_row m.next_condemned block slot copy m.leases ∷ []; next_condemned = m.next_condemned + 1 }
+    record m {
+      condemned = m.condemned ++ condemned_row m.next_condemned block slot copy m.leases
+          ∷ [];
+      next_condemned = m.next_condemned + 1;
+    }
 
 -- a copy that is condemned is listed, if it is live
 pub condemn-cases : (Q : MetaImage → Type 0) (block : BlockId) (slot : ℕ) (copy : Copy)

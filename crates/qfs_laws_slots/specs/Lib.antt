@@ -8,4 +8,4 @@ pub mod Losing
 pub mod Lists
 pub mod SlotTable
 pub mod Servers
-pub mod FreedLaws
+pub mod Choice

@@ -6,10 +6,14 @@ use Rattle.qfs_base.specs.declared.chunk.Copy.{Copy}
 use Rattle.qfs_base.specs.declared.image.CondemnedRow.{CondemnedRow}
 use Rattle.qfs_base.specs.declared.image.Lease.{Lease}
 use Rattle.qfs_base.specs.declared.image.MetaImage.{MetaImage}
-use Rattle.qfs_model_meta.specs.Condemned.{condemn_any, condemned_cmp, condemned_row, is_numbered, mark_ordered, unblock, unblock_all}
-use Rattle.qfs_model_meta.specs.Grammar.{HasBlockers, IsActor, IsCondemnedList, IsLeaseList, IsServer}
+use Rattle.qfs_model_meta.specs.Condemned.{condemn_any, condemned_cmp, condemned_row, is_numbered}
+use Rattle.qfs_model_meta.specs.Condemned.{mark_ordered, unblock, unblock_all}
+use Rattle.qfs_model_meta.specs.Grammar.{HasBlockers, IsActor, IsCondemnedList, IsLeaseList}
+use Rattle.qfs_model_meta.specs.Grammar.{IsServer}
 use Rattle.qfs_model_meta.specs.Leases.{end_lease, give_lease, is_lease, lease_cmp, leases_on}
-use Rattle.std.proofs.Common.{Bool, List, None, Option, Some, [], ap, arith, cond, false, filter, length, map, nat_lt, not, refl, subst, sym, true, ℕ, ◌++◌, ◌+◌, ◌<◌, ◌==◌, ◌∙◌, ◌∷◌, ◌≡◌, ◌≤◌}
+use Rattle.std.proofs.Common.{Bool, List, None, Option, Some, [], ap, arith, cond, false, filter}
+use Rattle.std.proofs.Common.{length, map, nat_lt, not, refl, subst, sym, true, ℕ, ◌++◌, ◌+◌, ◌<◌}
+use Rattle.std.proofs.Common.{◌==◌, ◌||◌, ◌∙◌, ◌∷◌, ◌≡◌, ◌≤◌}
 use Rattle.std.proofs.lemmas.Bool.Decides.{nat_tests}
 use Rattle.std.specs.Cmp.{nat_cmp_is}
 use Rattle.std.specs.Option.{option_to_list}
@@ -21,6 +25,9 @@ use Rattle.qfs_laws_slots.specs.RowKeys.{is_lease-is}
 use Rattle.qfs_base.specs.EachLaws.{each_filter, each_weaker}
 use Rattle.qfs_laws_tables.specs.EachRow.{each_change, each_map, each_push}
 use Rattle.qfs_laws_tables.specs.InOrder.{change_rises, filter_rises, map_rises, push_rises}
+use Rattle.qfs_laws_tables.specs.SomeRow.{any_of_append}
+use Rattle.std.specs.List.{list_any}
+use Rattle.std.proofs.lemmas.Bool.{ne_eqb, true≢false}
 
 less : (a b : ℕ) → a < b → nat_cmp a b ≡ Less
 less a b h = sym (nat_cmp_is a b Less h)
@@ -44,6 +51,21 @@ leases-given actor file until next leases is h =
   where
     later : (a : ℕ) → a < next → a < next + 1
     later a l = omega arith
+
+-- a lease that is live once the next one is given, and isn't that one, was live before
+pub live-before : (actor file until next own : ℕ) (leases : List Lease) → own < next
+    → list_any (is_lease own) (give_lease next actor file until leases) ≡ true
+    → list_any (is_lease own) leases ≡ true
+unfolding give_lease
+live-before actor file until next own leases older live =
+    let new : Lease = record { lease = next; actor = actor; file = file; until = until } in
+    let apart : is_lease own new ≡ false = is_lease-is own new ∙ ne_eqb next own
+    (λ e. omega arith) in
+    drop_last _ _ apart (sym (any_of_append (is_lease own) leases (new ∷ [])) ∙ live)
+  where
+    drop_last : (a b : Bool) → b ≡ false → (a || (b || false)) ≡ true → a ≡ true
+    drop_last true b e h = refl
+    drop_last false b e h = absurd (true≢false (sym h ∙ (λ i. e i || false)))
 
 pub leases-ended : (lease next : ℕ) (leases : List Lease) → IsLeaseList next leases
     → IsLeaseList next (end_lease lease leases)
@@ -282,12 +304,12 @@ rows-condemned block slot copy m small is h =
     later : (a : ℕ) → a < m.next_condemned → a < m.next_condemned + 1
     later a l = omega arith
 
-abbrev pub IsSome_ : Option Copy → Type 0
-IsSome_ None = ⊥
-IsSome_ (Some copy) = ⊤
+abbrev pub HasOne : Option Copy → Type 0
+HasOne None = ⊥
+HasOne (Some copy) = ⊤
 
 pub rows-condemned_any : (block : BlockId) (slot : ℕ) (m : MetaImage) (found : Option Copy)
-    → (IsSome_ found → slot < 9)
+    → (HasOne found → slot < 9)
     → Each (λ (copy : Copy). IsServer (length m.servers) copy.server) (option_to_list found)
     → HasRows m → HasRows (condemn_any block slot m found)
 rows-condemned_any block slot m found small is h =
@@ -296,4 +318,4 @@ rows-condemned_any block slot m found small is h =
     (option_to_list (Some copy)) = subst
     (λ o. Each (λ (copy : Copy). IsServer (length m.servers) copy.server) (option_to_list o)) at is
     in
-    rows-condemned block slot copy m (small (subst IsSome_ (sym at) tt)) s.0 h)
+    rows-condemned block slot copy m (small (subst HasOne (sym at) tt)) s.0 h)

@@ -1,7 +1,8 @@
 -- The changes by which slots lose copies: what they leave alone, and what they do to the table of
 -- slots. Cited by the laws of the tree and of the metaserver.
 use Rattle.qfs_base.specs.declared.change.Change.{Change}
-use Rattle.qfs_base.specs.declared.change.Change.TheVariants.{ConfirmSlot, EmptySlot, FailGrant, GiveUp}
+use Rattle.qfs_base.specs.declared.change.Change.TheVariants.{ConfirmSlot, EmptySlot, FailGrant}
+use Rattle.qfs_base.specs.declared.change.Change.TheVariants.{GiveUp}
 use Rattle.qfs_base.specs.declared.chunk.BlockId.{BlockId}
 use Rattle.qfs_base.specs.declared.chunk.ChunkKey.{ChunkKey}
 use Rattle.qfs_base.specs.declared.chunk.Copy.{Copy}
@@ -9,13 +10,17 @@ use Rattle.qfs_base.specs.declared.image.Grant.{Grant}
 use Rattle.qfs_base.specs.declared.image.MetaImage.{MetaImage}
 use Rattle.qfs_base.specs.declared.image.SlotRecord.{SlotRecord}
 use Rattle.qfs_base.specs.declared.image.SlotRow.{SlotRow}
-use Rattle.qfs_model_meta.specs.Apply.{apply, change_record, condemn_stray, condemn_unknown, confirm_slot, empty_slot, fail_grant, give_up, with_slots}
+use Rattle.qfs_model_meta.specs.Apply.{apply, change_record, condemn_stray, condemn_unknown}
+use Rattle.qfs_model_meta.specs.Apply.{confirm_slot, empty_slot, fail_grant, give_up, with_slots}
 use Rattle.qfs_model_meta.specs.Condemned.{condemn, condemn_any}
-use Rattle.qfs_model_meta.specs.Slots.{change_slot, confirmed_slot, emptied_slot, failed_slot, granted_copy, slot_at, ungranted_slot}
-use Rattle.std.proofs.Common.{Bool, List, None, Option, Some, ap, false, refl, subst, sym, true, ℕ, ◌∙◌, ◌≡◌}
+use Rattle.qfs_model_meta.specs.Slots.{change_slot, confirmed_slot, emptied_slot, failed_slot}
+use Rattle.qfs_model_meta.specs.Slots.{granted_copy, slot_at, ungranted_slot}
+use Rattle.std.proofs.Common.{Bool, List, None, Option, Some, ap, false, refl, subst, sym, true, ℕ}
+use Rattle.std.proofs.Common.{◌∙◌, ◌≡◌}
 use Rattle.std.specs.Prelude.{⊤}
 use Rattle.qfs_laws_slots.specs.Condemning.{condemn-cases, condemn_any-cases, condemn_any-frame}
-use Rattle.qfs_laws_slots.specs.Losses.{Loses, confirmed-loses, emptied-loses, failed-loses, ungranted-loses}
+use Rattle.qfs_laws_slots.specs.Losses.{Loses, confirmed-loses, emptied-loses, failed-loses}
+use Rattle.qfs_laws_slots.specs.Losses.{ungranted-loses}
 
 -- the changes by which a slot loses copies
 abbrev pub IsLosing : Change → Type 0
@@ -61,7 +66,12 @@ failed-frame : (block : BlockId) (slot : ℕ) (m : MetaImage) (found : Option Gr
 unfolding fail_grant change_record with_slots
 failed-frame block slot m None = record { is = refl }
 failed-frame block slot m (Some grant) =
-    record { is = ap (λ (n : MetaImage). record n { slots = change_slot block slot (failed_slot grant.copy.server) (give_up block slot m (Some grant)).slots }) (given_up-frame block slot m (Some grant)).is }
+    record {
+      is = ap (λ (n : MetaImage). record n {
+        slots = change_slot block slot (failed_slot grant.copy.server)
+            (give_up block slot m (Some grant)).slots;
+      }) (given_up-frame block slot m (Some grant)).is;
+    }
 
 pub losing-frame : (m : MetaImage) (change : Change) → IsLosing change
     → IsSlotFrame m (apply m change)
@@ -78,11 +88,16 @@ losing-frame m (EmptySlot block slot) is =
     ∙ ap (λ (k : MetaImage). record k
     { condemned = o.condemned; next_condemned = o.next_condemned })
     (condemn_any-frame block slot m state.current).is in
-    record { is = ap (λ (k : MetaImage). record k { slots = change_slot block slot emptied_slot o.slots }) frame }
+    record {
+      is = ap (λ (k : MetaImage). record k
+          { slots = change_slot block slot emptied_slot o.slots }) frame;
+    }
 losing-frame m _ is = absurd is
 
 -- a property of the table that each loss of a slot keeps
-module _ (Q : List SlotRow → Type 0) (keeps : (change : SlotRecord → SlotRecord) → Loses change → (block : BlockId) (slot : ℕ) (rows : List SlotRow) → Q rows → Q (change_slot block slot change rows)) where
+module _ (Q : List SlotRow → Type 0) (keeps : (change : SlotRecord → SlotRecord) → Loses change
+    → (block : BlockId) (slot : ℕ) (rows : List SlotRow) → Q rows
+    → Q (change_slot block slot change rows)) where
   given_up-slots : (block : BlockId) (slot : ℕ) (m : MetaImage) (found : Option Grant) → Q m.slots
       → Q (give_up block slot m found).slots
   unfolding give_up change_record with_slots condemn_any

@@ -5,7 +5,9 @@ use Rattle.qfs_base.specs.declared.chunk.BlockId.{BlockId}
 use Rattle.qfs_base.specs.declared.chunk.Copy.{Copy}
 use Rattle.qfs_base.specs.declared.image.SlotRecord.{SlotRecord}
 use Rattle.qfs_base.specs.declared.image.SlotRow.{SlotRow}
-use Rattle.qfs_model_meta.specs.Slots.{change_slot, confirmed_slot, emptied_slot, failed_slot, granted_copy, never_granted, sealed_slot, slot_at, ungranted_slot}
+use Rattle.qfs_model_meta.specs.Slots.{change_slot, confirmed_slot, emptied_slot, failed_slot}
+use Rattle.qfs_model_meta.specs.Slots.{granted_copy, never_granted, sealed_slot, slot_at}
+use Rattle.qfs_model_meta.specs.Slots.{ungranted_slot}
 use Rattle.std.proofs.Common.{List, arith, refl, ℕ, ◌+◌, ◌≡◌, ◌≤◌}
 use Rattle.std.specs.Option.{option_to_list}
 use Rattle.qfs_laws_slots.specs.Slots.{slot-cases}

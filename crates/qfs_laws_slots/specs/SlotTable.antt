@@ -2,7 +2,8 @@
 -- the tree and of the metaserver.
 use Rattle.qfs_base.specs.Table.{Each, IsRising, without}
 use Rattle.qfs_base.specs.declared.change.Change.{Change}
-use Rattle.qfs_base.specs.declared.change.Change.TheVariants.{ConfirmSlot, EmptySlot, FailGrant, GiveUp}
+use Rattle.qfs_base.specs.declared.change.Change.TheVariants.{ConfirmSlot, EmptySlot, FailGrant}
+use Rattle.qfs_base.specs.declared.change.Change.TheVariants.{GiveUp}
 use Rattle.qfs_base.specs.declared.chunk.BlockId.{BlockId}
 use Rattle.qfs_base.specs.declared.chunk.Copy.{Copy}
 use Rattle.qfs_base.specs.declared.image.Grant.{Grant}
@@ -10,13 +11,19 @@ use Rattle.qfs_base.specs.declared.image.MetaImage.{MetaImage}
 use Rattle.qfs_base.specs.declared.image.SlotRecord.{SlotRecord}
 use Rattle.qfs_base.specs.declared.image.SlotRow.{SlotRow}
 use Rattle.qfs_base.specs.declared.image.TreeRow.{TreeRow}
-use Rattle.qfs_model_meta.specs.Apply.{apply, change_record, confirm_slot, empty_slot, fail_grant, give_up, grant_slot, with_slots}
+use Rattle.qfs_model_meta.specs.Apply.{apply, change_record, confirm_slot, empty_slot, fail_grant}
+use Rattle.qfs_model_meta.specs.Apply.{give_up, grant_slot, with_slots}
 use Rattle.qfs_model_meta.specs.Condemned.{condemn_any}
-use Rattle.qfs_model_meta.specs.Grammar.{IsCurrentOfClosed, IsGrant, IsServer, IsSlotTable, NamesServers}
+use Rattle.qfs_model_meta.specs.Grammar.{IsCurrentOfClosed, IsGrant, IsServer, IsSlotTable}
+use Rattle.qfs_model_meta.specs.Grammar.{NamesServers}
 use Rattle.qfs_model_meta.specs.Past.{Past}
-use Rattle.qfs_model_meta.specs.Slots.{change_slot, change_state, confirmed_slot, emptied_slot, failed_slot, forget_file, granted_copy, granted_slot, is_of_file, is_slot, never_granted, seal_file, sealed_slot, slot_at, slot_cmp, ungranted_slot, with_slot}
+use Rattle.qfs_model_meta.specs.Slots.{change_slot, change_state, confirmed_slot, emptied_slot}
+use Rattle.qfs_model_meta.specs.Slots.{failed_slot, forget_file, granted_copy, granted_slot}
+use Rattle.qfs_model_meta.specs.Slots.{is_of_file, is_slot, never_granted, seal_file, sealed_slot}
+use Rattle.qfs_model_meta.specs.Slots.{slot_at, slot_cmp, ungranted_slot, with_slot}
 use Rattle.qfs_model_meta.specs.TreeRows.{closed_file, file_stands}
-use Rattle.std.proofs.Common.{List, None, Option, Some, ap, arith, false, length, not, refl, subst, sym, true, ℕ, ◌<◌, ◌==◌, ◌∙◌, ◌≡◌, ◌≤◌}
+use Rattle.std.proofs.Common.{List, None, Option, Some, ap, arith, false, length, not, refl, subst}
+use Rattle.std.proofs.Common.{sym, true, ℕ, ◌<◌, ◌==◌, ◌∙◌, ◌≡◌, ◌≤◌}
 use Rattle.std.proofs.lemmas.Bool.{eqb-true, not-true, true≢false}
 use Rattle.std.specs.Option.{option_to_list}
 use Rattle.std.specs.Ordering.{nat_cmp}
@@ -26,13 +33,15 @@ use Rattle.qfs_laws_slots.specs.Losing.{IsLosing, condemned-slots}
 use Rattle.qfs_laws_slots.specs.Slots.{Bare, is_slot-is, of_file-is, slot_cmp_total, slot_has}
 use Rattle.qfs_base.specs.EachLaws.{each_filter, each_weaker}
 use Rattle.qfs_laws_tables.specs.EachRow.{each_both, each_change, each_passes, each_place}
-use Rattle.qfs_laws_tables.specs.InOrder.{change_rises, each_inserted, filter_rises, inserted_rises, place_rises}
+use Rattle.qfs_laws_tables.specs.InOrder.{change_rises, each_inserted, filter_rises, inserted_rises}
+use Rattle.qfs_laws_tables.specs.InOrder.{place_rises}
 
 -- ---- what a row has
 
 -- a record of a slot of a file: only a closed file has current copies, and the servers that it
 -- names are there
-pub record StateFits (servers next : ℕ) (tree : List TreeRow) (file : ℕ) (state : SlotRecord) : Type 0 where
+pub record StateFits (servers next : ℕ) (tree : List TreeRow) (file : ℕ) (state : SlotRecord) : Type
+    0 where
   pub current : Each (λ (copy : Copy). IsServer servers copy.server × IsTrue
       (is_some (closed_file file tree))) (option_to_list state.current)
   pub pending : Each (λ (copy : Copy). IsServer servers copy.server)
@@ -164,14 +173,14 @@ slot-small servers next tree slots block slot found none copy h at =
 -- ---- changes of one slot
 
 -- a change of a record that fits
-abbrev pub Fits : ℕ → ℕ → List TreeRow → BlockId → (SlotRecord → SlotRecord) → Type 0
-Fits servers next tree block change =
+abbrev pub KeepsFit : ℕ → ℕ → List TreeRow → BlockId → (SlotRecord → SlotRecord) → Type 0
+KeepsFit servers next tree block change =
     (state : SlotRecord) → StateFits servers next tree block.file state → StateFits servers next
     tree block.file (change state)
 
 pub table-changed : (servers next : ℕ) (tree : List TreeRow) (block : BlockId) (slot : ℕ)
     (change : SlotRecord → SlotRecord) (slots : List SlotRow)
-    → Fits servers next tree block change
+    → KeepsFit servers next tree block change
     → HasTable servers next tree slots → HasTable servers next tree
     (change_slot block slot change slots)
 unfolding change_slot change_state slot_cmp
@@ -184,20 +193,21 @@ table-changed servers next tree block slot change slots fits h = record {
         of_file = f.of_file;
         state = subst
             (λ (k : BlockId). StateFits servers next tree k.file (change row.state)) (sym k.0)
-            (fits row.state (subst (λ (k : BlockId). StateFits servers next tree k.file row.state) k.0
+            (fits row.state (subst (λ (k : BlockId). StateFits servers next tree k.file row.state)
+            k.0
             f.state));
       })
       (λ row _ f. f) slots h.rows;
 }
 
 ungranted-fits : (servers next : ℕ) (tree : List TreeRow) (block : BlockId)
-    → Fits servers next tree block ungranted_slot
+    → KeepsFit servers next tree block ungranted_slot
 unfolding ungranted_slot granted_copy
 ungranted-fits servers next tree block state f =
     record { current = f.current; pending = tt; grant = tt; failed = f.failed; rising = f.rising }
 
 failed-fits : (servers next : ℕ) (tree : List TreeRow) (block : BlockId) (server : ℕ)
-    → IsServer servers server → Fits servers next tree block (failed_slot server)
+    → IsServer servers server → KeepsFit servers next tree block (failed_slot server)
 unfolding failed_slot
 failed-fits servers next tree block server is state f =
     record {
@@ -211,7 +221,8 @@ failed-fits servers next tree block server is state f =
     }
 
 confirmed-fits : (servers next : ℕ) (tree : List TreeRow) (block : BlockId)
-    → IsTrue (is_some (closed_file block.file tree)) → Fits servers next tree block confirmed_slot
+    → IsTrue (is_some (closed_file block.file tree))
+    → KeepsFit servers next tree block confirmed_slot
 unfolding confirmed_slot granted_copy
 confirmed-fits servers next tree block closed state f =
     record {
@@ -225,7 +236,7 @@ confirmed-fits servers next tree block closed state f =
     }
 
 emptied-fits : (servers next : ℕ) (tree : List TreeRow) (block : BlockId)
-    → Fits servers next tree block emptied_slot
+    → KeepsFit servers next tree block emptied_slot
 unfolding emptied_slot granted_copy
 emptied-fits servers next tree block state f =
     record { current = tt; pending = tt; grant = tt; failed = f.failed; rising = f.rising }
@@ -336,7 +347,8 @@ table-onward servers next tree more slots on h =
     record {
       in_order = h.in_order;
       rows = each_weaker (RowFits servers next tree)
-          (RowFits servers next more) (λ row. onward-fits servers next tree more row (on row.block.file))
+          (RowFits servers next more)
+          (λ row. onward-fits servers next tree more row (on row.block.file))
           slots h.rows;
     }
 
@@ -416,7 +428,7 @@ table-forgotten servers next file tree more slots on h = record {
 -- a file that isn't closed has no current copies
 pub bare-of : (m : MetaImage) (file : ℕ) → HasTable (length m.servers) m.next_lease m.tree m.slots
     → is_some (closed_file file m.tree) ≡ false → Bare m file
-bare-of m file h open' block slot own =
+bare-of m file h still_open block slot own =
     none _ (slot-fits (length m.servers) m.next_lease m.tree m.slots block slot h).current
   where
     none : (o : Option Copy)
@@ -425,4 +437,5 @@ bare-of m file h open' block slot own =
         → o ≡ None
     none None each = refl
     none (Some copy) each =
-        absurd (true≢false (sym each.0.1 ∙ ap (λ f. is_some (closed_file f m.tree)) own ∙ open'))
+        absurd (true≢false (sym each.0.1 ∙ ap (λ f. is_some (closed_file f m.tree)) own
+        ∙ still_open))

@@ -8,8 +8,12 @@ use Rattle.qfs_base.specs.declared.chunk.Copy.{Copy}
 use Rattle.qfs_base.specs.declared.image.MetaImage.{MetaImage}
 use Rattle.qfs_base.specs.declared.image.SlotRecord.{SlotRecord}
 use Rattle.qfs_base.specs.declared.image.SlotRow.{SlotRow}
-use Rattle.qfs_model_meta.specs.Slots.{change_slot, change_state, forget_file, is_of_block, is_of_file, is_slot, never_granted, same_block, same_copy, seal_file, sealed_slot, slot_at, slot_cmp, with_slot}
-use Rattle.std.proofs.Common.{Bool, List, None, Option, Some, [], ap, arith, cond, false, filter, find, not, refl, subst, sym, true, unwrap_or, ℕ, ◌+◌, ◌==◌, ◌∙◌, ◌∷◌, ◌≡◌}
+use Rattle.qfs_model_meta.specs.Slots.{change_slot, change_state, forget_file, is_of_block}
+use Rattle.qfs_model_meta.specs.Slots.{is_of_file, is_slot, never_granted, same_block, same_copy}
+use Rattle.qfs_model_meta.specs.Slots.{seal_file, sealed_slot, slot_at, slot_cmp, with_slot}
+use Rattle.std.proofs.Common.{Bool, List, None, Option, Some, [], ap, arith, cond, false, filter}
+use Rattle.std.proofs.Common.{find, not, refl, subst, sym, true, unwrap_or, ℕ, ◌+◌, ◌==◌, ◌∙◌, ◌∷◌}
+use Rattle.std.proofs.Common.{◌≡◌}
 use Rattle.std.proofs.lemmas.Bool.{and_parts, eqb-true}
 use Rattle.std.proofs.lemmas.Bool.Decides.{nat_tests}
 use Rattle.std.specs.Cmp.{IsTotalOrder, nat_cmp_total, on_total, ranked, then_total, tied_itself}
@@ -19,9 +23,11 @@ use Rattle.std.specs.Prelude.{IsTrue, is_some}
 use Rattle.std.specs.declared.cmp.Ordering.{Ordering}
 use Rattle.std.specs.declared.cmp.Ordering.TheVariants.{Equal, Greater, Less}
 use Rattle.qfs_base.specs.EachLaws.{each_weaker}
-use Rattle.qfs_laws_tables.specs.EachRow.{each_both, find_none}
+use Rattle.qfs_laws_tables.specs.EachRow.{each_both, each_of_all, find_none}
 use Rattle.qfs_laws_tables.specs.Keys.{equal-is, greater-not, key-is, less-not}
 use Rattle.qfs_laws_tables.specs.Sums.{total}
+use Rattle.qfs_laws_tables.specs.Placed.{find-placed, find-apart}
+use Rattle.qfs_model_meta.specs.FreedLaws.{key_kept}
 
 -- ---- keys
 
@@ -159,14 +165,9 @@ slot_has P (row ∷ rows) block slot none each =
 
 found-placed : (new : SlotRow) (rows : List SlotRow)
     → find (is_slot new.block new.slot) (place slot_cmp new rows) ≡ Some new
-found-placed new [] = rw (is_slot-self new) refl
-found-placed new (row ∷ rows) =
-    elim (slot_cmp new row) as (λ o. slot_cmp new row ≡ o → find (is_slot new.block new.slot)
-    (place_before new row rows (place slot_cmp new rows) o) ≡ Some new) [
-      | Less ↦ λ is. rw (is_slot-self new) refl
-      | Equal ↦ λ is. rw (is_slot-self new) refl
-      | Greater ↦ λ is. rw (not_slot new row Greater is greater-not) (found-placed new rows)
-    ] refl
+found-placed new rows =
+    find-placed slot_cmp (is_slot new.block new.slot) new rows (is_slot-self new)
+    (each_of_all _ (λ row above. not_slot new row Greater above greater-not) rows)
 
 pub placed-same : (block : BlockId) (slot : ℕ) (state : SlotRecord) (slots : List SlotRow)
     → slot_at (with_slot block slot state slots) block slot ≡ state
@@ -178,20 +179,12 @@ found-other : (block : BlockId) (slot : ℕ) (new : SlotRow) (rows : List SlotRo
     → is_slot block slot new ≡ false
     → find (is_slot block slot) (place slot_cmp new rows) ≡ find (is_slot block slot) rows
 unfolding is_slot
-found-other block slot new [] other = rw other refl
-found-other block slot new (row ∷ rows) other =
-    elim (slot_cmp new row) as (λ o. slot_cmp new row ≡ o → find (is_slot block slot)
-    (place_before new row rows (place slot_cmp new rows) o) ≡ find (is_slot block slot)
-    (row ∷ rows)) [
-      | Less ↦ λ is. rw other refl
-      | Equal ↦ λ is. let same = ties new row is in let too : is_eq
-          (ordering_then (block_cmp block row.block) (nat_cmp slot row.slot)) ≡ false = subst
-          (λ s. is_eq (ordering_then (block_cmp block row.block) (nat_cmp slot s)) ≡ false) same.1
-          (subst (λ b. is_eq (ordering_then (block_cmp block b) (nat_cmp slot new.slot)) ≡ false)
-          same.0 other) in rw (other, too) refl
-      | Greater ↦ λ is. ap (cond (is_slot block slot row) (Some row))
-          (found-other block slot new rows other)
-    ] refl
+found-other block slot new rows other =
+    find-apart slot_cmp (is_slot block slot) new rows other
+    (λ row tie. let same = ties new row tie in
+    subst (λ s. is_eq (ordering_then (block_cmp block row.block) (nat_cmp slot s)) ≡ false) same.1
+    (subst (λ b. is_eq (ordering_then (block_cmp block b) (nat_cmp slot new.slot)) ≡ false)
+    same.0 other))
 
 pub placed-other : (block other : BlockId) (slot number : ℕ) (state : SlotRecord)
     (slots : List SlotRow)
@@ -242,13 +235,6 @@ has-placed block other slot number state slots had =
 
 -- ---- a slot is changed
 
-pub key_kept : (change : SlotRecord → SlotRecord) (block : BlockId) (slot : ℕ) (row : SlotRow)
-    (b : Bool)
-    → is_slot block slot (change_row (change_state change) row b) ≡ is_slot block slot row
-unfolding is_slot change_state
-key_kept change block slot row true = refl
-key_kept change block slot row false = refl
-
 -- a change of some rows' records, seen at each slot
 pub changed-cases : (P : SlotRecord → Type 0) (test : SlotRow → Bool)
     (change : SlotRecord → SlotRecord) (slots : List SlotRow) (block : BlockId) (slot : ℕ)
@@ -271,14 +257,14 @@ changed-cases P test change (row ∷ rows) block slot none if_so if_not =
     elim (test row) as (λ t. test row ≡ t → P
     (slot_at (change_row (change_state change) row t ∷ rest) block slot)) [
       | true ↦ λ t. subst P (sym (slot_at-here block slot (change_state change row) rest
-          (key_kept change block slot row true ∙ here))) (if_so row b s at t)
+          (key_kept block slot change row true ∙ here))) (if_so row b s at t)
       | false ↦ λ t. subst P (sym (slot_at-here block slot row rest here)) (if_not row b s at t)
     ] refl)
     (λ away.
     let at : slot_at (row ∷ rows) block slot ≡ slot_at rows block slot = slot_at-behind block slot
     row rows away in
     subst P (sym (slot_at-behind block slot (change_row (change_state change) row (test row)) rest
-    (key_kept change block slot row (test row) ∙ away)))
+    (key_kept block slot change row (test row) ∙ away)))
     (changed-cases P test change rows block slot (λ a. none (at ∙ a))
     (λ r b s a. if_so r b s (at ∙ a)) (λ r b s a. if_not r b s (at ∙ a))))
 
@@ -288,7 +274,7 @@ pub has-changed : (test : SlotRow → Bool) (change : SlotRecord → SlotRecord)
     (find (is_slot block slot) slots)
 has-changed test change block slot [] = refl
 has-changed test change block slot (row ∷ rows) =
-    rw (key_kept change block slot row (test row))
+    rw (key_kept block slot change row (test row))
     (elim (is_slot block slot row) as (λ b.
     is_some (cond b (Some (change_row (change_state change) row (test row)))
     (find (is_slot block slot) (change_where test (change_state change) rows)))
@@ -310,7 +296,7 @@ changed-same P block slot change (row ∷ rows) none changed =
     → P (slot_at (change_row (change_state change) row b ∷ rest) block slot)) [
       | true ↦ λ here changed. subst P
           (sym (slot_at-here block slot (change_state change row) rest
-          (key_kept change block slot row true ∙ here))) changed
+          (key_kept block slot change row true ∙ here))) changed
       | false ↦ λ away changed. subst P (sym (slot_at-behind block slot row rest away))
           (changed-same P block slot change rows none changed)
     ]) refl changed
@@ -343,7 +329,7 @@ changed-other block other slot number change (row ∷ rows) apart =
     ∙ slot_at-here other number row rest here ∙ sym (slot_at-here other number row rows here))
     (λ away.
     slot_at-behind other number (change_row (change_state change) row (is_slot block slot row)) rest
-    (key_kept change other number row (is_slot block slot row) ∙ away)
+    (key_kept other number change row (is_slot block slot row) ∙ away)
     ∙ changed-other block other slot number change rows apart
     ∙ sym (slot_at-behind other number row rows away))
 
@@ -398,7 +384,8 @@ forgotten-cases P file block slot (row ∷ rows) none other =
           (record_in (cond b (Some row) (find (is_slot block slot) rest)))) [
             | true ↦ λ here.
                 let k = is_slot-is block slot row here in
-                subst P (ap (λ b. record_in (cond b (Some row) (find (is_slot block slot) rows))) here)
+                subst P (ap (λ b. record_in (cond b (Some row) (find (is_slot block slot) rows)))
+                here)
                 (other (ap (λ (k : BlockId). k.file == file) (sym k.0) ∙ sym (of_file-is file row)
                 ∙ is))
             | false ↦ λ away. forgotten-cases P file block slot rows none
@@ -506,9 +493,6 @@ rows-found (row ∷ rows) rising = (
       (λ (later : SlotRow). slot_at rows later.block later.slot ≡ later.state) rows rising.0
       (rows-found rows rising.1)),
 )
-  where
-    greater-not : Greater ≡ Equal → ⊥
-    greater-not e = cc
 
 -- no slot of a file has a current copy
 abbrev pub Bare : MetaImage → ℕ → Type 0

@@ -21,7 +21,8 @@ ghost use Rattle.qfs_laws_slots.specs.Slots.{row_of};
 pub fn placed_slots_are_found()
     ensures same { (block : BlockId) (slot : ℕ) (state : SlotRecord) (slots : List SlotRow)
         → slot_at (with_slot block slot state slots) block slot ≡ state }
-    ensures other { (block other : BlockId) (slot number : ℕ) (state : SlotRecord) (slots : List SlotRow)
+    ensures other { (block other : BlockId) (slot number : ℕ) (state : SlotRecord)
+        (slots : List SlotRow)
         → is_slot other number (row_of block slot state) ≡ false
         → slot_at (with_slot block slot state slots) other number ≡ slot_at slots other number }
 {}
@@ -37,7 +38,8 @@ pub fn versions_name_copies()
 
 /// A lease that is given, and one that ends, leave leases and condemned copies that fit together.
 pub fn leases_fit_condemned_copies()
-    ensures given { (servers next next_lease actor file until : ℕ) (leases : List Lease) (rows : List CondemnedRow)
+    ensures given { (servers next next_lease actor file until : ℕ) (leases : List Lease)
+        (rows : List CondemnedRow)
         → IsLeaseList next_lease leases → IsCondemnedList servers next leases rows
         → IsCondemnedList servers next (give_lease next_lease actor file until leases) rows }
     ensures ended { (servers next lease : ℕ) (leases : List Lease) (rows : List CondemnedRow)

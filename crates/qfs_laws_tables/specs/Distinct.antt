@@ -1,7 +1,8 @@
--- Lists without repeats. Of numbers: each of them counts at most once. Cited by the laws of
--- slots, of the tree and of the metaserver.
+-- Lists without repeats. Of numbers: each of them counts at most once. Cited by the laws of slots,
+-- of the tree, of the metaserver and of puts and gets.
 use Rattle.qfs_base.specs.Table.{Each}
-use Rattle.std.proofs.Common.{Bool, List, [], arith, false, nat_eq, refl, subst, sym, true, ℕ, ◌++◌, ◌+◌, ◌||◌, ◌∙◌, ◌∷◌, ◌≡◌, ◌≤◌}
+use Rattle.std.proofs.Common.{Bool, List, [], arith, false, nat_eq, refl, subst, sym, true, ℕ, ◌++◌}
+use Rattle.std.proofs.Common.{◌+◌, ◌||◌, ◌∙◌, ◌∷◌, ◌≡◌, ◌≤◌}
 use Rattle.std.proofs.lemmas.Bool.{true≢false}
 use Rattle.std.proofs.lemmas.Bool.Decides.{nat_tests}
 use Rattle.std.specs.List.{AllByRecursion, IsDistinct, list_any}

@@ -1,9 +1,11 @@
 -- What holds of each row of a table, after rows are appended, mapped, kept by a test, changed or
--- placed. Cited by the laws of slots, of the tree and of the metaserver.
+-- placed. Cited by the laws of slots, of the tree, of the metaserver and of puts and gets.
 use Rattle.qfs_base.specs.EachLaws.{each_append, each_weaker}
 use Rattle.qfs_base.specs.Table.{Each, change_row, change_where, place, place_before}
-use Rattle.std.proofs.Common.{Bool, List, None, Option, Some, [], ap, arith, cond, false, filter, find, map, refl, subst, suc, sym, true, zero, ℕ, ⊎_elim, ◌++◌, ◌+◌, ◌<◌, ◌||◌, ◌∷◌, ◌≡◌, ◌≤◌, ◌⊎◌}
-use Rattle.std.proofs.lemmas.Bool.{and_parts, true≢false}
+use Rattle.std.proofs.Common.{Bool, List, None, Option, Some, [], ap, arith, cond, false, filter}
+use Rattle.std.proofs.Common.{find, map, refl, subst, suc, sym, true, zero, ℕ, ⊎_elim, ◌++◌, ◌+◌}
+use Rattle.std.proofs.Common.{◌<◌, ◌||◌, ◌∷◌, ◌≡◌, ◌≤◌, ◌⊎◌}
+use Rattle.std.proofs.lemmas.Bool.{and_parts, or_right, true≢false}
 use Rattle.std.specs.List.{list_all, list_any, range_with_len}
 use Rattle.std.specs.Prelude.{flat_map, is_none}
 use Rattle.std.specs.declared.cmp.Ordering.{Ordering}
@@ -126,13 +128,9 @@ each-self Q R own [] each = tt
 each-self Q R own (x ∷ xs) each = (
   ap (λ b. b || list_any (R x) xs) (own x each.0),
   each_weaker (λ y. list_any (R y) xs ≡ true)
-      (λ y. (R y x || list_any (R y) xs) ≡ true) (λ y any. or_true (R y x) _ any) xs
+      (λ y. (R y x || list_any (R y) xs) ≡ true) (λ y any. or_right (R y x) _ any) xs
       (each-self Q R own xs each.1),
 )
-  where
-    or_true : (a b : Bool) → b ≡ true → (a || b) ≡ true
-    or_true true b e = refl
-    or_true false b e = e
 
 pub all-each : {X : Type 0} (test : X → Bool) (xs : List X) → list_all test xs ≡ true
     → Each (λ x. test x ≡ true) xs

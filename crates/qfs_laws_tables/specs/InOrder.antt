@@ -1,7 +1,9 @@
--- Tables in order, without repeats: what keeps them so. Cited by the laws of slots, of the tree
--- and of the metaserver.
-use Rattle.qfs_base.specs.Table.{Each, IsRising, change_row, change_where, place, place_all, place_before}
-use Rattle.std.proofs.Common.{Bool, List, [], ap, cond, false, filter, map, refl, true, ℕ, ◌++◌, ◌∙◌, ◌∷◌, ◌≡◌}
+-- Tables in order, without repeats: what keeps them so. Cited by the laws of slots, of the tree, of
+-- the metaserver and of puts and gets.
+use Rattle.qfs_base.specs.Table.{Each, IsRising, change_row, change_where, place, place_all}
+use Rattle.qfs_base.specs.Table.{place_before}
+use Rattle.std.proofs.Common.{Bool, List, [], ap, cond, false, filter, map, refl, true, ℕ, ◌++◌}
+use Rattle.std.proofs.Common.{◌∙◌, ◌∷◌, ◌≡◌}
 use Rattle.std.specs.BTreeSet.{insert_key}
 use Rattle.std.specs.Cmp.{IsTotalOrder, nat_cmp_total}
 use Rattle.std.specs.Ordering.{match_ordering, nat_cmp, ordering_reverse}
@@ -56,7 +58,8 @@ change_rises order test f left right (row ∷ rows) rising =
     test f (λ x _ above. right row x ∙ above) (λ x _ above. above) rows rising.0 in (
       elim (test row) as (λ b. Each (λ later. order (change_row f row b) later ≡ Less)
           (change_where test f rows)) [
-            | true ↦ each_weaker _ _ (λ x above. left row x ∙ above) (change_where test f rows) later
+            | true ↦ each_weaker _ _ (λ x above. left row x ∙ above) (change_where test f rows)
+                later
             | false ↦ later
           ],
       change_rises order test f left right rows rising.1,

@@ -1,7 +1,10 @@
--- Rows that are placed where none has their key, and maps of tables that are placed, kept by a
--- test or changed. Cited by the laws of slots, of the tree and of the metaserver.
-use Rattle.qfs_base.specs.Table.{Each, IsRising, change_row, change_where, place, place_all, place_before}
-use Rattle.std.proofs.Common.{Bool, List, [], ap, arith, cond, false, filter, map, refl, subst, sym, true, ℕ, ◌+◌, ◌||◌, ◌∙◌, ◌∷◌, ◌≡◌}
+-- Rows that are placed: what is found then, what rows weigh that are placed where none has their
+-- key, and maps of tables that are placed, kept by a test or changed. Cited by the laws of slots,
+-- of the tree, of the metaserver and of puts and gets.
+use Rattle.qfs_base.specs.Table.{Each, IsRising, change_row, change_where, place, place_all}
+use Rattle.qfs_base.specs.Table.{place_before}
+use Rattle.std.proofs.Common.{Bool, List, None, Some, [], ap, arith, cond, false, filter, find, map}
+use Rattle.std.proofs.Common.{refl, subst, sym, true, ℕ, ◌+◌, ◌||◌, ◌∙◌, ◌∷◌, ◌≡◌, ◌≤◌}
 use Rattle.std.specs.Cmp.{IsTotalOrder}
 use Rattle.std.specs.List.{list_any}
 use Rattle.std.specs.Ordering.{ordering_reverse}
@@ -46,6 +49,20 @@ total-placed_apart order w new (row ∷ rows) apart =
       | Equal ↦ λ is. absurd (apart.0 is)
       | Greater ↦ λ _. omega arith
     ]) refl
+
+-- a row that is placed weighs at most what it weighs more
+pub total-placed_le : {X : Type 0} (order : X → X → Ordering) (w : X → ℕ) (new : X)
+    (rows : List X)
+    → total w (place order new rows) ≤ w new + total w rows
+total-placed_le order w new [] = omega arith
+total-placed_le order w new (row ∷ rows) =
+    let rest = total-placed_le order w new rows in
+    elim (order new row) as (λ o. total w
+    (place_before new row rows (place order new rows) o) ≤ w new + (w row + total w rows)) [
+      | Less ↦ omega arith
+      | Equal ↦ omega arith
+      | Greater ↦ omega arith
+    ]
 
 module _ {X : Type 0} {order : X → X → Ordering} (total_order : IsTotalOrder order) where
   abbrev pub AllApart : List X → List X → Type 0
@@ -97,6 +114,35 @@ module _ {X : Type 0} {order : X → X → Ordering} (total_order : IsTotalOrder
   placed_all-rises [] rows rising = rising
   placed_all-rises (new ∷ news) rows rising =
       placed_all-rises news (place order new rows) (place_rises total_order new rows rising)
+
+-- what is found of a table in which a row was placed: the row, or what was found before
+pub find-placed : {X : Type 0} (order : X → X → Ordering) (test : X → Bool) (new : X)
+    (rows : List X)
+    → test new ≡ true → Each (λ row. order new row ≡ Greater → test row ≡ false) rows
+    → find test (place order new rows) ≡ Some new
+find-placed order test new [] own others = rw own refl
+find-placed order test new (row ∷ rows) own others =
+    elim (order new row) as (λ o. order new row ≡ o → find test
+    (place_before new row rows (place order new rows) o) ≡ Some new) [
+      | Less ↦ λ _. rw own refl
+      | Equal ↦ λ _. rw own refl
+      | Greater ↦ λ above. rw (others.0 above) (find-placed order test new rows own others.1)
+    ] refl
+
+pub find-apart : {X : Type 0} (order : X → X → Ordering) (test : X → Bool) (new : X)
+    (rows : List X)
+    → test new ≡ false → ((row : X) → order new row ≡ Equal → test row ≡ false)
+    → find test (place order new rows) ≡ find test rows
+find-apart order test new [] off apart = ap (λ b. cond b (Some new) None) off
+find-apart order test new (row ∷ rows) off apart =
+    elim (order new row) as (λ o. order new row ≡ o → find test
+    (place_before new row rows (place order new rows) o) ≡ cond (test row) (Some row)
+    (find test rows)) [
+      | Less ↦ λ _. ap (λ b. cond b (Some new) (cond (test row) (Some row) (find test rows))) off
+      | Equal ↦ λ tie. ap (λ b. cond b (Some new) (find test rows)) off ∙ sym
+          (ap (λ b. cond b (Some row) (find test rows)) (apart row tie))
+      | Greater ↦ λ _. ap (cond (test row) (Some row)) (find-apart order test new rows off apart)
+    ] refl
 
 pub map-placed : {X Y : Type 0} (f : X → Y) (order : X → X → Ordering) (other : Y → Y → Ordering)
     → ((a b : X) → other (f a) (f b) ≡ order a b) → (new : X) (rows : List X)

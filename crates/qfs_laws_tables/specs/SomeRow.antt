@@ -1,8 +1,9 @@
 -- Whether some row of a table passes a test, after rows are appended, mapped, kept by a test or
--- changed. Cited by the laws of slots, of the tree and of the metaserver.
+-- changed. Cited by the laws of slots, of the tree, of the metaserver and of puts and gets.
 use Rattle.qfs_base.specs.Table.{Each, change_row, change_where}
 use Rattle.qfs_base.specs.declared.image.TreeRow.{TreeRow}
-use Rattle.std.proofs.Common.{Bool, List, None, Some, [], ap, cond, false, filter, find, map, refl, true, ◌++◌, ◌||◌, ◌∙◌, ◌∷◌, ◌≡◌}
+use Rattle.std.proofs.Common.{Bool, List, None, Some, [], ap, cond, false, filter, find, map, refl}
+use Rattle.std.proofs.Common.{true, ◌++◌, ◌||◌, ◌∙◌, ◌∷◌, ◌≡◌}
 use Rattle.std.specs.List.{list_any}
 use Rattle.std.specs.Prelude.{is_some}
 
@@ -19,7 +20,8 @@ pub any_append : {X : Type 0} (test : X → Bool) (xs ys : List X) → list_any 
     → list_any test (xs ++ ys) ≡ true
 any_append test [] ys any = absurd (cc)
 any_append test (x ∷ xs) ys any =
-    (elim (test x) as (λ b. (b || list_any test xs) ≡ true → (b || list_any test (xs ++ ys)) ≡ true) [
+    (elim (test x) as (λ b. (b || list_any test xs) ≡ true
+    → (b || list_any test (xs ++ ys)) ≡ true) [
       | true ↦ λ any. refl
       | false ↦ λ any. any_append test xs ys any
     ]) any
@@ -51,7 +53,8 @@ any_filter test keep stays (x ∷ xs) any =
             | false ↦ λ any. any_filter test keep stays xs any
           ]
       | false ↦ λ is. elim (test x) as
-          (λ b. test x ≡ b → (b || list_any test xs) ≡ true → list_any test (filter keep xs) ≡ true) [
+          (λ b. test x ≡ b → (b || list_any test xs) ≡ true
+          → list_any test (filter keep xs) ≡ true) [
             | true ↦ λ t any. let k = stays x t in absurd (cc)
             | false ↦ λ t any. any_filter test keep stays xs any
           ] refl
@@ -115,7 +118,8 @@ any_filter_given P test keep stays (x ∷ xs) each any =
             | false ↦ λ any. any_filter_given P test keep stays xs each.1 any
           ]
       | false ↦ λ is. elim (test x) as
-          (λ b. test x ≡ b → (b || list_any test xs) ≡ true → list_any test (filter keep xs) ≡ true) [
+          (λ b. test x ≡ b → (b || list_any test xs) ≡ true
+          → list_any test (filter keep xs) ≡ true) [
             | true ↦ λ t any. let k = stays x each.0 t in absurd (cc)
             | false ↦ λ t any. any_filter_given P test keep stays xs each.1 any
           ] refl

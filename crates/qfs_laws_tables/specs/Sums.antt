@@ -1,8 +1,9 @@
--- The sum of a weight over the rows of a table. Cited by the laws of slots, of the tree and of
--- the metaserver.
+-- The sum of a weight over the rows of a table. Cited by the laws of slots, of the tree, of the
+-- metaserver and of puts and gets.
 use Rattle.qfs_base.specs.Table.{Each, change_row, change_where}
 use Rattle.qfs_base.specs.declared.image.SlotRow.{SlotRow}
-use Rattle.std.proofs.Common.{Bool, List, Some, [], ap, arith, cond, false, filter, find, map, refl, sym, true, ℕ, ◌++◌, ◌+◌, ◌||◌, ◌∙◌, ◌∷◌, ◌≡◌, ◌≤◌}
+use Rattle.std.proofs.Common.{Bool, List, Some, [], ap, arith, cond, false, filter, find, map, refl}
+use Rattle.std.proofs.Common.{sym, true, ℕ, ◌++◌, ◌+◌, ◌||◌, ◌∙◌, ◌∷◌, ◌≡◌, ◌≤◌}
 use Rattle.std.proofs.lemmas.Bool.{true≢false}
 use Rattle.std.specs.List.{list_any}
 use Rattle.std.specs.Prelude.{flat_map}

@@ -18,5 +18,6 @@ pub fn placing_keeps_order<Row>()
 /// Numbers are distinct just where each counts at most once.
 pub fn distinct_numbers_count_once()
     ensures once { (numbers : List ℕ) → IsDistinct nat_eq numbers → (n : ℕ) → copies n numbers ≤ 1 }
-    ensures distinct { (numbers : List ℕ) → ((n : ℕ) → copies n numbers ≤ 1) → IsDistinct nat_eq numbers }
+    ensures distinct { (numbers : List ℕ) → ((n : ℕ) → copies n numbers ≤ 1)
+        → IsDistinct nat_eq numbers }
 {}

@@ -1,12 +1,16 @@
 -- Files that are closed or given up, and the paths at which they stand. Cited by the laws of the
 -- metaserver.
-use Rattle.qfs_base.specs.NameTree.{PathNames, is_filled, is_within, kind_at, look_refusal, rename_refusal, rmdir_refusal, source_refusal, stands_at}
+use Rattle.qfs_base.specs.NameTree.{PathNames, is_filled, is_within, kind_at, look_refusal}
+use Rattle.qfs_base.specs.NameTree.{rename_refusal, rmdir_refusal, source_refusal, stands_at}
 use Rattle.qfs_base.specs.Path.{IsPath}
 use Rattle.qfs_base.specs.Table.{Each, change_row, change_where}
 use Rattle.qfs_base.specs.declared.image.TreeRow.{TreeRow}
 use Rattle.qfs_base.specs.declared.lists.NameKind.{NameKind}
-use Rattle.qfs_model_meta.specs.TreeRows.{close_file, close_row, closed_file, file_stands, has_file, is_closed, is_closed_row, is_unclosed, is_unclosed_row, kind_of, row_path, standing, take_file}
-use Rattle.std.proofs.Common.{Bool, List, None, Option, Some, [], ap, arith, cond, false, find, not, refl, subst, suc, sym, true, zero, ℕ, ◌&&◌, ◌<◌, ◌||◌, ◌∙◌, ◌∷◌, ◌≡◌}
+use Rattle.qfs_model_meta.specs.TreeRows.{close_file, close_row, closed_file, file_stands, has_file}
+use Rattle.qfs_model_meta.specs.TreeRows.{is_closed, is_closed_row, is_unclosed, is_unclosed_row}
+use Rattle.qfs_model_meta.specs.TreeRows.{kind_of, row_path, standing, take_file}
+use Rattle.std.proofs.Common.{Bool, List, None, Option, Some, [], ap, arith, cond, false, find, not}
+use Rattle.std.proofs.Common.{refl, subst, suc, sym, true, zero, ℕ, ◌&&◌, ◌<◌, ◌||◌, ◌∙◌, ◌∷◌, ◌≡◌}
 use Rattle.std.proofs.lemmas.Bool.{and_parts, eq-eqb, true≢false}
 use Rattle.std.specs.List.{list_any}
 use Rattle.std.specs.Prelude.{IsTrue, is_some}
@@ -21,9 +25,6 @@ use Rattle.qfs_laws_tree.specs.Stands.{closed-now, filtered-back}
 use Rattle.qfs_laws_tree.specs.Tree.{HasTree, RowIs, file-one}
 use Rattle.qfs_laws_tree.specs.TreeChanges.{closed-any, closed_test}
 use Rattle.qfs_laws_tree.specs.TreeFacts.{kind-row, look-closed, or-none, rmdir-empty}
-
-root-kind : kind_at [] [] ≡ Some Is.Directory
-root-kind = unfold kind_at in refl
 
 not-root : (tree : List TreeRow) (path : PathNames) (kind : NameKind)
     → kind_at (standing tree) path ≡ Some kind → (kind ≡ Is.Directory → ⊥) → path ≡ [] → ⊥

@@ -1,17 +1,28 @@
 -- The file history: after each change its entry may follow, and the files are the tree. Cited by
 -- the laws of the metaserver.
-use Rattle.qfs_base.specs.Files.{FileEntry, FollowFrom, IsClosed, Puts, close_entry, created_count, creates, entry_at, entry_path, files_after, files_of, files_standing, is_unclosed_content, is_unclosed_entry, kind_of_content, may_follow}
-use Rattle.qfs_base.specs.NameTree.{PathNames, add_refusal, added, is_within, look_refusal, moved, path_eq, rename_refusal, renamed, rmdir_refusal, row_cmp, stands_at, taken}
+use Rattle.qfs_base.specs.Files.{FileEntry, FollowFrom, IsClosed, Puts, close_entry, created_count}
+use Rattle.qfs_base.specs.Files.{creates, entry_at, entry_path, files_after, files_of}
+use Rattle.qfs_base.specs.Files.{files_standing, is_unclosed_content, is_unclosed_entry}
+use Rattle.qfs_base.specs.Files.{kind_of_content, may_follow}
+use Rattle.qfs_base.specs.NameTree.{PathNames, add_refusal, added, is_within, look_refusal, moved}
+use Rattle.qfs_base.specs.NameTree.{path_eq, rename_refusal, renamed, rmdir_refusal, row_cmp}
+use Rattle.qfs_base.specs.NameTree.{stands_at, taken}
 use Rattle.qfs_base.specs.Table.{Each, place, place_all, without}
-use Rattle.qfs_base.specs.declared.change.Change.TheVariants.{AbortFile, AddDirectory, AddFile, CloseFile, MovePath, RemoveFile, TakeDirectory}
+use Rattle.qfs_base.specs.declared.change.Change.TheVariants.{AbortFile, AddDirectory, AddFile}
+use Rattle.qfs_base.specs.declared.change.Change.TheVariants.{CloseFile, MovePath, RemoveFile}
+use Rattle.qfs_base.specs.declared.change.Change.TheVariants.{TakeDirectory}
 use Rattle.qfs_base.specs.declared.history.Entry.{Entry}
 use Rattle.qfs_base.specs.declared.image.MetaImage.{MetaImage}
 use Rattle.qfs_base.specs.declared.image.TreeRow.{TreeRow}
 use Rattle.qfs_base.specs.declared.lists.NameKind.{NameKind}
 use Rattle.qfs_model_meta.specs.Apply.{add_file, apply, with_slots, write_entry}
 use Rattle.qfs_model_meta.specs.Sound.{TreeIsHistory, content_of, file_entry}
-use Rattle.qfs_model_meta.specs.TreeRows.{add_row, at_path, close_file, close_row, directory_row, file_row, has_file, kind_of, move_path, row_path, standing, take_file, take_path}
-use Rattle.std.proofs.Common.{Bool, List, None, [], ap, arith, false, filter, map, not, refl, subst, suc, sym, true, zero, ℕ, ◌++◌, ◌+◌, ◌<◌, ◌==◌, ◌||◌, ◌∙◌, ◌∷◌, ◌≡◌, ◌≤◌}
+use Rattle.qfs_model_meta.specs.TreeRows.{add_row, at_path, close_file, close_row, directory_row}
+use Rattle.qfs_model_meta.specs.TreeRows.{file_row, has_file, kind_of, move_path, row_path}
+use Rattle.qfs_model_meta.specs.TreeRows.{standing, take_file, take_path}
+use Rattle.std.proofs.Common.{Bool, List, None, [], ap, arith, false, filter, map, not, refl, subst}
+use Rattle.std.proofs.Common.{suc, sym, true, zero, ℕ, ◌++◌, ◌+◌, ◌<◌, ◌==◌, ◌||◌, ◌∙◌, ◌∷◌, ◌≡◌}
+use Rattle.std.proofs.Common.{◌≤◌}
 use Rattle.std.proofs.lemmas.Bool.{and_from, eq-eqb, eqb-true}
 use Rattle.std.proofs.lemmas.List.Sums.{fold-append}
 use Rattle.std.specs.List.{list_any}
@@ -93,12 +104,12 @@ entry-order puts a b = refl
 
 -- ---- change by change
 
-kind-unclosed : (n : ℕ) → 1 ≤ n → kind_of n false ≡ Is.Unclosed
+pub kind-unclosed : (n : ℕ) → 1 ≤ n → kind_of n false ≡ Is.Unclosed
 unfolding kind_of
 kind-unclosed zero low = absurd (omega arith)
 kind-unclosed (suc n) low = refl
 
-kind-closed : (n : ℕ) → 1 ≤ n → kind_of n true ≡ Is.Closed
+pub kind-closed : (n : ℕ) → 1 ≤ n → kind_of n true ≡ Is.Closed
 unfolding kind_of
 kind-closed zero low = absurd (omega arith)
 kind-closed (suc n) low = refl
@@ -106,7 +117,8 @@ kind-closed (suc n) low = refl
 pub history-directory : (m : MetaImage) (path : PathNames)
     → add_refusal (standing m.tree) path ≡ None → TreeIsHistory m
     → TreeIsHistory (apply m (AddDirectory path))
-unfolding apply write_entry add_row added may_follow files_after directory_row file_entry content_of kind_of creates
+unfolding apply write_entry add_row added may_follow files_after directory_row file_entry content_of
+    kind_of creates
 history-directory m path free h =
     history-more m (Wrote.Mkdir path) (add_row (directory_row path) m.tree) m.next_file
     (λ puts. is-none _ (ap (λ t. add_refusal t path) (standing-files puts m.tree) ∙ free))
@@ -117,7 +129,8 @@ history-directory m path free h =
 pub history-file : (m : MetaImage) (path : PathNames) (actor command len : ℕ) → 1 ≤ m.next_file
     → add_refusal (standing m.tree) path ≡ None → TreeIsHistory m
     → TreeIsHistory (apply m (AddFile path actor command len))
-unfolding apply add_file write_entry add_row added may_follow files_after file_row file_entry content_of creates
+unfolding apply add_file write_entry add_row added may_follow files_after file_row file_entry
+    content_of creates
 history-file m path actor command len some free h =
     history-more m (Wrote.Created m.next_file path)
     (add_row (file_row path m.next_file actor command len) m.tree) (m.next_file + 1)
@@ -202,12 +215,13 @@ unclosed-content : (puts : Puts) (file : ℕ) (row : TreeRow) → 0 < file
     → is_unclosed_content file (content_of puts row (kind_of row.file row.closed)) ≡ (row.file ==
     file)
 unfolding is_unclosed_content content_of
-unclosed-content puts file row some open' =
+unclosed-content puts file row some still_open =
     (elim (row.file == file) as (λ t. (row.file == file) ≡ t → is_unclosed_content file
     (content_of puts row (kind_of row.file row.closed)) ≡ t) [
       | true ↦ λ own.
           let e : row.file ≡ file = eqb-true row.file file own in
-          ap (λ b. is_unclosed_content file (content_of puts row (kind_of row.file b))) (open' e)
+          ap (λ b. is_unclosed_content file (content_of puts row (kind_of row.file b)))
+          (still_open e)
           ∙ ap (λ k. is_unclosed_content file (content_of puts row k))
           (kind-unclosed row.file (omega arith)) ∙ own
       | false ↦ λ off. any_kind (kind_of row.file row.closed) off
@@ -223,13 +237,13 @@ unclosed-same : (puts : Puts) (file : ℕ) (row : TreeRow) → 0 < file
     → (row.file ≡ file → row.closed ≡ false)
     → is_unclosed_entry file (file_entry puts row) ≡ has_file file row
 unfolding is_unclosed_entry file_entry
-unclosed-same puts file row some open' =
+unclosed-same puts file row some still_open =
     one row.file row.closed refl refl ∙ sym (has_file-is file row)
   where
     one : (n : ℕ) (b : Bool) → row.file ≡ n → row.closed ≡ b
         → is_unclosed_content file (content_of puts row
         (kind_of row.file row.closed)) ≡ (row.file == file)
-    one n b p q = unclosed-content puts file row some open'
+    one n b p q = unclosed-content puts file row some still_open
 
 any_entries : (puts : Puts) (file : ℕ) (rows : List TreeRow)
     → Each (λ (row : TreeRow). is_unclosed_entry file (file_entry puts row) ≡ has_file file row)

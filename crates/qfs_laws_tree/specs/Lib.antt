@@ -5,3 +5,4 @@ pub mod Stands
 pub mod Move
 pub mod History
 pub mod Files
+pub mod TreeReplies

@@ -1,14 +1,21 @@
 -- The name tree after everything within a path moved to another. Cited by the laws of the
 -- metaserver.
-use Rattle.qfs_base.specs.NameTree.{PathNames, grows_too_deep, is_within, kind_at, most_names, moved, path_cmp, path_eq, refused_if, rename_refusal, renamed, row_cmp}
+use Rattle.qfs_base.specs.NameTree.{PathNames, grows_too_deep, is_within, kind_at, most_names}
+use Rattle.qfs_base.specs.NameTree.{moved, path_cmp, path_eq, refused_if, rename_refusal, renamed}
+use Rattle.qfs_base.specs.NameTree.{row_cmp}
 use Rattle.qfs_base.specs.Path.{IsName, IsPath}
 use Rattle.qfs_base.specs.Table.{Each, IsRising, place_all, without}
 use Rattle.qfs_base.specs.declared.image.TreeRow.{TreeRow}
 use Rattle.qfs_base.specs.declared.reply.TreeRefusal.{TreeRefusal}
-use Rattle.qfs_model_meta.specs.TreeRows.{at_path, file_stands, has_file, is_closed_row, is_unclosed_row, move_path, row_path, standing}
-use Rattle.std.proofs.Common.{Bool, List, None, Some, [], ap, arith, cond, drop, false, filter, length, length-append, length-take, map, nat_lt, not, refl, subst, sym, take, true, ℕ, ⊎_elim, ◌&&◌, ◌++◌, ◌+◌, ◌-◌, ◌<◌, ◌==◌, ◌||◌, ◌∙◌, ◌∷◌, ◌≡◌, ◌≢◌, ◌≤◌}
+use Rattle.qfs_model_meta.specs.TreeRows.{at_path, file_stands, has_file, is_closed_row}
+use Rattle.qfs_model_meta.specs.TreeRows.{is_unclosed_row, move_path, row_path, standing}
+use Rattle.std.proofs.Common.{Bool, List, None, Some, [], ap, arith, cond, drop, false, filter}
+use Rattle.std.proofs.Common.{length, length-append, length-take, map, nat_lt, not, refl, subst}
+use Rattle.std.proofs.Common.{sym, take, true, ℕ, ⊎_elim, ◌&&◌, ◌++◌, ◌+◌, ◌-◌, ◌<◌, ◌==◌, ◌||◌}
+use Rattle.std.proofs.Common.{◌∙◌, ◌∷◌, ◌≡◌, ◌≢◌, ◌≤◌}
 use Rattle.std.proofs.Math.Seq.{drop-append_seam, take-append-add, take-append_seam, take-length}
-use Rattle.std.proofs.lemmas.Bool.{and_from, and_parts, cases_lt, ltb-false, not-true, or_parts, true≢false}
+use Rattle.std.proofs.lemmas.Bool.{and_from, and_parts, cases_lt, ltb-false, not-true, or_left}
+use Rattle.std.proofs.lemmas.Bool.{or_parts, or_right, true≢false}
 use Rattle.std.proofs.lemmas.List.{take-append-drop, take-append-le, take-take}
 use Rattle.std.proofs.lemmas.List.Elements.{All-append, All-drop}
 use Rattle.std.specs.Cmp.{tied_itself}
@@ -22,13 +29,16 @@ use Rattle.qfs_laws_slots.specs.SlotTable.{Onward}
 use Rattle.qfs_base.specs.EachLaws.{each_filter, each_weaker}
 use Rattle.qfs_laws_tables.specs.EachRow.{each_of_all, each_both, each_map, each_passes}
 use Rattle.qfs_laws_tables.specs.InOrder.{filter_rises, map_rises-given}
-use Rattle.qfs_laws_tables.specs.Placed.{Apart, any-placed_all, each-placed_all, placed_all-rises, total-placed_all}
+use Rattle.qfs_laws_tables.specs.Placed.{Apart, any-placed_all, each-placed_all, placed_all-rises}
+use Rattle.qfs_laws_tables.specs.Placed.{total-placed_all}
 use Rattle.qfs_laws_tables.specs.SomeRow.{any_filter, any_map}
 use Rattle.qfs_laws_tables.specs.Sums.{total}
 use Rattle.qfs_laws_tree.specs.Stands.{back-any, onward-any}
-use Rattle.qfs_laws_tree.specs.Tree.{HasDirectory, HasTree, Lies, RowIs, directory-kind, file_weight, is_directory_at, parents-lie}
+use Rattle.qfs_laws_tree.specs.Tree.{HasDirectory, HasTree, Lies, RowIs, directory-kind}
+use Rattle.qfs_laws_tree.specs.Tree.{file_weight, is_directory_at, parents-lie}
 use Rattle.qfs_laws_tree.specs.TreeChanges.{closed_test, stands_test}
-use Rattle.qfs_laws_tree.specs.TreeFacts.{add-free, is-within, none-at, or-none, path-is, path-self, row-ties, tree_total, within-is}
+use Rattle.qfs_laws_tree.specs.TreeFacts.{add-free, is-within, none-at, or-none, path-is, path-self}
+use Rattle.qfs_laws_tree.specs.TreeFacts.{row-ties, tree_total, within-is}
 
 -- ---- paths that are moved
 
@@ -92,7 +102,8 @@ pub record Moves (from to : PathNames) (tree : List TreeRow) : Type 0 where
 
 -- ---- the tree after it
 
-module _ (from to : PathNames) (tree : List TreeRow) (next : ℕ) (h : HasTree next tree) (moves : Moves from to tree) where
+module _ (from to : PathNames) (tree : List TreeRow) (next : ℕ) (h : HasTree next tree)
+    (moves : Moves from to tree) where
   abbrev is_moved : TreeRow → Bool
   is_moved row = is_within from row.path
 
@@ -131,10 +142,6 @@ module _ (from to : PathNames) (tree : List TreeRow) (next : ℕ) (h : HasTree n
       ∙ or_right _ _ (any_filter (is_directory_at path) (λ row. not (is_moved row))
       (λ row is. ap (λ p. not (is_within from p)) (path-is row.path path (and_parts _ _ is).0) ∙ ap
       not off) tree has)
-    where
-      or_right : (a b : Bool) → b ≡ true → (a || b) ≡ true
-      or_right true b e = refl
-      or_right false b e = e
 
   lands : (x : PathNames) → HasDirectory tree (from ++ x)
       → HasDirectory (place_all (row_cmp row_path) landed kept_rows) (to ++ x)
@@ -155,10 +162,6 @@ module _ (from to : PathNames) (tree : List TreeRow) (next : ℕ) (h : HasTree n
       (and_parts (path_eq row.path (from ++ x)) (row.file == 0) is).0 in
       ap (is_within from) at ∙ is-within from (from ++ x) (sym (take-append_seam from x))) tree
       has))
-    where
-      or_left : (a b : Bool) → a ≡ true → (a || b) ≡ true
-      or_left true b e = refl
-      or_left false b e = absurd (true≢false (sym e))
 
   kept-lies : (row : TreeRow) → not (is_moved row) ≡ true → Lies tree row.path
       → Lies (place_all (row_cmp row_path) landed kept_rows) row.path

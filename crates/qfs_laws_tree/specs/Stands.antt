@@ -1,12 +1,19 @@
 -- What stands in the tree after a change stood before it, and the other way round. Cited by the
 -- laws of the metaserver.
-use Rattle.qfs_base.specs.NameTree.{PathNames, add_refusal, kind_at, look_refusal, path_eq, rmdir_refusal, row_cmp, stands_at, taken}
+use Rattle.qfs_base.specs.NameTree.{PathNames, add_refusal, kind_at, look_refusal, path_eq}
+use Rattle.qfs_base.specs.NameTree.{rmdir_refusal, row_cmp, stands_at, taken}
 use Rattle.qfs_base.specs.Table.{Each, IsRising, change_where}
 use Rattle.qfs_base.specs.declared.image.TreeRow.{TreeRow}
 use Rattle.qfs_base.specs.declared.lists.NameKind.{NameKind}
-use Rattle.qfs_model_meta.specs.TreeRows.{add_row, close_file, close_row, closed_file, directory_row, file_row, file_stands, has_file, is_closed, is_closed_row, is_unclosed, is_unclosed_row, kind_of, row_at, row_path, standing, take_file, take_path}
-use Rattle.std.proofs.Common.{Bool, List, None, Some, [], ap, arith, false, filter, find, not, refl, subst, suc, sym, true, zero, ℕ, ⊎_elim, ◌&&◌, ◌<◌, ◌==◌, ◌||◌, ◌∙◌, ◌∷◌, ◌≡◌}
-use Rattle.std.proofs.lemmas.Bool.{and_from, and_parts, cases_lt, eqb-true, not-true, true≢false}
+use Rattle.qfs_model_meta.specs.TreeRows.{add_row, close_file, close_row, closed_file}
+use Rattle.qfs_model_meta.specs.TreeRows.{directory_row, file_row, file_stands, has_file, is_closed}
+use Rattle.qfs_model_meta.specs.TreeRows.{is_closed_row, is_unclosed, is_unclosed_row, kind_of}
+use Rattle.qfs_model_meta.specs.TreeRows.{row_at, row_path, standing, take_file, take_path}
+use Rattle.std.proofs.Common.{Bool, List, None, Some, [], ap, arith, false, filter, find, not, refl}
+use Rattle.std.proofs.Common.{subst, suc, sym, true, zero, ℕ, ⊎_elim, ◌&&◌, ◌<◌, ◌==◌, ◌||◌, ◌∙◌}
+use Rattle.std.proofs.Common.{◌∷◌, ◌≡◌}
+use Rattle.std.proofs.lemmas.Bool.{and_from, and_parts, and_right, cases_lt, eqb-true, not-true}
+use Rattle.std.proofs.lemmas.Bool.{or_left, or_right, true≢false}
 use Rattle.std.proofs.lemmas.Bool.Decides.{nat_tests}
 use Rattle.std.specs.List.{list_any}
 use Rattle.std.specs.Prelude.{IsTrue, is_some, unwrap_or}
@@ -15,9 +22,11 @@ use Rattle.qfs_laws_slots.specs.RowKeys.{has_file-is, own-file}
 use Rattle.qfs_laws_slots.specs.SlotTable.{Onward}
 use Rattle.qfs_base.specs.EachLaws.{each_filter, each_weaker}
 use Rattle.qfs_laws_tables.specs.EachRow.{each_of_all, each_both, each_passes}
-use Rattle.qfs_laws_tables.specs.SomeRow.{any_change, any_each, any_filter, any_filter_given, any_of_change, any_of_filter, none_any}
+use Rattle.qfs_laws_tables.specs.SomeRow.{any_change, any_each, any_filter, any_filter_given}
+use Rattle.qfs_laws_tables.specs.SomeRow.{any_of_change, any_of_filter, none_any}
 use Rattle.qfs_laws_tree.specs.Tree.{HasTree, file-one, rising-find}
-use Rattle.qfs_laws_tree.specs.TreeChanges.{any-added, closed-any, closed_test, stands-any, stands-some, stands_test}
+use Rattle.qfs_laws_tree.specs.TreeChanges.{any-added, closed-any, closed_test, stands-any}
+use Rattle.qfs_laws_tree.specs.TreeChanges.{stands-some, stands_test}
 use Rattle.qfs_laws_tree.specs.TreeFacts.{kind-row, kind_in, look-closed, path-self, rmdir-empty}
 
 -- from tests on rows to what stands
@@ -36,10 +45,6 @@ pub back-any : (tree more : List TreeRow) (file : ℕ)
 back-any tree more file back s =
     subst IsTrue (sym (stands-any file tree)) (back (subst IsTrue (stands-any file more) s))
 
-or-right : (a b : Bool) → b ≡ true → (a || b) ≡ true
-or-right true b e = refl
-or-right false b e = e
-
 or-back : (a b : Bool) → a ≡ false → (a || b) ≡ true → b ≡ true
 or-back true b e any = absurd (true≢false e)
 or-back false b e any = any
@@ -50,8 +55,8 @@ pub added-onward : (new : TreeRow) (tree : List TreeRow)
     → add_refusal (standing tree) new.path ≡ None → (file : ℕ) → Onward tree (add_row new tree) file
 added-onward new tree free file =
     onward-any tree (add_row new tree) file
-    (λ any. any-added (stands_test file) new tree free ∙ or-right _ _ any)
-    (λ any. any-added (closed_test file) new tree free ∙ or-right _ _ any)
+    (λ any. any-added (stands_test file) new tree free ∙ or_right _ _ any)
+    (λ any. any-added (closed_test file) new tree free ∙ or_right _ _ any)
 
 pub added-back : (new : TreeRow) (tree : List TreeRow) → add_refusal (standing tree) new.path ≡ None
     → (file : ℕ) → stands_test file new ≡ false → IsTrue (file_stands file (add_row new tree))
@@ -69,11 +74,7 @@ pub file-off : (path : PathNames) (number actor command len file : ℕ) → file
 unfolding file_row
 file-off path number actor command len file low =
     let apart : (number == file) ≡ false = grind (arith, nat_tests) in
-    one _ _ (has_file-is file (file_row path number actor command len) ∙ apart)
-  where
-    one : (a b : Bool) → b ≡ false → (a && b) ≡ false
-    one true b e = e
-    one false b e = refl
+    and_right _ _ (has_file-is file (file_row path number actor command len) ∙ apart)
 
 -- ---- rows are taken
 
@@ -189,15 +190,11 @@ removed-onward next path file tree looks root own h other apart =
     onward-any tree (take_path path tree) other
     (taken-keep tree path (stands_test other)
     (at_path-off tree path Is.Closed (stands_test other) h.in_order root at
-    (λ row is _. and_right' _ _ (off row is))))
+    (λ row is _. and_right _ _ (off row is))))
     (taken-keep tree path (closed_test other)
     (at_path-off tree path Is.Closed (closed_test other) h.in_order root at
-    (λ row is _. and_right' _ _ (off row is))))
+    (λ row is _. and_right _ _ (off row is))))
   where
-    and_right' : (a b : Bool) → b ≡ false → (a && b) ≡ false
-    and_right' true b e = e
-    and_right' false b e = refl
-
     off_one : (row : TreeRow) → find (stands_at row_path path) tree ≡ Some row
         → (row.file == other) ≡ false
     off_one row is =
@@ -261,11 +258,7 @@ closed-stands : (file : ℕ) (row : TreeRow) → closed_test file row ≡ true
 closed-stands file row is =
     let p = and_parts (is_closed_row row) (has_file file row) is in and_from
     (is_closed_row row || is_unclosed_row row) (has_file file row)
-    (left (is_closed_row row) (is_unclosed_row row) p.0) p.1
-  where
-    left : (a b : Bool) → a ≡ true → (a || b) ≡ true
-    left true b e = refl
-    left false b e = absurd (true≢false (sym e))
+    (or_left (is_closed_row row) (is_unclosed_row row) p.0) p.1
 
 pub closing-onward : (file : ℕ) (tree : List TreeRow) (other : ℕ)
     → Onward tree (close_file file tree) other
@@ -320,5 +313,5 @@ stands_of_closed file tree closed =
         (stands_test file row || list_any (stands_test file) rows) ≡ true) [
           | true ↦ λ is _. ap (λ b. b || list_any (stands_test file) rows)
               (closed-stands file row is)
-          | false ↦ λ _ any. or-right (stands_test file row) _ (weaker rows any)
+          | false ↦ λ _ any. or_right (stands_test file row) _ (weaker rows any)
         ]) refl any

@@ -7,7 +7,9 @@ use Rattle.qfs_base.specs.Table.{Each, IsRising}
 use Rattle.qfs_base.specs.declared.image.TreeRow.{TreeRow}
 use Rattle.qfs_model_meta.specs.Grammar.{HasMaker, HasParents, IsPlain, IsTree, files_in}
 use Rattle.qfs_model_meta.specs.TreeRows.{kind_of, row_path, standing}
-use Rattle.std.proofs.Common.{Bool, List, Some, [], ap, arith, cond, false, filter, find, length, length-take, map, nat_eq, nat_lt, refl, suc, sym, take, true, zero, ℕ, ◌&&◌, ◌-◌, ◌<◌, ◌==◌, ◌||◌, ◌∙◌, ◌∷◌, ◌≡◌, ◌≢◌, ◌≤◌}
+use Rattle.std.proofs.Common.{Bool, List, Some, [], ap, arith, cond, false, filter, find, length}
+use Rattle.std.proofs.Common.{length-take, map, nat_eq, nat_lt, refl, suc, sym, take, true, zero, ℕ}
+use Rattle.std.proofs.Common.{◌&&◌, ◌-◌, ◌<◌, ◌==◌, ◌||◌, ◌∙◌, ◌∷◌, ◌≡◌, ◌≢◌, ◌≤◌}
 use Rattle.std.proofs.lemmas.Bool.{and_from, and_parts, eq-eqb, eqb-true, lt-ltb, ltb-true}
 use Rattle.std.specs.List.{list_any, range_with_len}
 use Rattle.std.specs.Option.{option_map}
@@ -16,10 +18,12 @@ use Rattle.std.specs.declared.cmp.Ordering.TheVariants.{Less}
 use Rattle.qfs_base.specs.declared.lists.NameKind.TheVariants as Is
 use Rattle.qfs_laws_tables.specs.Distinct.{copies, distinct-once, once-distinct, one_if}
 use Rattle.qfs_base.specs.EachLaws.{each_weaker}
-use Rattle.qfs_laws_tables.specs.EachRow.{each-range, each_both, each_map, each_of_filter, each_of_map, range-each}
+use Rattle.qfs_laws_tables.specs.EachRow.{each-range, each_both, each_map, each_of_filter}
+use Rattle.qfs_laws_tables.specs.EachRow.{each_of_map, range-each}
 use Rattle.qfs_laws_tables.specs.Keys.{less-not}
 use Rattle.qfs_laws_tables.specs.SomeRow.{any_each, found-any}
-use Rattle.qfs_laws_tables.specs.Sums.{found-le-total, none-total, total, total-filter, total-map, weigh_if}
+use Rattle.qfs_laws_tables.specs.Sums.{found-le-total, none-total, total, total-filter, total-map}
+use Rattle.qfs_laws_tables.specs.Sums.{weigh_if}
 use Rattle.qfs_laws_tree.specs.TreeFacts.{kind-at, kind-row, kind_in, path-is, path-self, row-tied}
 
 -- ---- directories

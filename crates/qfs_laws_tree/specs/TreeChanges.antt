@@ -1,11 +1,18 @@
 -- The name tree: every change but the move keeps it, and what stands in it. Cited by the laws of
 -- the metaserver.
-use Rattle.qfs_base.specs.NameTree.{PathNames, add_refusal, added, is_below, is_filled, kind_at, look_refusal, path_eq, rmdir_refusal, row_cmp, taken}
+use Rattle.qfs_base.specs.NameTree.{PathNames, add_refusal, added, is_below, is_filled, kind_at}
+use Rattle.qfs_base.specs.NameTree.{look_refusal, path_eq, rmdir_refusal, row_cmp, taken}
 use Rattle.qfs_base.specs.Table.{Each, change_row, change_where, place}
 use Rattle.qfs_base.specs.declared.image.TreeRow.{TreeRow}
-use Rattle.qfs_model_meta.specs.TreeRows.{add_row, close_file, close_row, closed_file, file_stands, has_file, is_closed, is_closed_row, is_unclosed, is_unclosed_row, kind_of, row_path, standing, take_file, take_path}
-use Rattle.std.proofs.Common.{Bool, List, None, Some, [], ap, arith, false, filter, length, length-take, nat_eq, nat_lt, not, refl, subst, suc, sym, take, true, zero, ℕ, ◌&&◌, ◌+◌, ◌<◌, ◌==◌, ◌||◌, ◌∙◌, ◌∷◌, ◌≡◌, ◌≤◌}
-use Rattle.std.proofs.lemmas.Bool.{and_from, and_parts, eqb-true, lt-ltb, ltb-true, or_parts, true≢false}
+use Rattle.qfs_model_meta.specs.TreeRows.{add_row, close_file, close_row, closed_file, file_stands}
+use Rattle.qfs_model_meta.specs.TreeRows.{has_file, is_closed, is_closed_row, is_unclosed}
+use Rattle.qfs_model_meta.specs.TreeRows.{is_unclosed_row, kind_of, row_path, standing, take_file}
+use Rattle.qfs_model_meta.specs.TreeRows.{take_path}
+use Rattle.std.proofs.Common.{Bool, List, None, Some, [], ap, arith, false, filter, length}
+use Rattle.std.proofs.Common.{length-take, nat_eq, nat_lt, not, refl, subst, suc, sym, take, true}
+use Rattle.std.proofs.Common.{zero, ℕ, ◌&&◌, ◌+◌, ◌<◌, ◌==◌, ◌||◌, ◌∙◌, ◌∷◌, ◌≡◌, ◌≤◌}
+use Rattle.std.proofs.lemmas.Bool.{and_from, and_parts, eqb-true, lt-ltb, ltb-true, or_parts}
+use Rattle.std.proofs.lemmas.Bool.{or_right, true≢false}
 use Rattle.std.proofs.lemmas.Bool.Decides.{nat_tests}
 use Rattle.std.specs.List.{list_any}
 use Rattle.std.specs.Prelude.{IsTrue, is_some}
@@ -18,8 +25,10 @@ use Rattle.qfs_laws_tables.specs.InOrder.{change_rises, filter_rises, place_rise
 use Rattle.qfs_laws_tables.specs.Placed.{Apart, any-placed, total-placed_apart}
 use Rattle.qfs_laws_tables.specs.SomeRow.{any_change, any_each, any_filter, some-any}
 use Rattle.qfs_laws_tables.specs.Sums.{total, total-filter-le, weigh_if}
-use Rattle.qfs_laws_tree.specs.Tree.{HasDirectory, HasTree, Lies, RowIs, directory-kind, file_count, file_weight, is_directory_at, parents-lie}
-use Rattle.qfs_laws_tree.specs.TreeFacts.{add-free, is-within, look-closed, none-at, path-is, path-self, rmdir-empty, row-ties, tree_total}
+use Rattle.qfs_laws_tree.specs.Tree.{HasDirectory, HasTree, Lies, RowIs, directory-kind, file_count}
+use Rattle.qfs_laws_tree.specs.Tree.{file_weight, is_directory_at, parents-lie}
+use Rattle.qfs_laws_tree.specs.TreeFacts.{add-free, is-within, look-closed, none-at, path-is}
+use Rattle.qfs_laws_tree.specs.TreeFacts.{path-self, rmdir-empty, row-ties, tree_total}
 
 -- ---- what stands, as tests
 
@@ -125,10 +134,6 @@ tree-added next more new tree free is above later h =
   where
     less : (a b c : ℕ) → a < b → b ≤ c → a < c
     less a b c p q = omega arith
-
-    or_right : (a b : Bool) → b ≡ true → (a || b) ≡ true
-    or_right true b e = refl
-    or_right false b e = e
 
     one : (b : Bool) → nat_lt 0 new.file ≡ b → (file : ℕ) (c : Bool) → nat_eq new.file file ≡ c
         → file_count file tree ≤ 1
@@ -256,12 +261,6 @@ tree-emptied next path tree free h =
 
 -- ---- a file is closed
 
-closed_row-directory : (file : ℕ) (parent : PathNames) (row : TreeRow) (b : Bool)
-    → is_directory_at parent (change_row close_row row b) ≡ is_directory_at parent row
-unfolding close_row
-closed_row-directory file parent row true = refl
-closed_row-directory file parent row false = refl
-
 pub tree-closed : (next file : ℕ) (tree : List TreeRow) → 0 < file → HasTree next tree
     → HasTree next (close_file file tree)
 unfolding close_file close_row
@@ -285,7 +284,7 @@ tree-closed next file tree some h = record {
       (has_file file) close_row
       (λ row _ lies n low high. still (take n row.path) (lies n low high))
       (λ row _ lies n low high. still (take n row.path) (lies n low high)) tree h.parents;
-  once = λ file'. let o = h.once file' in let e = same file' tree in omega arith;
+  once = λ other. let o = h.once other in let e = same other tree in omega arith;
 }
   where
     still : (parent : PathNames) → HasDirectory tree parent

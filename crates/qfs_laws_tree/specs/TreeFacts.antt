@@ -1,16 +1,21 @@
 -- Paths, refusals of the name tree, and what stands in it. Cited by the laws of the metaserver.
-use Rattle.qfs_base.specs.NameTree.{PathNames, Standing, add_refusal, directory_refusal, file_refusal, is_filled, is_within, kind_at, look_refusal, new_refusal, parents_of, parents_refusal, path_eq, rmdir_refusal, row_cmp, stands_at, through_refusal}
+use Rattle.qfs_base.specs.NameTree.{PathNames, Standing, add_refusal, directory_refusal}
+use Rattle.qfs_base.specs.NameTree.{file_refusal, is_filled, is_within, kind_at, look_refusal}
+use Rattle.qfs_base.specs.NameTree.{new_refusal, parents_of, parents_refusal, path_eq}
+use Rattle.qfs_base.specs.NameTree.{rmdir_refusal, row_cmp, stands_at, through_refusal}
 use Rattle.qfs_base.specs.Table.{Each, first_of}
 use Rattle.qfs_base.specs.declared.image.TreeRow.{TreeRow}
 use Rattle.qfs_base.specs.declared.lists.NameKind.{NameKind}
 use Rattle.qfs_base.specs.declared.reply.TreeRefusal.{TreeRefusal}
 use Rattle.qfs_model_meta.specs.TreeRows.{kind_of, row_path, standing}
-use Rattle.std.proofs.Common.{Bool, List, None, Option, Some, [], ap, cond, false, find, length, map, nat_eq, refl, sym, take, true, ℕ, ◌∙◌, ◌∷◌, ◌≡◌, ◌≢◌}
+use Rattle.std.proofs.Common.{Bool, List, None, Option, Some, [], ap, cond, false, find, length}
+use Rattle.std.proofs.Common.{map, nat_eq, refl, sym, take, true, ℕ, ◌∙◌, ◌∷◌, ◌≡◌, ◌≢◌}
 use Rattle.std.proofs.lemmas.Bool.Decides.{Decides-eqb}
 use Rattle.std.proofs.lemmas.Slice.Eq.{slice_eq-Decides}
 use Rattle.std.specs.Bool.{Decides, then_some}
 use Rattle.std.specs.Cmp.{IsTotalOrder, on_total}
-use Rattle.std.specs.Cmp.Lexicographic.{lists_ties, lists_total, nat_list_cmp_total, pointwise, slice_cmp, texts_ties}
+use Rattle.std.specs.Cmp.Lexicographic.{lists_ties, lists_total, nat_list_cmp_total, pointwise}
+use Rattle.std.specs.Cmp.Lexicographic.{slice_cmp, texts_ties}
 use Rattle.std.specs.Option.{option_map, option_or}
 use Rattle.std.specs.Ordering.{is_eq, nat_cmp}
 use Rattle.std.specs.declared.cmp.Ordering.{Ordering}

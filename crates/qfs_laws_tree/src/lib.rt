@@ -1,5 +1,5 @@
-//! Laws of the metaserver's name tree and file history: the lemma files of specs/ say what each change
-//! leaves of them. Each function here does nothing, and its contract is a law.
+//! Laws of the metaserver's name tree and file history: the lemma files of specs/ say what each
+//! change leaves of them. Each function here does nothing, and its contract is a law.
 #![tactic(auto)]
 
 ghost use Rattle.std.specs.Prelude.{◌≡◌, ℕ, List, None};
@@ -16,11 +16,14 @@ ghost use Rattle.qfs_model_meta.specs.TreeRows.{standing, take_path, move_path};
 /// What the rules of the tree let be taken or moved leaves a tree.
 pub fn changes_leave_a_tree()
     ensures removed { (next : ℕ) (path : PathNames) (tree : List TreeRow)
-        → look_refusal (standing tree) path ≡ None → IsTree next tree → IsTree next (take_path path tree) }
+        → look_refusal (standing tree) path ≡ None → IsTree next tree
+        → IsTree next (take_path path tree) }
     ensures emptied { (next : ℕ) (path : PathNames) (tree : List TreeRow)
-        → rmdir_refusal (standing tree) path ≡ None → IsTree next tree → IsTree next (take_path path tree) }
+        → rmdir_refusal (standing tree) path ≡ None → IsTree next tree
+        → IsTree next (take_path path tree) }
     ensures moved { (from to : PathNames) (tree : List TreeRow) (next : ℕ) → IsPath to
-        → rename_refusal (standing tree) from to ≡ None → IsTree next tree → IsTree next (move_path from to tree) }
+        → rename_refusal (standing tree) from to ≡ None → IsTree next tree
+        → IsTree next (move_path from to tree) }
 {}
 
 /// Behind a move or the removal of a directory the tree is still that of the file history.
@@ -28,6 +31,7 @@ pub fn changes_are_history()
     ensures moved { (m : MetaImage) (from to : PathNames) → IsPath to
         → rename_refusal (standing m.tree) from to ≡ None → TreeIsHistory m
         → TreeIsHistory (apply m (MovePath from to)) }
-    ensures emptied { (m : MetaImage) (path : PathNames) → rmdir_refusal (standing m.tree) path ≡ None
+    ensures emptied { (m : MetaImage) (path : PathNames)
+        → rmdir_refusal (standing m.tree) path ≡ None
         → TreeIsHistory m → TreeIsHistory (apply m (TakeDirectory path)) }
 {}

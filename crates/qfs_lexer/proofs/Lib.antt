@@ -1,6 +1,6 @@
-mod HexWords
-mod NumberTexts
-mod PathWords
-mod RunWords
-mod Splits
-mod TextLines
+pub mod HexWords
+pub mod NumberTexts
+pub mod PathWords
+pub mod RunWords
+pub mod Splits
+pub mod TextLines

@@ -14,7 +14,7 @@ use Rattle.qfs_model_grammar.specs.Said.{Said, ◌>>=◌, if_kept}
 use Rattle.qfs_model_grammar.specs.Kinds.{number_of, number_in}
 
 -- a text that is a number in decimal writes that number
-number_of_decimal : (n : ℕ) (text : List ℕ) → n < 2 ^ 64 → decimal n ≡ text → number_of text ≡ Some n
+pub number_of_decimal : (n : ℕ) (text : List ℕ) → n < 2 ^ 64 → decimal n ≡ text → number_of text ≡ Some n
 unfolding number_of
 number_of_decimal n text small written =
     let value : digits_value 10 text ≡ n = ap (digits_value 10) (sym written) ∙ (decimal_is_IsNumeral n (omega arith)).1 in

@@ -60,7 +60,7 @@ slash_below : (below : List ℕ) (found : Option (List (List ℕ))) → path_bel
 unfolding path_of
 slash_below below found is = is
 
-spelled_by : (names : List (List ℕ)) → IsPath names → path_of (path_text names) ≡ Some names
+pub spelled_by : (names : List (List ℕ)) → IsPath names → path_of (path_text names) ≡ Some names
 unfolding path_of path_below
 spelled_by [] is = refl
 spelled_by (name ∷ names) is =
@@ -99,7 +99,7 @@ spells_at : (b : Bool) (byte : ℕ) (below : List ℕ) (names : List (List ℕ))
 spells_at true byte below names is found = subst (λ (first : ℕ). SpellsPath (first ∷ below) names) (sym (is refl)) (spells_below below names found)
 spells_at false byte below names is found = cc
 
-spells : (word : List ℕ) (names : List (List ℕ)) → path_of word ≡ Some names → SpellsPath word names
+pub spells : (word : List ℕ) (names : List (List ℕ)) → path_of word ≡ Some names → SpellsPath word names
 unfolding path_of
 spells [] names is = cc
 spells (byte ∷ below) names is = spells_at (byte == slash) byte below names (λ same. eqb-true _ _ same) is

@@ -4,6 +4,7 @@
 
 mod counts;
 mod hexadecimal;
+mod limits;
 mod lines;
 mod numbers;
 mod paths;
@@ -12,6 +13,7 @@ mod runs;
 
 pub use counts::{Pair, Quadruple, Triple, four_words, no_word, one_word, three_words, two_words};
 pub use hexadecimal::bytes_in;
+pub use limits::{MOST_ACTORS, MOST_TICKS};
 pub use lines::{Lines, Words, is_text};
 pub use numbers::{number_in, stripe_in};
 pub use paths::path_in;

@@ -3,14 +3,12 @@ ghost use Rattle.std.specs.Prelude.{◌≡◌, ◌≤◌, ◌∷◌, [], length,
 ghost use Rattle.qfs_lexer.specs.Left.{IsAroundTimes, is_other};
 ghost use Rattle.qfs_model_grammar.specs.Kinds.{run_in, run_of, is_digit, is_times, outcome_of_mark};
 
+use crate::limits::MOST_ACTORS;
 use crate::numbers::number_in;
 use qfs_base::history::{Outcome, Step};
 use qfs_base::order::StepRun;
 use qfs_base::script::ScriptCause;
 use qfs_base::sizes::LONGEST_RUN;
-
-/// The most actors of a script, which have the numbers up to this one.
-const MOST_ACTORS: u32 = 64;
 
 /// Whether a byte is no digit.
 fn is_other(byte: u8) -> bool

@@ -2,7 +2,6 @@
 use Rattle.std.specs.Prelude.{◌≡◌, ℕ, Option, Some, None, IfSome, option_map, ⊤}
 use Rattle.qfs_base.specs.declared.request.NodeRequest.{NodeRequest}
 use Rattle.qfs_model_actor.specs.Work.{Work, request_in, node_of_request}
-use Rattle.qfs_machine.specs.Askable.{IsAskable}
 use Rattle.qfs_machine.specs.declared.machine.Readiness.{Readiness}
 use Rattle.qfs_machine.specs.declared.machine.Readiness.TheVariants.{Unready, Ready, Out}
 
@@ -35,8 +34,9 @@ AsksNext work next = request_in work ≡ next
 abbrev pub node_asked : Work → Option ℕ
 node_asked work = option_map node_of_request (request_in work)
 
--- a request is kept where the machine is ready for it, and it is the next one of what is left
-abbrev pub IsPrepared : Work → Readiness → Option NodeRequest → Type 0
-IsPrepared work Unready request = request ≡ None
-IsPrepared work Ready request = AsksNext work request × IfSome request IsAskable
-IsPrepared work Out request = request ≡ None
+-- a request is kept where the machine is ready for it, and it is the next one of what is left, and
+-- one that may be asked
+abbrev pub IsPrepared : (NodeRequest → Type 0) → Work → Readiness → Option NodeRequest → Type 0
+IsPrepared may work Unready request = request ≡ None
+IsPrepared may work Ready request = AsksNext work request × IfSome request may
+IsPrepared may work Out request = request ≡ None

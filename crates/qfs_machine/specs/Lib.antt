@@ -2,3 +2,4 @@ pub mod Askable
 pub mod Asking
 pub mod Endings
 pub mod Kept
+pub mod Session

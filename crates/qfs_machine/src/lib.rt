@@ -7,8 +7,10 @@ mod ending;
 mod ghost_value;
 mod machine;
 mod pending;
+mod protocol;
 
 pub use ending::Ending;
 pub use ghost_value::Ghost;
 pub use machine::{Machine, Readiness};
 pub use pending::Pending;
+pub use protocol::{Protocol, Session};

@@ -3,7 +3,7 @@ ghost use Rattle.std.specs.Prelude.{◌≡◌, None, IfSome, OnOk, OnErr};
 ghost use Rattle.qfs_model_actor.specs.Work.{Work, goes_on, request_in};
 ghost use Rattle.qfs_machine.specs.declared.machine.Readiness.{Readiness};
 ghost use Rattle.qfs_machine.specs.Asking.{IsOut, MayHandOut, after_asking, node_asked};
-ghost use Rattle.qfs_machine.specs.Askable.{IsAskable};
+ghost use Rattle.qfs_base.specs.declared.request.NodeRequest.{NodeRequest};
 ghost use Rattle.qfs_machine.specs.Kept.{Reports};
 
 use qfs_base::command::{Excerpt, Reply};
@@ -35,6 +35,9 @@ pub trait Machine: Drop + Send + Sync {
     /// How it stands to its next request.
     ghost readiness: { Self → Readiness };
 
+    /// What it may ask, of all that can be asked.
+    ghost may_ask: { NodeRequest → Type 0 };
+
     /// Takes the memory for the next request and for what its reply makes the machine keep, so that
     /// `next`, `took` and `into_reply` take none. Where memory is wanting it stands as before.
     fn ready(&mut self) -> Result<(), AllocError>
@@ -54,7 +57,7 @@ pub trait Machine: Drop + Send + Sync {
         ensures request { result ≡ request_in (rest self.old) }
         ensures rest { rest self.new ≡ rest self.old }
         ensures out { readiness self.new ≡ after_asking result (readiness self.old) }
-        ensures askable { IfSome result IsAskable };
+        ensures askable { IfSome result may_ask };
 
     /// Goes on with a node's reply to the request that is out.
     fn took(&mut self, reply: NodeReply)

@@ -21,6 +21,7 @@ use Rattle.qfs_base.specs.declared.request.SlotId.{SlotId}
 use Rattle.qfs_base.specs.declared.rules.Rules.{Rules}
 use Rattle.qfs_model_actor.specs.Actor.{Actor}
 use Rattle.qfs_model_meta.specs.Dropped.{dropped_at}
+use Rattle.qfs_model_meta.specs.Holding.{Holding, is_same_slot}
 use Rattle.qfs_model_meta.specs.LeasedGrants.{has_block}
 use Rattle.qfs_model_meta.specs.Lists.{block_count}
 use Rattle.qfs_model_meta.specs.Past.{GivenLease}
@@ -31,7 +32,7 @@ use Rattle.qfs_model_meta.specs.Sound.{same_lease}
 use Rattle.qfs_model_meta.specs.TreeRows.{has_file, closed_file, unclosed_file, is_closed_row}
 use Rattle.qfs_model_world.specs.Events.{Event, past_of}
 use Rattle.qfs_model_world.specs.World.{World}
-use Rattle.qfs_model_promises.specs.Heard.{Exchange, Holding, exchanges_of, holding_of, is_same_slot}
+use Rattle.qfs_model_promises.specs.Heard.{Exchange, exchanges_of, holding_of}
 use Rattle.qfs_model_promises.specs.HeardSteps.{HeardAreSteps}
 
 -- ---- the slots of the state

@@ -29,10 +29,6 @@ unfoldable pub is_confirm : MetaRequest → Bool
 is_confirm (Ask.Confirm block slot version lease) = true
 is_confirm request = false
 
-unfoldable pub is_tick : MetaRequest → Bool
-is_tick Ask.Tick = true
-is_tick request = false
-
 -- whether a request to the metaserver passes the test, one to a chunk server, or one to the server of a number
 unfoldable pub asks_meta : (MetaRequest → Bool) → NodeRequest → Bool
 asks_meta test (To.Meta request) = test request

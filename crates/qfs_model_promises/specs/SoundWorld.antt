@@ -1,7 +1,7 @@
 -- The sound world: what is to hold after every run, in nine parts. What the metaserver alone can tell of each part is
 -- a fact of its own; here stands what ties it to the chunk servers and to the actors. Each part speaks of the steps so far
 -- and of the world behind them; the bytes of files may be those of a longer run.
-use Rattle.std.specs.Prelude.{◌≡◌, ℕ, ⊤, ◌<◌, ◌≤◌, ◌⊎◌, ◌==◌, ◌&&◌, Bool, false, List, map, flat_map, length, take, drop, Some, None, IfSome, is_some, IsTrue}
+use Rattle.std.specs.Prelude.{◌≡◌, ℕ, ⊤, ◌≤◌, ◌⊎◌, ◌==◌, ◌&&◌, Bool, false, List, map, flat_map, length, take, drop, Some, None, IfSome, IsTrue}
 use Rattle.std.specs.List.{list_any, IsDistinct, enumerate_from}
 use Rattle.qfs_base.specs.Files.{same_pair}
 use Rattle.qfs_base.specs.Key.{key_cmp}
@@ -15,7 +15,6 @@ use Rattle.qfs_base.specs.declared.chunk.Copy.{Copy}
 use Rattle.qfs_base.specs.declared.history.Entry.{Entry}
 use Rattle.qfs_base.specs.declared.history.Entry.TheVariants as Wrote
 use Rattle.qfs_base.specs.declared.history.Step.{Step}
-use Rattle.qfs_base.specs.declared.image.MetaImage.{MetaImage}
 use Rattle.qfs_base.specs.declared.image.TreeRow.{TreeRow}
 use Rattle.qfs_base.specs.declared.reply.ChunkAnswer.{ChunkAnswer}
 use Rattle.qfs_base.specs.declared.reply.ChunkAnswer.TheVariants as Did
@@ -34,12 +33,12 @@ use Rattle.qfs_model_actor.specs.Actor.{Actor}
 use Rattle.qfs_model_meta.specs.Asked.{WasGrantedOn}
 use Rattle.qfs_model_meta.specs.Dropped.{dropped_at}
 use Rattle.qfs_model_meta.specs.Grammar.{IsImage}
+use Rattle.qfs_model_meta.specs.Holding.{KeepsHolding}
 use Rattle.qfs_model_meta.specs.Leases.{is_live_lease}
-use Rattle.qfs_model_meta.specs.Past.{Past, SlotCopy, ListedCopy, GivenLease}
+use Rattle.qfs_model_meta.specs.Past.{Past, SlotCopy, ListedCopy}
 use Rattle.qfs_model_meta.specs.Servers.{server_at, is_live}
 use Rattle.qfs_model_meta.specs.Slots.{slot_at, same_block, granted_copy}
 use Rattle.qfs_model_meta.specs.Sound.{GrantedOnce, LivesRise, LeasesHold, IsLetGo, OneServerEach, TreeIsHistory}
-use Rattle.qfs_model_meta.specs.TreeRows.{file_stands, unclosed_file}
 use Rattle.qfs_model_server.specs.Chunk.{Chunk}
 use Rattle.qfs_model_server.specs.Server.{Server}
 use Rattle.qfs_model_world.specs.Audit.{key_at}
@@ -48,7 +47,7 @@ use Rattle.qfs_model_world.specs.FileHistory.{IsHistoryOf}
 use Rattle.qfs_model_world.specs.Made.{Creation, creations, creation_of, made, right_bytes}
 use Rattle.qfs_model_world.specs.Puts.{put_path, puts_of}
 use Rattle.qfs_model_world.specs.World.{World, numbered, after}
-use Rattle.qfs_model_promises.specs.Heard.{Exchange, Holding, Inventoried, exchanges_of, holding_of, inventories_of}
+use Rattle.qfs_model_promises.specs.Heard.{Exchange, Inventoried, exchanges_of, holding_of, inventories_of}
 use Rattle.qfs_model_promises.specs.TickedLeases.{was_ended_by_tick}
 
 -- the servers with their numbers, and all that actors were told in their present commands
@@ -179,39 +178,12 @@ pub record LeasesKeep (world : World) (past : Past) : Type 0 where
 
 -- ---- held by its actor
 
--- a pending grant is there and the actor's own
-abbrev pub HasGrant : MetaImage → ℕ → Granted → Type 0
-HasGrant m actor g =
-    (slot_at m.slots g.block g.slot).grant ≡ Some (record {
-      copy = record { server = g.server; life = g.life; version = g.version };
-      actor = actor;
-      lease = g.lease;
-    })
-
--- only the file of a recovery or move may be removed, and its grant with it
-abbrev pub KeepsGrant : MetaImage → ℕ → Granted → Type 0
-KeepsGrant m actor g =
-    HasGrant m actor g
-    ⊎ ((0 < g.lease) × (file_stands g.block.file m.tree ≡ false))
-
--- a lease was given so, and is live unless a Tick ended it since
-unfoldable pub is_given : GivenLease → GivenLease → Bool
-is_given a b = (a.lease == b.lease) && (a.actor == b.actor) && (a.file == b.file)
-
-pub record KeepsLease (m : MetaImage) (steps : List Event) (lease : GivenLease) : Type 0 where
-  pub given : IsTrue (list_any (is_given lease) (past_of steps).leases)
-  pub live : IsTrue (is_live_lease lease.lease m.leases) ⊎ IsTrue (was_ended_by_tick lease.lease steps)
-
--- what a command got and hasn't given back is there and its actor's own
-pub record KeepsHolding (m : MetaImage) (steps : List Event) (actor : ℕ) (holding : Holding) : Type 0 where
-  pub file : IfSome holding.file (λ file. IsTrue (is_some (unclosed_file actor file m.tree)))
-  pub lease : IfSome holding.lease (KeepsLease m steps)
-  pub grants : Each (KeepsGrant m actor) holding.grants
-
+-- what a command got and hasn't given back is there and its actor's own, but for a lease that a Tick ended
 abbrev pub HeldByActors : World → List Event → Type 0
 HeldByActors world steps =
     Each (λ (actor : Actor). dropped_at actor.number world.meta.dropped ≡ None
-    → KeepsHolding world.meta steps actor.number (holding_of actor)) world.actors
+    → KeepsHolding (past_of steps) (λ lease. was_ended_by_tick lease steps) world.meta actor.number (holding_of actor))
+    world.actors
 
 -- ---- the tree is the history
 

@@ -1,9 +1,10 @@
 -- Leases whose term a Tick ended.
 use Rattle.std.specs.Prelude.{ℕ, ◌&&◌, not, Bool, List}
 use Rattle.std.specs.List.{list_any}
+use Rattle.qfs_model_meta.specs.Holding.{is_tick}
 use Rattle.qfs_model_meta.specs.Leases.{is_live_lease}
 use Rattle.qfs_model_world.specs.Events.{Event, world_behind}
-use Rattle.qfs_model_promises.specs.Requests.{is_tick, asks_meta}
+use Rattle.qfs_model_promises.specs.Requests.{asks_meta}
 
 -- whether a step is a Tick before which a lease was live, and behind which it isn't
 unfoldable pub ends_at_tick : ℕ → Event → Bool

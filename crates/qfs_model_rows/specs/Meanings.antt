@@ -18,6 +18,7 @@ use Rattle.qfs_base.specs.declared.reply.NodeReply.TheVariants as From
 use Rattle.qfs_base.specs.declared.reply.Opened.{Opened}
 use Rattle.qfs_base.specs.declared.script.Script.{Script}
 use Rattle.qfs_model_actor.specs.Work.{Report}
+use Rattle.qfs_model_meta.specs.Holding.{Holding}
 use Rattle.qfs_model_meta.specs.Past.{SlotCopy}
 use Rattle.qfs_model_server.specs.Chunk.{Chunk}
 use Rattle.qfs_model_server.specs.Server.{Server}
@@ -31,7 +32,7 @@ use Rattle.qfs_model_world.specs.Made.{made, right_bytes}
 use Rattle.qfs_model_world.specs.Puts.{command_of}
 use Rattle.qfs_model_world.specs.Reports.{IsPlaced}
 use Rattle.qfs_model_world.specs.World.{after}
-use Rattle.qfs_model_promises.specs.Heard.{Holding, holding_of}
+use Rattle.qfs_model_promises.specs.Heard.{holding_of}
 use Rattle.qfs_model_rows.specs.Failures.{degraded, stopped_in_get, stopping_order, put_and_get, three_fail, four_fail}
 use Rattle.qfs_model_rows.specs.Refusals.{put_anew, anew_order}
 use Rattle.qfs_model_rows.specs.Repairs.{moved_in_get, moving_order}

@@ -1,6 +1,7 @@
 //! The machine of a get.
 
 ghost use Rattle.std.specs.Prelude.{◌≡◌, ◌≤◌};
+ghost use Rattle.qfs_machine.specs.Askable.{IsAskable};
 ghost use Rattle.qfs_machine.specs.Kept.{Reports};
 ghost use Rattle.qfs_machine.specs.declared.machine.Readiness.{Readiness};
 ghost use Rattle.qfs_model_actor.specs.Get.{get_work, range_of};
@@ -39,6 +40,7 @@ impl Model for Reader {
 
     ghost Value = { ReaderState };
 
+    ghost use Rattle.qfs_machine.specs.Askable.{IsAskable};
     ghost use Rattle.qfs_machine.specs.Asking.{IsPrepared};
     ghost use Rattle.qfs_reader.specs.Rest.{rest_of_get};
     ghost use Rattle.qfs_reader.specs.ReaderState.{IsGetStage, IsSuppliedWhile};
@@ -48,7 +50,8 @@ impl Model for Reader {
 
     ghost invariant = { λ it.
         IsGetStage it.get it.stage
-        × IsPrepared (rest_of_get it.get it.stage) it.pending.readiness it.pending.request
+        × IsPrepared IsAskable (rest_of_get it.get it.stage) it.pending.readiness
+        it.pending.request
         × IsSuppliedWhile it.pending.readiness it.get it.stage };
 }
 
@@ -159,6 +162,8 @@ impl Machine for Reader {
     ghost rest = { rest_of_reader };
 
     ghost readiness = { λ it. it.readiness };
+
+    ghost may_ask = { IsAskable };
 
     fn ready(&mut self) -> Result<(), AllocError> {
         match self.pending.readiness {

@@ -18,13 +18,13 @@ use Rattle.qfs_record.proofs.PartLaws.{IsPart, Takes, map_some, number8, number3
 
 -- ---- heads
 
-block-is_part : IsPart block
+pub block-is_part : IsPart block
 block-is_part = shaped-is_part _ _ _ (λ v. refl) (λ b. refl) (pair-is_part _ _ number32 number32)
 
-slot-is_part : IsPart slot
+pub slot-is_part : IsPart slot
 slot-is_part = such-is_part (λ s. nat_lt s 9) _ number8
 
-key-is_part : IsPart chunk_key
+pub key-is_part : IsPart chunk_key
 key-is_part = shaped-is_part _ _ _ (λ v. refl) (λ k. refl) (pair-is_part _ _ block-is_part (pair-is_part _ _ slot-is_part number32))
 
 fields-is_part : IsPart fields

@@ -101,7 +101,7 @@ fn fields_at(bytes: &[u8]) -> Option<((ChunkKey, u32), &[u8])>
 }
 
 /// The key at the front: file, index, slot and version.
-fn key_at(bytes: &[u8]) -> Option<(ChunkKey, &[u8])>
+pub fn key_at(bytes: &[u8]) -> Option<(ChunkKey, &[u8])>
     ensures { option_map (λ front. (front.0, front.1.now)) result ≡ chunk_key.read bytes.now }
 {
     let (block, rest) = block_at(bytes)?;
@@ -116,7 +116,7 @@ fn key_at(bytes: &[u8]) -> Option<(ChunkKey, &[u8])>
 }
 
 /// The file and index at the front.
-fn block_at(bytes: &[u8]) -> Option<(BlockId, &[u8])>
+pub fn block_at(bytes: &[u8]) -> Option<(BlockId, &[u8])>
     ensures { option_map (λ front. (front.0, front.1.now)) result ≡ block.read bytes.now }
 {
     let (file, rest) = u32_at(bytes)?;
@@ -124,8 +124,8 @@ fn block_at(bytes: &[u8]) -> Option<(BlockId, &[u8])>
     Some((BlockId { file, index }, rest))
 }
 
-/// The slot at the front.
-fn slot_at(bytes: &[u8]) -> Option<(Slot, &[u8])>
+/// The slot at the front, which is below 9.
+pub fn slot_at(bytes: &[u8]) -> Option<(Slot, &[u8])>
     ensures { option_map (λ front. (front.0, front.1.now)) result ≡ slot.read bytes.now }
 {
     let (slot, rest) = u8_at(bytes)?;
@@ -189,13 +189,23 @@ fn put_fields(mark: [u8; 4], head: Head, out: &mut Vec<u8>) -> Result<(), AllocE
     put_u32(head.len, out)
 }
 
-/// Puts a chunk's key at the end of `out`: file, index, slot and version.
-fn put_key(key: ChunkKey, out: &mut Vec<u8>) -> Result<(), AllocError>
+/// Puts a chunk's key at the end of `out`: file, index, slot and version. On want of memory only a
+/// front of it stands there.
+pub fn put_key(key: ChunkKey, out: &mut Vec<u8>) -> Result<(), AllocError>
     ensures ok { OnOk result (out.new.items ≡ out.old.items ++ chunk_key.text key) }
     ensures err { OnErr result ((front : List ℕ) × (out.new.items ≡ out.old.items ++ front)) }
 {
-    put_u32(key.block.file, out)?;
-    put_u32(key.block.index, out)?;
+    put_block(key.block, out)?;
     put_u8(key.slot, out)?;
     put_u32(key.version, out)
+}
+
+/// Puts the file and index of a block at the end of `out`. On want of memory only a front of them
+/// stands there.
+pub fn put_block(id: BlockId, out: &mut Vec<u8>) -> Result<(), AllocError>
+    ensures ok { OnOk result (out.new.items ≡ out.old.items ++ block.text id) }
+    ensures err { OnErr result ((front : List ℕ) × (out.new.items ≡ out.old.items ++ front)) }
+{
+    put_u32(id.file, out)?;
+    put_u32(id.index, out)
 }

@@ -8,4 +8,6 @@ mod reading;
 mod writing;
 
 pub use chunk::{ChunkRead, chunk_records_are_apart, read_chunk, write_chunk};
-pub use head::{Head, is_second, read_head};
+pub use head::{Head, block_at, is_second, key_at, put_block, put_key, read_head, slot_at};
+pub use reading::{counted_u16_at, counted_u32_at, u8_at, u16_at, u32_at, u64_at};
+pub use writing::{put_u8, put_u16, put_u32, put_u64};

@@ -53,6 +53,17 @@ pub fn u64_at(bytes: &[u8]) -> Option<(u64, &[u8])>
     Some((number, rest))
 }
 
+/// Bytes whose count stands before them in two bytes.
+pub fn counted_u16_at(bytes: &[u8]) -> Option<(&[u8], &[u8])>
+    ensures { option_map (λ front. (front.0.now, front.1.now)) result ≡ counted_at w16 bytes.now }
+{
+    let (count, rest) = u16_at(bytes)?;
+    if rest.len() < count as usize {
+        return None;
+    }
+    Some(rest.split_at(count as usize))
+}
+
 /// Bytes whose count stands before them in four bytes.
 pub fn counted_u32_at(bytes: &[u8]) -> Option<(&[u8], &[u8])>
     ensures { option_map (λ front. (front.0.now, front.1.now)) result ≡ counted_at w32 bytes.now }

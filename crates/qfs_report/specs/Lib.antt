@@ -1,1 +1,3 @@
+pub mod AuditOfImage
+pub mod AuditTables
 pub mod Pending

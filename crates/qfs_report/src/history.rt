@@ -5,8 +5,8 @@ ghost use Rattle.std.specs.Prelude.{◌≡◌, ◌++◌, ◌+◌, ◌≤◌, ◌
 ghost use Rattle.qfs_model_text.specs.Line.{more_words};
 ghost use Rattle.qfs_model_text.specs.History.{entry_words, history_lines_from, history_lines};
 
-use crate::words::{end_line, push_number, push_path, push_word};
 use qfs_base::history::Entry;
+use qfs_lines::words::{end_line, push_number, push_path, push_word};
 use std::alloc::AllocError;
 
 /// Appends the words of a change.

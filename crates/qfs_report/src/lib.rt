@@ -1,11 +1,14 @@
-//! The output of a run: the replies, the history of the files and the order of steps.
+//! The output of a run: the replies, the history of the files, the audit and the order of steps.
 #![tactic(auto)]
 
+mod audit;
+mod closed;
+mod held;
 mod history;
 mod order;
-mod reply;
-mod words;
+mod output;
 
 pub use history::push_history;
 pub use order::push_order;
-pub use reply::push_replies;
+pub use output::text;
+pub use qfs_lines::push_replies;

@@ -7,10 +7,10 @@ ghost use Rattle.qfs_model_text.specs.Line.{more_words, spaced};
 ghost use Rattle.qfs_model_text.specs.Order.{outcome_mark, run_word, runs, runs_after, order_line};
 ghost use Rattle.qfs_report.specs.Pending.{IsPending, words_to_come};
 
-use crate::words::{end_line, push_digits, push_number};
 use qfs_base::history::{Outcome, Step};
 use qfs_base::order::{Order, StepRun};
 use qfs_base::sizes::LONGEST_RUN;
+use qfs_lines::words::{end_line, push_digits, push_number};
 use std::alloc::AllocError;
 
 /// How a step that didn't come out done is marked.

@@ -19,7 +19,8 @@ use Rattle.qfs_table.specs.Places.{IsFirst, IsPlaced, IsSought}
 use Rattle.qfs_table.proofs.CutLaws.{rising_cut, cut_back}
 use Rattle.qfs_table.proofs.FlatLaws.{flat_cut, back_end}
 use Rattle.qfs_base.specs.EachLaws.{each_weaker, each_append}
-use Rattle.qfs_table.proofs.EachLaws.{each_back}
+use Rattle.qfs_laws_tables.specs.EachRow.{each-right, find_none}
+use Rattle.qfs_laws_tables.specs.Keys.{equal-is}
 
 -- ---- what a comparison was
 
@@ -51,11 +52,6 @@ less_is Less e f = refl
 less_is Equal e f = absurd (true≢false f)
 less_is Greater e f = absurd (true≢false e)
 
-eq_is : (o : Ordering) → is_eq o ≡ true → o ≡ Equal
-eq_is Less e = absurd (true≢false (sym e))
-eq_is Equal e = refl
-eq_is Greater e = absurd (true≢false (sym e))
-
 -- ---- a key cuts the rows
 
 module _ {X : Type 0} (cmp : X → X → Ordering) (order : X → Ordering)
@@ -73,12 +69,6 @@ find_skip : {X : Type 0} (test : X → Bool) (xs ys : List X) → Each (λ row. 
 find_skip test [] ys each = refl
 find_skip test (x ∷ xs) ys each =
     ap (λ b. cond b (Some x) (find test (xs ++ ys))) each.0 ∙ find_skip test xs ys each.1
-
-find_none : {X : Type 0} (test : X → Bool) (rows : List X) → Each (λ row. test row ≡ false) rows →
-    find test rows ≡ None
-find_none test [] each = refl
-find_none test (row ∷ rows) each =
-    ap (λ b. cond b (Some row) (find test rows)) each.0 ∙ find_none test rows each.1
 
 find_first : {X : Type 0} (test : X → Bool) (rows : List X) → Each (λ row. test row ≡ true) rows →
     find test rows ≡ slice_get rows 0
@@ -114,7 +104,7 @@ place_upon : {X : Type 0} (order : X → X → Ordering) (new : X) (rows : List 
     starts_tied (order new) rows ≡ true → place order new rows ≡ new ∷ drop 1 rows
 place_upon order new [] tied = absurd (true≢false (sym tied))
 place_upon order new (row ∷ rows) tied = ap (place_before new row rows (place order new rows))
-    (eq_is _ tied)
+    (equal-is _ tied)
 
 place_ahead : {X : Type 0} (order : X → X → Ordering) (new : X) (rows : List X) →
     starts_tied (order new) rows ≡ false → Each (λ row. is_gt (order new row) ≡ false) rows →
@@ -237,7 +227,7 @@ first_only cmp order alone (row ∷ rows) rising =
     ≡ cond (not b) (row ∷ without (has_key order) rows) (without (has_key order) rows)) [
       | true ↦ λ same. sym (without_none (has_key order) rows
           (each_weaker _ _ (λ later above. ap is_eq
-          (alone row later above (eq_is (order row) same))) rows rising.0))
+          (alone row later above (equal-is (order row) same))) rows rising.0))
       | false ↦ λ _. ap (λ rest. row ∷ rest) (first_only cmp order alone rows rising.1)
     ] refl
 
@@ -387,44 +377,6 @@ module _ {X Z : Type 0} (new : X) (chunks : List (Vec X Z)) (at : Place) where
         ap length (flat_cut chunks at.chunk at.row),
       )
 
--- ---- rising tables
-
-each_placed : {X : Type 0} (P : X → Type 0) (order : X → X → Ordering) (new : X) (rows : List X) →
-    P new → Each P rows → Each P (place order new rows)
-each_placed P order new [] holds each = (holds, tt)
-each_placed P order new (row ∷ rows) holds each =
-    elim (order new row) as (λ o. Each P (place_before new row rows (place order new rows) o)) [
-      | Less ↦ (holds, each)
-      | Equal ↦ (holds, each.1)
-      | Greater ↦ (each.0, each_placed P order new rows holds each.1)
-    ]
-
-module _ {X : Type 0} {order : X → X → Ordering} (total : IsTotalOrder order) where
-  above_too : (new row : X) (rows : List X) → order new row ≡ Less →
-      Each (λ later. order row later ≡ Less) rows → Each (λ later. order new later ≡ Less) rows
-  above_too new row rows below each =
-      each_weaker _ _ (λ later above. total.trans new row later below above) rows each
-
-  in_its_place : (new row : X) (rows : List X) → order new row ≡ Equal →
-      Each (λ later. order row later ≡ Less) rows → Each (λ later. order new later ≡ Less) rows
-  in_its_place new row rows same each =
-      each_weaker _ _ (λ later above. total.congr new row later same ∙ above) rows each
-
-  pub place_rises : (new : X) (rows : List X) → IsRising order rows →
-      IsRising order (place order new rows)
-  place_rises new [] rising = (tt, tt)
-  place_rises new (row ∷ rows) rising =
-      elim (order new row) as (λ o. order new row ≡ o →
-      IsRising order (place_before new row rows (place order new rows) o)) [
-        | Less ↦ λ below. ((below, above_too new row rows below rising.0), rising)
-        | Equal ↦ λ same. (in_its_place new row rows same rising.0, rising.1)
-        | Greater ↦ λ above. (
-          each_placed _ order new rows
-              (total.antisymm row new ∙ ap ordering_reverse above) rising.0,
-          place_rises new rows rising.1,
-        )
-      ] refl
-
 -- ---- rows that come in order
 
 above_all : {X : Type 0} {cmp : X → X → Ordering} → IsTotalOrder cmp →
@@ -433,7 +385,7 @@ above_all : {X : Type 0} {cmp : X → X → Ordering} → IsTotalOrder cmp →
 above_all total [] new rest rising = tt
 above_all {cmp = cmp} total (row ∷ rows) new rest rising = (
   ap is_gt (total.antisymm new row ∙ ap ordering_reverse
-      (each_back (λ later. cmp row later ≡ Less) rows (new ∷ rest) rising.0).0),
+      (each-right (λ later. cmp row later ≡ Less) rows (new ∷ rest) rising.0).0),
   above_all total rows new rest rising.1,
 )
 

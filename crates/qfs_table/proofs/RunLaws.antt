@@ -11,9 +11,9 @@ use Rattle.qfs_table.specs.declared.place.Place.{Place}
 use Rattle.qfs_table.specs.Chunks.{flat, rows_at, front, back}
 use Rattle.qfs_table.specs.Places.{IsFirst}
 use Rattle.qfs_base.specs.EachLaws.{each_weaker}
-use Rattle.qfs_table.proofs.EachLaws.{each_both, each_front, each_back}
 use Rattle.qfs_table.proofs.RowLaws.{gt_not_eq, lt_not_eq}
 use Rattle.qfs_table.proofs.FlatLaws.{flat_append, flat_cut}
+use Rattle.qfs_laws_tables.specs.EachRow.{each_both, each-left, each-right}
 
 module _ {X : Type 0} where
   take_nothing : (n : ℕ) → take n (let none : List X = [] in none) ≡ []
@@ -131,9 +131,9 @@ module _ {T Z : Type 0} (order : T → Ordering) (chunks : List (Vec T Z)) (from
       let high : List T = back chunks to.chunk to.row in
       each_weaker _ _ (λ row both. between_so (order row) both.0 both.1) between
       (each_both _ _ between
-      (each_front (λ row. is_gt (order row) ≡ false) between high
+      (each-left (λ row. is_gt (order row) ≡ false) between high
       (subst (Each _) rest_is first.behind))
-      (each_back (λ row. is_ge (order row) ≡ true) low between
+      (each-right (λ row. is_ge (order row) ≡ true) low between
       (subst (Each _) (sym is) last.before)))
 
   -- the rows with a key are those between the first that isn't below it and the first above it

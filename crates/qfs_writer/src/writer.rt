@@ -2,6 +2,7 @@
 
 ghost use Rattle.std.specs.Prelude.{◌≡◌, None};
 ghost use Rattle.qfs_base.specs.Recipe.{bytes_of};
+ghost use Rattle.qfs_machine.specs.Askable.{IsAskable};
 ghost use Rattle.qfs_machine.specs.declared.machine.Readiness.{Readiness};
 ghost use Rattle.qfs_model_actor.specs.Put.{put_work};
 ghost use Rattle.qfs_model_actor.specs.Work.{ends, request_in};
@@ -39,6 +40,7 @@ impl Model for Writer {
 
     ghost Value = { WriterState };
 
+    ghost use Rattle.qfs_machine.specs.Askable.{IsAskable};
     ghost use Rattle.qfs_machine.specs.Asking.{IsPrepared};
     ghost use Rattle.qfs_writer.specs.Rest.{rest_of_put, IsPutStage};
 
@@ -47,7 +49,8 @@ impl Model for Writer {
 
     ghost invariant = { λ it.
         IsPutStage it.put it.stage
-        × IsPrepared (rest_of_put it.put it.stage) it.pending.readiness it.pending.request };
+        × IsPrepared IsAskable (rest_of_put it.put it.stage) it.pending.readiness
+        it.pending.request };
 }
 
 impl Writer {
@@ -87,6 +90,8 @@ impl Machine for Writer {
     ghost rest = { rest_of_writer };
 
     ghost readiness = { λ it. it.readiness };
+
+    ghost may_ask = { IsAskable };
 
     fn ready(&mut self) -> Result<(), AllocError> {
         match self.pending.readiness {

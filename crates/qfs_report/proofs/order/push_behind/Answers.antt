@@ -16,5 +16,8 @@ pub returns-in_ok-push_run-in-Some-2-clause-told :
 returns-in_ok-push_run-in-Some-2-clause-told c steps =
     let differ : c.in-Some-2.run'.step ≢ c.args.step = search rules in
     rw (c.in_ok-push_run-in-Some-2.ensures, c.in-Some-2.is)
-    (rw (runs_other c.in-Some-2.run'.step c.args.step c.in-Some-2.run'.count c.args.more steps differ (omega arith) (omega arith))
-    (append_assoc c.args.out.now.items (spaced (run_word c.in-Some-2.run'.step c.in-Some-2.run'.count)) (more_words (runs_after c.args.step c.args.more steps))))
+    (rw (runs_other c.in-Some-2.run'.step c.args.step c.in-Some-2.run'.count c.args.more steps
+    differ (omega arith) (omega arith))
+    (append_assoc c.args.out.now.items
+    (spaced (run_word c.in-Some-2.run'.step c.in-Some-2.run'.count))
+    (more_words (runs_after c.args.step c.args.more steps))))

@@ -14,5 +14,7 @@ returns-then-more-room-clause-told c steps =
 pub returns-clause-told : goal.returns-clause-told
 returns-clause-told c steps =
     rw c.in_ok-push_run.ensures
-    (rw (runs_full c.args.step c.args.count c.args.more steps (omega arith) (omega arith) (omega arith))
-    (append_assoc c.args.out.now.items (spaced (run_word c.args.step LONGEST_RUN)) (more_words (runs_after c.args.step (c.args.more - (LONGEST_RUN - c.args.count)) steps))))
+    (rw (runs_full c.args.step c.args.count c.args.more steps (omega arith) (omega arith)
+    (omega arith))
+    (append_assoc c.args.out.now.items (spaced (run_word c.args.step LONGEST_RUN))
+    (more_words (runs_after c.args.step (c.args.more - (LONGEST_RUN - c.args.count)) steps))))

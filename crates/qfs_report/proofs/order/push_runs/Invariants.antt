@@ -9,6 +9,7 @@ use Rattle.qfs_report.proofs.order.push_runs.Given as goal
 abbrev pub invariant-loop-run : goal.invariant-loop-run
 invariant-loop-run l = record {
   pending : IsPending l.pending;
-  told : l.out.items ++ more_words (words_to_come l.pending (all_steps (drop l.run-index l.runs) l.last))
+  told : l.out.items ++ more_words
+      (words_to_come l.pending (all_steps (drop l.run-index l.runs) l.last))
       ≡ l.initial.out.items ++ more_words (runs (all_steps l.runs l.last));
 }

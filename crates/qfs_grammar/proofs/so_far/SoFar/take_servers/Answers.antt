@@ -7,5 +7,7 @@ use Rattle.qfs_grammar.proofs.so_far.SoFar.take_servers.Goals as goal
 pub returns : goal.returns
 unfolding with_head place_meant
 returns c =
+    let most : c.from.result ≡ 64 = omega arith in
+    let read = rw most at c.in_ok-servers.ensures.value in
     ap (λ (so : SoFar). take_servers so c.args.words.now) (sym c.self.view_is)
-    ∙ taken_servers _ _ _ _ c.in_ok-word.ensures c.in_ok-servers.ensures.value
+    ∙ taken_servers _ _ _ _ c.in_ok-word.ensures read

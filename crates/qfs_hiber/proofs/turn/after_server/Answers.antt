@@ -1,0 +1,15 @@
+use Rattle.std.proofs.Common.{◌∙◌, sym}
+use Rattle.qfs_hiber.specs.Rest.{rest_of_change, report_of_change}
+use Rattle.qfs_hiber.proofs.Turns.{server_ends, server_goes_on}
+use Rattle.qfs_hiber.proofs.turn.after_server.Goals as goal
+
+pub returns-in-Some : goal.returns-in-Some
+unfolding rest_of_change report_of_change
+returns-in-Some c =
+    rw c.ended.ensures
+    (server_ends c.args.server c.args.stage.now c.args.reply c.in-Some.ending c.requires (sym c.of_chunk.ensures ∙ c.in-Some.is))
+
+pub returns-in-None : goal.returns-in-None
+returns-in-None c =
+    c.served.ensures
+    ∙ server_goes_on c.args.server c.args.stage.now c.args.reply c.requires (sym c.of_chunk.ensures ∙ c.in-None.is)

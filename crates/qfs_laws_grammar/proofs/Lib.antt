@@ -1,0 +1,14 @@
+pub mod Steps
+pub mod WordRanges
+pub mod CommandRanges
+pub mod ChunkBytes
+pub mod Lists
+pub mod Bodies
+pub mod Sound
+pub mod GivesScripts
+pub mod PlainWords
+pub mod PrintedWords
+pub mod PrintedCommands
+pub mod PrintedOrder
+pub mod Through
+pub mod ReadsBack
