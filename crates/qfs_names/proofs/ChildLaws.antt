@@ -1,5 +1,5 @@
 -- What lies below a directory, found by going behind keys. For the calls that look for it.
-use Rattle.std.proofs.Common.{◌≡◌, ℕ, zero, suc, ◌<◌, ◌≤◌, ◌+◌, Bool, true, false, true≢false, not, cond, ◌&&◌, ◌||◌, List, [], ◌∷◌, ◌++◌, length, map, take, drop, get_or, nat_lt, find, ⊎_elim, ◌-◌, Option, Some, None, refl, sym, ap, subst, ◌∙◌, arith, append_assoc, append-nil, length-append, length-take, length-drop}
+use Rattle.std.proofs.Common.{◌≡◌, ℕ, zero, suc, ◌<◌, ◌≤◌, ◌+◌, Bool, true, false, true≢false, cond, ◌&&◌, ◌||◌, List, [], ◌∷◌, ◌++◌, length, take, drop, get_or, nat_lt, find, ⊎_elim, ◌-◌, Option, Some, None, refl, sym, ap, subst, ◌∙◌, arith, append_assoc, append-nil, length-take, length-drop}
 use Rattle.std.proofs.Math.Seq.{drop-cons, take-length}
 use Rattle.std.proofs.lemmas.Bool.{and_from, and_parts, cases_lt, lt-ltb, ltb-true}
 use Rattle.std.proofs.lemmas.Cmp.{tied_itself}
@@ -12,7 +12,7 @@ use Rattle.std.specs.declared.cmp.Ordering.{Ordering}
 use Rattle.std.specs.declared.cmp.Ordering.TheVariants.{Equal, Greater, Less}
 use Rattle.qfs_base.specs.EachLaws.{each_weaker}
 use Rattle.qfs_base.specs.NameTree.{PathNames, Standing, is_below, is_filled, is_within, name_in, names_below, only_name, path_cmp, row_cmp}
-use Rattle.qfs_base.specs.Table.{Each, IsRising, is_behind}
+use Rattle.qfs_base.specs.Table.{Each, IsRising}
 use Rattle.qfs_base.specs.declared.lists.Name.{Name}
 use Rattle.qfs_laws_tables.specs.Keys.{equal-is, less-not}
 use Rattle.qfs_laws_tree.specs.TreeFacts.{within-is}

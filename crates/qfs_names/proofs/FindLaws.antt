@@ -1,14 +1,14 @@
 -- What is found in a table after rows are placed, taken or changed. For the tables of the tree.
-use Rattle.std.proofs.Common.{Bool, List, None, Option, Some, [], ap, cond, false, filter, find, map, not, refl, sym, true, true≢false, ◌&&◌, ◌||◌, ◌∙◌, ◌∷◌, ◌≡◌}
+use Rattle.std.proofs.Common.{Bool, List, Some, [], ap, cond, false, filter, find, map, refl, sym, true, true≢false, ◌||◌, ◌∙◌, ◌∷◌, ◌≡◌}
 use Rattle.std.specs.Cmp.{IsTotalOrder}
 use Rattle.std.specs.List.{list_any}
 use Rattle.std.specs.Option.{option_map}
 use Rattle.std.specs.Ordering.{ordering_reverse}
 use Rattle.std.specs.declared.cmp.Ordering.{Ordering}
 use Rattle.std.specs.declared.cmp.Ordering.TheVariants.{Equal, Greater, Less}
-use Rattle.qfs_base.specs.Table.{Each, IsRising, change_row, change_where, place, place_all, place_before, without}
+use Rattle.qfs_base.specs.Table.{Each, IsRising, change_row, change_where, place, place_all, place_before}
 use Rattle.qfs_base.specs.EachLaws.{each_weaker}
-use Rattle.qfs_laws_tables.specs.EachRow.{each_place, found_has}
+use Rattle.qfs_laws_tables.specs.EachRow.{found_has}
 use Rattle.qfs_laws_tables.specs.Keys.{less-not}
 
 module _ {X : Type 0} where

@@ -1,24 +1,22 @@
 -- The paths of unclosed files stay found by file, whatever happens to the tree. For its changes.
-use Rattle.std.proofs.Common.{Bool, List, None, Option, Some, [], ap, arith, cond, false, filter, find, map, not, refl, subst, suc, sym, true, true≢false, zero, ℕ, ◌&&◌, ◌<◌, ◌==◌, ◌^◌, ◌∙◌, ◌∷◌, ◌≡◌, ◌≢◌, ◌≤◌}
+use Rattle.std.proofs.Common.{Bool, List, None, Some, [], ap, arith, cond, false, find, map, not, refl, subst, suc, sym, true, true≢false, zero, ℕ, ◌&&◌, ◌<◌, ◌==◌, ◌^◌, ◌∙◌, ◌∷◌, ◌≡◌, ◌≢◌, ◌≤◌}
 use Rattle.std.proofs.lemmas.Bool.{and_from, and_parts, eq-eqb, eqb-true}
 use Rattle.std.specs.Option.{option_map}
 use Rattle.std.specs.Ordering.{is_eq, nat_cmp}
 use Rattle.std.specs.declared.cmp.Ordering.TheVariants.{Equal}
-use Rattle.qfs_base.specs.EachLaws.{each_filter, each_weaker}
-use Rattle.qfs_base.specs.NameTree.{PathNames, added, kind_at, look_refusal, path_cmp, path_eq, rmdir_refusal, row_cmp, taken}
-use Rattle.qfs_base.specs.Table.{Each, change_row, place, without}
+use Rattle.qfs_base.specs.EachLaws.{each_weaker}
+use Rattle.qfs_base.specs.NameTree.{PathNames, added, kind_at, path_cmp, path_eq, row_cmp, taken}
+use Rattle.qfs_base.specs.Table.{Each, place, without}
 use Rattle.qfs_base.specs.declared.image.TreeRow.{TreeRow}
 use Rattle.qfs_base.specs.declared.lists.NameKind.{NameKind}
-use Rattle.qfs_base.specs.declared.lists.NameKind.TheVariants as Is
-use Rattle.qfs_model_meta.specs.TreeRows as image
 use Rattle.qfs_model_meta.specs.TreeRows.{is_unclosed, kind_of}
-use Rattle.qfs_laws_tables.specs.EachRow.{each_change, each_of_all, each_of_map, each_passes, find_none, found_has, none_found}
+use Rattle.qfs_laws_tables.specs.EachRow.{each_change, each_of_all, each_of_map, find_none, found_has, none_found}
 use Rattle.qfs_laws_tables.specs.Keys.{equal-is, key-is}
 use Rattle.qfs_laws_tables.specs.Placed.{Apart}
 use Rattle.qfs_laws_tree.specs.Stands.{at_path-off}
 use Rattle.qfs_laws_tree.specs.Tree.{HasTree, file-one}
 use Rattle.qfs_laws_tree.specs.TreeFacts.{kind_in, path-self}
-use Rattle.qfs_names.proofs.FindLaws.{change-agree, filter-agree, find-changed, find-kept, find-mapped, find-placed_off, find-placed_on, found-alone}
+use Rattle.qfs_names.proofs.FindLaws.{find-changed, find-kept, find-mapped, find-placed_off, find-placed_on, found-alone}
 use Rattle.qfs_names.proofs.NameLaws.{as-rises, as-same, at-is, standing-is}
 use Rattle.qfs_names.specs.declared.row.NameRow.{NameRow}
 use Rattle.qfs_names.specs.declared.row.UnclosedRow.{UnclosedRow}

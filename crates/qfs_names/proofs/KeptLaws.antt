@@ -1,10 +1,10 @@
 -- What the tree is made of stays so through each of its changes. For the calls that make them.
-use Rattle.std.proofs.Common.{◌∷◌, List, None, Option, Some, ap, arith, false, find, map, not, refl, subst, sym, true, true≢false, ℕ, ◌+◌, ◌<◌, ◌^◌, ◌∙◌, ◌≡◌, ◌≢◌, ◌≤◌, []}
+use Rattle.std.proofs.Common.{◌∷◌, List, None, Option, Some, ap, arith, false, find, map, not, refl, subst, sym, true≢false, ℕ, ◌+◌, ◌<◌, ◌^◌, ◌∙◌, ◌≡◌, ◌≢◌, ◌≤◌, []}
 use Rattle.std.specs.Option.{option_map}
 use Rattle.std.specs.Ordering.{is_eq}
 use Rattle.std.specs.declared.cmp.Ordering.TheVariants.{Equal}
 use Rattle.qfs_base.specs.EachLaws.{each_weaker}
-use Rattle.qfs_base.specs.NameTree.{PathNames, add_refusal, added, kind_at, look_refusal, path_cmp, path_eq, Standing, rename_refusal, renamed, rmdir_refusal, row_cmp, stands_at, taken}
+use Rattle.qfs_base.specs.NameTree.{PathNames, add_refusal, added, look_refusal, path_cmp, path_eq, Standing, rename_refusal, renamed, rmdir_refusal, row_cmp, taken}
 use Rattle.qfs_base.specs.Path.{IsPath}
 use Rattle.qfs_base.specs.Table.{Each, change_where, place, place_all, without}
 use Rattle.qfs_base.specs.declared.image.TreeEntry.{TreeEntry}
@@ -19,7 +19,7 @@ use Rattle.qfs_laws_tree.specs.Files.{closed-root, emptied-root}
 use Rattle.qfs_laws_tree.specs.Move.{move-tree}
 use Rattle.qfs_laws_tree.specs.Tree.{HasTree, tree-of}
 use Rattle.qfs_laws_tree.specs.TreeChanges.{tree-closed, tree-emptied, tree-removed, tree-without_file}
-use Rattle.qfs_laws_tree.specs.TreeFacts.{add-free, look-closed, none-at, path-self, rmdir-empty}
+use Rattle.qfs_laws_tree.specs.TreeFacts.{add-free, look-closed, none-at, rmdir-empty}
 use Rattle.qfs_names.proofs.FindLaws.{change-agree, filter-agree}
 use Rattle.qfs_names.proofs.IndexLaws.{index-closed, index-directory, index-file, index-taken, index-without, number-is, open-some, own-rows}
 use Rattle.qfs_names.proofs.MoveLaws.{index-moved}

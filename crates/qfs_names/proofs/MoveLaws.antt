@@ -1,17 +1,15 @@
 -- A rename: what is moved, and that the paths of unclosed files stay found by file. For the calls
 -- that plan it and do it.
-use Rattle.std.proofs.Common.{◌++◌, drop, length-append, length-drop, length-take, ◌+◌, ◌-◌, Bool, List, None, Option, Some, [], ap, arith, cond, false, filter, find, length, map, nat_lt, not, refl, subst, suc, sym, true, true≢false, ℕ, ◌&&◌, ◌||◌, ◌^◌, ◌∙◌, ◌∷◌, ◌≡◌, ◌≤◌}
+use Rattle.std.proofs.Common.{drop, length-append, length-drop, length-take, Bool, List, None, Option, Some, [], ap, arith, cond, false, filter, find, length, map, nat_lt, not, refl, suc, sym, true, true≢false, ℕ, ◌&&◌, ◌||◌, ◌^◌, ◌∙◌, ◌∷◌, ◌≡◌, ◌≤◌}
 use Rattle.std.proofs.lemmas.Bool.{and_from, and_parts, ltb-false}
 use Rattle.std.specs.List.{list_any}
 use Rattle.std.specs.Option.{option_map, option_or}
 use Rattle.std.specs.Ordering.{is_eq, nat_cmp}
 use Rattle.std.specs.declared.cmp.Ordering.TheVariants.{Equal}
-use Rattle.std.specs.Prelude.{IsTrue}
 use Rattle.qfs_base.specs.EachLaws.{each_weaker}
 use Rattle.qfs_base.specs.NameTree.{PathNames, Standing, add_refusal, grows_too_deep, is_within, kind_at, most_names, moved, parents_refusal, refused_if, source_refusal, rename_refusal, renamed, row_cmp}
 use Rattle.qfs_base.specs.Path.{IsPath}
 use Rattle.qfs_base.specs.Table.{Each, place_all, without}
-use Rattle.qfs_base.specs.declared.image.TreeRow.{TreeRow}
 use Rattle.qfs_base.specs.declared.reply.TreeRefusal.TheVariants as Not
 use Rattle.qfs_model_meta.specs.TreeRows as image
 use Rattle.qfs_model_meta.specs.TreeRows.{is_unclosed, kind_of}

@@ -1,13 +1,11 @@
 -- The rows of the tree as rows of an image: the laws of name trees hold of them. And how the keys
 -- of the tables compare with the tests of the rules. For the calls of the tree.
-use Rattle.std.proofs.Common.{Bool, List, None, Option, Some, [], ap, arith, cond, false, filter, find, length, map, nat_eq, nat_lt, not, refl, subst, suc, sym, take, true, true≢false, zero, ℕ, ◌&&◌, ◌||◌, ◌+◌, ◌<◌, ◌^◌, ◌∙◌, ◌∷◌, ◌≡◌, ◌≢◌, ◌≤◌}
-use Rattle.std.proofs.lemmas.Bool.{eq-eqb, eqb-true, lt-ltb, ltb-true}
+use Rattle.std.proofs.Common.{Bool, List, None, [], ap, arith, cond, false, filter, length, map, nat_eq, nat_lt, refl, subst, suc, sym, take, true, true≢false, zero, ℕ, ◌||◌, ◌+◌, ◌<◌, ◌^◌, ◌∙◌, ◌∷◌, ◌≡◌, ◌≢◌, ◌≤◌}
+use Rattle.std.proofs.lemmas.Bool.{eqb-true, ltb-true}
 use Rattle.std.specs.Cmp.Lexicographic.{lists_ties, slice_cmp, texts_ties}
-use Rattle.std.specs.List.{list_any}
-use Rattle.std.specs.Option.{option_map}
 use Rattle.std.specs.Ordering.{is_eq, nat_cmp}
 use Rattle.qfs_base.specs.EachLaws.{each_weaker}
-use Rattle.qfs_base.specs.NameTree.{PathNames, Standing, add_refusal, added, is_within, moved, path_cmp, path_eq, renamed, row_cmp, stands_at, taken}
+use Rattle.qfs_base.specs.NameTree.{PathNames, add_refusal, added, is_within, moved, path_cmp, path_eq, renamed, row_cmp, taken}
 use Rattle.qfs_base.specs.Path.{IsPath}
 use Rattle.qfs_base.specs.Table.{Each, IsRising, has_key, place, place_all, without}
 use Rattle.qfs_base.specs.declared.image.TreeRow.{TreeRow}
@@ -20,7 +18,7 @@ use Rattle.qfs_laws_tables.specs.Distinct.{one_if}
 use Rattle.qfs_laws_tree.specs.Tree.{HasDirectory, HasTree, Lies, RowIs, file_count, file_weight, is_directory_at, parents-lie}
 use Rattle.qfs_laws_tree.specs.TreeFacts.{add-free, none-at, path-is, path-self, row-ties, tree_total}
 use Rattle.qfs_names.specs.declared.row.NameRow.{NameRow}
-use Rattle.qfs_names.specs.Names.{at_path, close_file, closed_row, directory_at, file_at, of_file, row_kind, row_path, standing_of, take_file, within_order}
+use Rattle.qfs_names.specs.Names.{at_path, close_file, closed_row, file_at, of_file, row_kind, row_path, standing_of, take_file, within_order}
 use Rattle.qfs_names.specs.Trees.{as_row, maker_of}
 
 -- ---- keys and tests

@@ -1,6 +1,6 @@
 -- The rows of the name tree: a path, its file (0 for a directory), and whether that is closed. The
 -- rules of a tree see what stands at each path. Cited by the contracts of the tree.
-use Rattle.std.specs.Prelude.{ℕ, zero, suc, Bool, true, false, ◌&&◌, List, [], length, take, map, filter, nat_lt, Option}
+use Rattle.std.specs.Prelude.{ℕ, Bool, true, false, ◌&&◌, List, [], length, take, map, filter, nat_lt, Option}
 use Rattle.std.specs.Option.{option_map, option_or}
 use Rattle.std.specs.Ordering.{nat_cmp}
 use Rattle.std.specs.declared.cmp.Ordering.{Ordering}

@@ -1,5 +1,5 @@
 -- What the check leaves to show of `fill::place_all`.
-use Rattle.std.proofs.Common.{◌≡◌, ap, sym, ◌∙◌, arith, length}
+use Rattle.std.proofs.Common.{ap, sym, ◌∙◌, arith, length}
 use Rattle.std.specs.Vec.Iter.{into_iter_items}
 use Rattle.qfs_base.specs.Table.{place_all}
 use Rattle.qfs_names.proofs.fill.place_all.Goals as goal

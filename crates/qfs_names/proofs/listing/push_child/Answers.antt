@@ -24,8 +24,8 @@ returns c =
     let long : length row.path ≡ length directory + 1 = sym (ap length seen) ∙ c.if-names-directory.false in
     let part : List ℕ = c.index-names-directory.result in
     let at : part ≡ get_or row.path (length directory) part =
-        c.index-names-directory.is
-        ∙ ap (λ (names : PathNames). get_or names (length directory) part) seen in
+    c.index-names-directory.is
+    ∙ ap (λ (names : PathNames). get_or names (length directory) part) seen in
     let same : c.in_ok-part.part ≡ part = c.in_ok-part.ensures ∙ c.as_slice.ensures in
     subst (λ name. OnOk c.push.result (c.push.new.self ≡ found ++ cons_option name []))
     (sym (child-name directory row c.requires long part at))

@@ -1,5 +1,5 @@
 -- What the check leaves to show of `tree::Tree::children`.
-use Rattle.std.proofs.Common.{◌≡◌, ◌<◌, ◌++◌, ap, sym, subst, ◌∙◌, find, take, length, ◌+◌, [], true, false, not, Some, rules}
+use Rattle.std.proofs.Common.{◌≡◌, ◌<◌, ◌++◌, ap, sym, subst, find, take, length, ◌+◌, [], true, false, Some, rules}
 use Rattle.std.specs.List.{cons_option}
 use Rattle.std.specs.Option.{option_copied}
 use Rattle.std.specs.Ordering.{is_lt}

@@ -1,5 +1,4 @@
 -- What the loop of `tree::Tree::children` keeps.
-use Rattle.std.proofs.Common.{◌≡◌}
 use Rattle.std.specs.Option.{option_copied}
 use Rattle.qfs_names.proofs.ChildLaws.{IsAt, rows_left}
 use Rattle.qfs_names.proofs.tree.Tree.children.Given as goal

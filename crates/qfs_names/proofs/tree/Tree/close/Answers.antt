@@ -1,5 +1,5 @@
 -- What the check leaves to show of `tree::Tree::close`.
-use Rattle.std.proofs.Common.{◌≡◌, ap, sym, ◌∙◌, List, ℕ}
+use Rattle.std.proofs.Common.{ap, sym, ◌∙◌}
 use Rattle.std.specs.Ordering.{is_eq}
 use Rattle.qfs_base.specs.NameTree.{PathNames, path_cmp}
 use Rattle.qfs_base.specs.Table.{change_where}

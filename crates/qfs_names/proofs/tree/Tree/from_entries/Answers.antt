@@ -1,5 +1,5 @@
 -- What the check leaves to show of `tree::Tree::from_entries`.
-use Rattle.std.proofs.Common.{◌≡◌, ◌^◌, List, [], ap, sym, subst, ◌∙◌, arith, find, map}
+use Rattle.std.proofs.Common.{◌^◌, List, [], ap, sym, subst, ◌∙◌, arith, find, map}
 use Rattle.std.specs.Option.{option_map}
 use Rattle.qfs_base.specs.Table.{place_all}
 use Rattle.qfs_laws_tree.specs.Tree.{HasTree}

@@ -1,5 +1,5 @@
 -- What the check leaves to show of `tree::Tree::grows_too_deep`.
-use Rattle.std.proofs.Common.{◌≡◌, ap, sym, ◌∙◌}
+use Rattle.std.proofs.Common.{ap, sym, ◌∙◌}
 use Rattle.std.specs.List.{list_any}
 use Rattle.qfs_names.specs.Names.{is_deep}
 use Rattle.qfs_names.proofs.MoveLaws.{too_deep_within}

@@ -1,10 +1,9 @@
 -- What the check leaves to show of `tree::Tree::moved`.
-use Rattle.std.proofs.Common.{◌≡◌, ap, sym, subst, ◌∙◌, length, filter, map, ◌++◌, drop, List}
+use Rattle.std.proofs.Common.{ap, sym, subst, ◌∙◌, length, filter}
 use Rattle.qfs_base.specs.NameTree.{PathNames, is_within}
 use Rattle.qfs_base.specs.Table.{Each}
 use Rattle.qfs_names.specs.declared.row.NameRow.{NameRow}
 use Rattle.qfs_names.specs.Moves.{CanMove}
-use Rattle.qfs_names.specs.Names.{at_path, open_paths}
 use Rattle.qfs_names.proofs.MoveLaws.{can_move}
 use Rattle.qfs_names.proofs.tree.Tree.moved.Goals as goal
 

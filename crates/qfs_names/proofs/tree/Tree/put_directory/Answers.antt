@@ -1,5 +1,5 @@
 -- What the check leaves to show of `tree::Tree::put_directory`.
-use Rattle.std.proofs.Common.{◌≡◌, ap, sym, ◌∙◌, arith, None, subst}
+use Rattle.std.proofs.Common.{ap, ◌∙◌, arith}
 use Rattle.qfs_base.specs.NameTree.{add_refusal, added, row_cmp}
 use Rattle.qfs_base.specs.Table.{place}
 use Rattle.qfs_names.specs.Names.{row_path, directory_at, standing_of}

@@ -1,5 +1,5 @@
 -- What the check leaves to show of `tree::Tree::put_file`.
-use Rattle.std.proofs.Common.{◌≡◌, ◌≢◌, ap, sym, ◌∙◌, arith, None, subst}
+use Rattle.std.proofs.Common.{◌≢◌, ap, sym, ◌∙◌, arith, subst}
 use Rattle.qfs_base.specs.NameTree.{add_refusal, added, row_cmp}
 use Rattle.qfs_base.specs.Table.{Each, place}
 use Rattle.qfs_names.specs.declared.row.NameRow.{NameRow}

@@ -1,12 +1,12 @@
 -- What the check leaves to show of `tree::Tree::put_moved`.
-use Rattle.std.proofs.Common.{◌≡◌, ap, sym, ◌∙◌, None, arith, length, subst}
+use Rattle.std.proofs.Common.{ap, sym, ◌∙◌, arith, length, subst}
 use Rattle.std.specs.Ordering.{is_eq}
 use Rattle.qfs_base.specs.NameTree.{PathNames, is_within, rename_refusal, renamed, row_cmp}
 use Rattle.qfs_base.specs.Path.{IsPath}
 use Rattle.qfs_base.specs.Table.{place_all, without}
 use Rattle.qfs_names.specs.declared.row.NameRow.{NameRow}
 use Rattle.qfs_names.specs.Moves.{IsMove}
-use Rattle.qfs_names.specs.Names.{at_path, moved_rows, open_paths, row_path, standing_of, within_order}
+use Rattle.qfs_names.specs.Names.{moved_rows, row_path, standing_of, within_order}
 use Rattle.qfs_names.specs.Trees.{Contents, file_cmp}
 use Rattle.qfs_names.proofs.KeptLaws.{kept-moved}
 use Rattle.qfs_names.proofs.MoveLaws.{open-length}

@@ -1,9 +1,7 @@
 -- What the check leaves to show of `tree::Tree::row_behind`.
-use Rattle.std.proofs.Common.{◌≡◌, ap, ◌∙◌, find, subst}
-use Rattle.std.specs.Ordering.{is_lt}
-use Rattle.qfs_base.specs.NameTree.{path_cmp, row_cmp}
+use Rattle.std.proofs.Common.{subst}
+use Rattle.qfs_base.specs.NameTree.{row_cmp}
 use Rattle.qfs_base.specs.Table.{IsRising}
-use Rattle.qfs_names.specs.declared.row.NameRow.{NameRow}
 use Rattle.qfs_names.specs.Names.{row_path}
 use Rattle.qfs_names.specs.Trees.{Contents}
 use Rattle.qfs_names.proofs.NameLaws.{as-rises}

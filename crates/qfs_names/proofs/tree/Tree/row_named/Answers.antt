@@ -1,5 +1,5 @@
 -- What the check leaves to show of `tree::Tree::row_named`.
-use Rattle.std.proofs.Common.{◌≡◌, ap, sym, ◌∙◌, find}
+use Rattle.std.proofs.Common.{ap, ◌∙◌, find}
 use Rattle.qfs_base.specs.NameTree.{stands_at}
 use Rattle.qfs_names.specs.Names.{row_path}
 use Rattle.qfs_names.specs.Trees.{Contents}

@@ -1,5 +1,5 @@
 -- What the check leaves to show of `tree::Tree::rows_within`.
-use Rattle.std.proofs.Common.{◌≡◌, ap, ◌∙◌, filter}
+use Rattle.std.proofs.Common.{ap, ◌∙◌, filter}
 use Rattle.qfs_base.specs.NameTree.{is_within}
 use Rattle.qfs_names.specs.declared.row.NameRow.{NameRow}
 use Rattle.qfs_names.specs.Trees.{Contents}

@@ -1,10 +1,10 @@
 -- What the check leaves to show of `tree::Tree::take_closed`.
-use Rattle.std.proofs.Common.{◌≡◌, ap, sym, ◌∙◌, None, [], find, unwrap_or, Option}
+use Rattle.std.proofs.Common.{ap, ◌∙◌, [], find, unwrap_or, Option}
 use Rattle.std.specs.Ordering.{is_eq}
 use Rattle.qfs_base.specs.NameTree.{PathNames, path_cmp, look_refusal, stands_at, taken}
 use Rattle.qfs_base.specs.Table.{without}
 use Rattle.qfs_names.specs.declared.row.NameRow.{NameRow}
-use Rattle.qfs_names.specs.Names.{directory_at, row_at, row_path, standing_of}
+use Rattle.qfs_names.specs.Names.{directory_at, row_path, standing_of}
 use Rattle.qfs_names.specs.Trees.{Contents}
 use Rattle.qfs_names.proofs.KeptLaws.{kept-removed}
 use Rattle.qfs_names.proofs.TreeLaws.{find_at, without_at}

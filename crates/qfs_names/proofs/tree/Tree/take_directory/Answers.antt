@@ -1,5 +1,5 @@
 -- What the check leaves to show of `tree::Tree::take_directory`.
-use Rattle.std.proofs.Common.{◌≡◌, ap, sym, ◌∙◌, None}
+use Rattle.std.proofs.Common.{ap, ◌∙◌}
 use Rattle.std.specs.Ordering.{is_eq}
 use Rattle.qfs_base.specs.NameTree.{PathNames, path_cmp, rmdir_refusal, stands_at, taken}
 use Rattle.qfs_base.specs.Table.{without}
