@@ -1,0 +1,6 @@
+-- What the contracts of the tree cite.
+pub mod Names
+pub mod Answers
+pub mod Moves
+pub mod PathLaws
+pub mod Trees
