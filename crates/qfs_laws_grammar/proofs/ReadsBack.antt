@@ -599,25 +599,16 @@ module _ (script : Script) (is : IsScript script) where
         script_is = refl;
       }
 
-  -- ---- the lines of the head
-
-  -- before the first phase
+  -- ---- the lines of the head, before the first phase
   abbrev head : LinePlace → Shape → ℕ → ℕ → Bool → SoFar
-  head place shape number term audit = record {
+  head place shape number term audit = record nothing_yet {
     place = place;
-    script = record {
+    script = record nothing_yet.script {
       layout = shape;
       servers = number;
       term = term;
       audit = audit;
-      phases =
-          [];
-      order = None;
     };
-    actors = 0;
-    commands = 0;
-    blocks = 0;
-    chunk_bytes = 0;
   }
 
   one_is : number_in 1 1 (codes "1") ≡ Ok 1
