@@ -1,15 +1,8 @@
-use Rattle.std.proofs.Common.{◌≡◌, ◌∙◌, refl, sym, ap, arith, lit<}
-use Rattle.qfs_galois.specs.Field.{polynomial_product, remainder, product, power}
+use Rattle.std.proofs.Common.{◌≡◌, ◌∙◌, sym, ap, arith, lit<}
+use Rattle.qfs_galois.specs.Field.{product, power}
 use Rattle.qfs_galois.proofs.FieldLaws.{one-product, product_assoc, power-zero}
+use Rattle.qfs_galois.proofs.Powers.{first_power, second_power}
 use Rattle.qfs_galois.proofs.times_power.Goals as goal
-
-first_power : power 2 1 ≡ 2
-unfolding power product remainder polynomial_product
-first_power = refl
-
-second_power : power 2 2 ≡ product 2 2
-unfolding power product remainder polynomial_product
-second_power = refl
 
 pub returns-in-0 : goal.returns-in-0
 returns-in-0 c =
