@@ -4,9 +4,10 @@
 use Rattle.qfs_base.specs.Table.{Each, IsRising, change_row, change_where, place, place_all}
 use Rattle.qfs_base.specs.Table.{place_before}
 use Rattle.std.proofs.Common.{Bool, List, None, Some, [], ap, arith, cond, false, filter, find, map}
-use Rattle.std.proofs.Common.{refl, subst, sym, true, ℕ, ◌+◌, ◌||◌, ◌∙◌, ◌∷◌, ◌≡◌, ◌≤◌}
+use Rattle.std.proofs.Common.{refl, subst, sym, true, ℕ, ◌++◌, ◌+◌, ◌||◌, ◌∙◌, ◌∷◌, ◌≡◌, ◌≤◌}
 use Rattle.std.specs.Cmp.{IsTotalOrder}
 use Rattle.std.specs.List.{list_any}
+use Rattle.std.specs.Option.{option_map}
 use Rattle.std.specs.Ordering.{ordering_reverse}
 use Rattle.std.specs.declared.cmp.Ordering.{Ordering}
 use Rattle.std.specs.declared.cmp.Ordering.TheVariants.{Equal, Greater, Less}
@@ -198,3 +199,32 @@ map-changed f test other change make (row ∷ rows) same =
       | true ↦ λ is. (λ i. same.0.1 is i ∷ rest i)
       | false ↦ λ _. (λ i. f row ∷ rest i)
     ]) refl)
+
+-- what is found of rows that change where they pass, and pass still
+pub find_changed : {X : Type 0} (test : X → Bool) (change : X → X)
+    → ((row : X) → test (change row) ≡ test row) → (rows : List X)
+    → find test (change_where test change rows) ≡ option_map change (find test rows)
+find_changed test change same [] = refl
+find_changed test change same (row ∷ rows) =
+    let rest = change_where test change rows in
+    elim (test row) as (λ b. test row ≡ b → cond (test (change_row change row b))
+    (Some (change_row change row b)) (find test rest) ≡ option_map change
+    (cond b (Some row) (find test rows))) [
+      | true ↦ λ is. ap (λ b. cond b (Some (change row)) (find test rest)) (same row ∙ is)
+      | false ↦ λ off. ap (λ b. cond b (Some row) (find test rest)) off
+          ∙ find_changed test change same rows
+    ] refl
+
+-- rows none of which passes don't change
+pub change_none : {X : Type 0} (test : X → Bool) (change : X → X) (rows : List X)
+    → Each (λ row. test row ≡ false) rows → change_where test change rows ≡ rows
+change_none test change [] each = refl
+change_none test change (row ∷ rows) each =
+    λ i. change_row change row (each.0 i) ∷ change_none test change rows each.1 i
+
+pub change_append : {X : Type 0} (test : X → Bool) (change : X → X) (xs ys : List X)
+    → change_where test change (xs ++ ys)
+    ≡ change_where test change xs ++ change_where test change ys
+change_append test change [] ys = refl
+change_append test change (x ∷ xs) ys =
+    ap (λ rest. change_row change x (test x) ∷ rest) (change_append test change xs ys)
