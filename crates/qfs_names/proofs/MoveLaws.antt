@@ -83,11 +83,6 @@ any-better test better (row ∷ rows) each any =
           [ true ↦ refl | false ↦ any-better test better rows each.1 any ]
     ]) refl any
 
-pub any-mapped : {X Y : Type 0} (f : X → Y) (test : Y → Bool) (rows : List X)
-    → list_any test (map f rows) ≡ list_any (λ row. test (f row)) rows
-any-mapped f test [] = refl
-any-mapped f test (row ∷ rows) = ap (λ b. test (f row) || b) (any-mapped f test rows)
-
 -- an unclosed file within a path is among those that are moved
 any-open : (from to : PathNames) (file : ℕ) (rows : List NameRow)
     → list_any (λ (row : NameRow). is_within from row.path && is_open_of file row) rows ≡ true
@@ -185,7 +180,7 @@ index-moved paths from to rows is free h holds file = one (find (is_open_of file
     stands row found own =
         let parts = and_parts (is_open row) (of_file file row) own in
         let before : list_any (stands_test file) (map as_row rows) ≡ true =
-        any-mapped as_row (stands_test file) rows
+        any_mapped as_row (stands_test file) rows
         ∙ found-any (is_open_of file) (λ row. stands_test file (as_row row)) rows row found
         (and_from (image.is_closed_row (as_row row) || image.is_unclosed_row (as_row row))
         (of_file file row) (or_right (image.is_closed_row (as_row row)) (is_open row) parts.0)
@@ -198,7 +193,7 @@ index-moved paths from to rows is free h holds file = one (find (is_open_of file
         (each_of_all (λ row. stands_test file (as_row row) ≡ true → of_file file row ≡ true)
         (λ row stays. (and_parts (image.is_closed_row (as_row row) || image.is_unclosed_row (as_row row))
         (of_file file row) stays).1) all)
-        (sym (any-mapped as_row (stands_test file) all)
+        (sym (any_mapped as_row (stands_test file) all)
         ∙ ap (list_any (stands_test file)) (as-moved from to rows) ∙ after)
       where
         or_right : (a b : Bool) → b ≡ true → (a || b) ≡ true

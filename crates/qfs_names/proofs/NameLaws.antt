@@ -168,10 +168,6 @@ tree-put new tree free is fresh h =
           one (nat_lt 0 new.file) refl file (nat_eq new.file file) refl o e;
     }
   where
-    or_right : (a b : Bool) → b ≡ true → (a || b) ≡ true
-    or_right true b e = refl
-    or_right false b e = e
-
     one : (b : Bool) → nat_lt 0 new.file ≡ b → (file : ℕ) (c : Bool) → nat_eq new.file file ≡ c
         → file_count file tree ≤ 1
         → total (file_weight file) (place (row_cmp image.row_path) new tree) ≡ weigh_if

@@ -51,13 +51,3 @@ pub kind_at_filled : (rows : List NameRow) (path : PathNames) → 0 < length pat
 unfolding kind_at
 kind_at_filled rows [] above = absurd (omega arith)
 kind_at_filled rows (name ∷ names) above = find_standing rows (name ∷ names)
-
--- a parent that may be led through leaves the choice to those below it
-pub parents_next : (refusal_at : PathNames → Option TreeRefusal) (names : PathNames) (depth : ℕ) → depth < length names →
-    refusal_at (take depth names) ≡ None →
-    first_of refusal_at (map (λ n. take n names) (range_with_len depth (length names - depth)))
-    ≡ first_of refusal_at (map (λ n. take n names) (range_with_len (depth + 1) (length names - (depth + 1))))
-parents_next refusal_at names depth within passed =
-    let e : length names - depth ≡ suc (length names - (depth + 1)) = omega arith in
-    ap (λ k. first_of refusal_at (map (λ n. take n names) (range_with_len depth k))) e
-    ∙ ap (λ o. option_or o (first_of refusal_at (map (λ n. take n names) (range_with_len (depth + 1) (length names - (depth + 1)))))) passed
