@@ -55,9 +55,9 @@ use Rattle.qfs_model_meta.specs.Sound.{IsSound}
 use Rattle.qfs_model_meta.specs.Step.{meta_step, next_turn, stays}
 use Rattle.qfs_model_meta.specs.TreeRows.{close_file, closed_file, file_stands, has_file}
 use Rattle.std.proofs.Common.{List, None, Option, Some, [], ap, arith, false, inl, inr, length}
-use Rattle.std.proofs.Common.{refl, subst, sym, true, ℕ, ⊎_elim, ◌+◌, ◌<◌, ◌==◌, ◌∙◌, ◌∷◌, ◌≡◌, ◌≤◌}
+use Rattle.std.proofs.Common.{refl, subst, sym, ℕ, ⊎_elim, ◌+◌, ◌<◌, ◌∙◌, ◌∷◌, ◌≡◌, ◌≤◌}
 use Rattle.std.proofs.Common.{◌⊎◌}
-use Rattle.std.proofs.lemmas.Bool.{cases_eq, eq-eqb, eqb-true, true≢false}
+use Rattle.std.proofs.lemmas.Bool.{cases_eq}
 use Rattle.std.specs.Prelude.{IsTrue, is_some, min, ⊤}
 
 -- ---- the law

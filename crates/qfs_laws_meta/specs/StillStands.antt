@@ -33,7 +33,7 @@ use Rattle.qfs_model_meta.specs.TreeRows.{file_row, file_stands, has_file, is_un
 use Rattle.qfs_model_meta.specs.TreeRows.{is_unclosed_of, is_unclosed_row, move_path, standing}
 use Rattle.qfs_model_meta.specs.TreeRows.{take_file, take_path, unclosed_file}
 use Rattle.std.proofs.Common.{Bool, List, Some, [], ap, arith, false, filter, not, refl, subst, sym}
-use Rattle.std.proofs.Common.{true, ℕ, ◌&&◌, ◌<◌, ◌==◌, ◌||◌, ◌∙◌, ◌≡◌, ◌≤◌}
+use Rattle.std.proofs.Common.{true, ℕ, ◌&&◌, ◌<◌, ◌==◌, ◌∙◌, ◌≡◌, ◌≤◌}
 use Rattle.std.proofs.lemmas.Bool.{and_parts, eq-eqb, ne_eqb, or_right, true≢false}
 use Rattle.std.specs.List.{list_any}
 use Rattle.std.specs.Prelude.{IsTrue, is_some}

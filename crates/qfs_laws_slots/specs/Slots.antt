@@ -1,5 +1,6 @@
 -- The table of slots: what is known of each slot after one was placed, changed, sealed or
--- forgotten. Cited by the laws of the tree and of the metaserver.
+-- forgotten. Cited by the laws of the metaserver and of puts and gets, and for the metaserver in
+-- memory.
 use Rattle.qfs_base.specs.Key.{block_cmp}
 use Rattle.qfs_base.specs.KeyLaws.{block_cmp-Equal, block_cmp_total}
 use Rattle.qfs_base.specs.Table.{Each, IsRising, change_row, change_where, place, place_before}
@@ -28,7 +29,7 @@ use Rattle.qfs_base.specs.EachLaws.{each_weaker}
 use Rattle.qfs_laws_tables.specs.EachRow.{each_both, each_of_all, find_none}
 use Rattle.qfs_laws_tables.specs.Keys.{equal-is, greater-not, key-is, less-not}
 use Rattle.qfs_laws_tables.specs.Sums.{total}
-use Rattle.qfs_laws_tables.specs.Placed.{find-placed, find-apart, find_changed}
+use Rattle.qfs_laws_tables.specs.Placed.{find-placed, find-apart, found_changed}
 use Rattle.qfs_model_meta.specs.FreedLaws.{key_kept}
 
 -- ---- keys
@@ -513,10 +514,10 @@ failed_change server block slot slots grant pending =
     let first : SlotRow → SlotRow = change_state ungranted_slot in
     let then : SlotRow → SlotRow = change_state (failed_slot server) in
     ap record_in
-    (find_changed test then (λ row. key_kept block slot (failed_slot server) row true)
+    (found_changed test then (λ row. key_kept block slot (failed_slot server) row true)
     (change_where test first slots)
     ∙ ap (option_map then)
-    (find_changed test first (λ row. key_kept block slot ungranted_slot row true) slots))
+    (found_changed test first (λ row. key_kept block slot ungranted_slot row true) slots))
     ∙ (elim (find test slots) as (λ found. (record_in found).grant ≡ Some grant
     → record_in (option_map then (option_map first found)) ≡ failed_slot server
     (ungranted_slot (record_in found))) [

@@ -1,10 +1,10 @@
 -- What holds of each row of a table, after rows are appended, mapped, kept by a test, changed or
--- placed. Cited by the laws of slots, of the tree, of the metaserver and of puts and gets.
+-- placed. Cited by the other laws, and for tables, leases, names and the metaserver in memory.
 use Rattle.qfs_base.specs.EachLaws.{each_append, each_weaker}
-use Rattle.qfs_base.specs.Table.{Each, change_row, change_where, place, place_before}
+use Rattle.qfs_base.specs.Table.{Each, change_row, change_where, place, place_before, without}
 use Rattle.std.proofs.Common.{Bool, List, None, Option, Some, [], ap, arith, cond, false, filter}
-use Rattle.std.proofs.Common.{find, length, map, refl, slice_range, subst, suc, sym, true, zero, ℕ}
-use Rattle.std.proofs.Common.{⊎_elim, ◌++◌, ◌+◌, ◌<◌, ◌||◌, ◌∙◌, ◌∷◌, ◌≡◌, ◌≤◌, ◌⊎◌}
+use Rattle.std.proofs.Common.{find, length, map, not, refl, slice_range, subst, suc, sym, true}
+use Rattle.std.proofs.Common.{zero, ℕ, ⊎_elim, ◌++◌, ◌+◌, ◌<◌, ◌||◌, ◌∙◌, ◌∷◌, ◌≡◌, ◌≤◌, ◌⊎◌}
 use Rattle.std.proofs.lemmas.Bool.{and_parts, or_right, true≢false}
 use Rattle.std.proofs.lemmas.List.Edits.{get_or-between, length-between}
 use Rattle.std.proofs.lemmas.List.Elements.{All-head, All-tail}
@@ -190,3 +190,8 @@ filter_all test [] each = refl
 filter_all test (row ∷ rows) each =
     ap (λ b. cond b (row ∷ filter test rows) (filter test rows)) each.0
     ∙ ap (λ rest. row ∷ rest) (filter_all test rows each.1)
+
+pub without_none : {X : Type 0} (test : X → Bool) (rows : List X)
+    → Each (λ row. test row ≡ false) rows → without test rows ≡ rows
+without_none test rows each =
+    filter_all (λ row. not (test row)) rows (each_weaker _ _ (λ row off. ap not off) rows each)

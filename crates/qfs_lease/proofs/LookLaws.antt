@@ -33,7 +33,7 @@ held_below file below rows leases is =
     ∙ any_alike _ (λ lease. on lease && nat_lt lease.lease below) leases
     (each_of_all _ alike leases)
     ∙ sym (any_kept (λ lease. nat_lt lease.lease below) on leases)
-    ∙ sym (any_of_map (λ lease. nat_lt lease below) (λ (lease : Lease). lease.lease)
+    ∙ sym (any_mapped (λ (lease : Lease). lease.lease) (λ lease. nat_lt lease below)
     (filter on leases))
   where
     answer : (b : Bool) → is_eq (cond b Equal Less) ≡ b

@@ -1,13 +1,11 @@
 -- Copies that are condemned one after another, and what giving a file up changes.
-use Rattle.std.proofs.Common.{◌≡◌, ℕ, ◌+◌, Bool, true, false, cond, not, List, [], ◌∷◌, ◌++◌, length, map, Option, Some, None, refl, sym, ap, subst, ◌∙◌, append_assoc, length-append, arith}
+use Rattle.std.proofs.Common.{◌≡◌, ℕ, ◌+◌, ◌==◌, Bool, true, false, cond, not, List, [], ◌∷◌, ◌++◌, length, map, Option, Some, None, refl, sym, ap, ◌∙◌, append_assoc, length-append, arith}
 use Rattle.std.specs.Bool.{then_some}
 use Rattle.std.specs.List.{cons_option}
 use Rattle.std.specs.Option.{option_to_list}
 use Rattle.std.proofs.lemmas.List.{append-nil}
-use Rattle.std.specs.Cmp.{ranked}
-use Rattle.std.specs.Ordering.{nat_cmp, is_eq, ordering_then}
-use Rattle.std.specs.declared.cmp.Ordering.{Ordering}
-use Rattle.std.specs.declared.cmp.Ordering.TheVariants.{Less, Equal, Greater}
+use Rattle.std.specs.Ordering.{nat_cmp, is_eq}
+use Rattle.std.specs.declared.cmp.Ordering.TheVariants.{Less}
 use Rattle.qfs_base.specs.declared.chunk.BlockId.{BlockId}
 use Rattle.qfs_base.specs.declared.chunk.Copy.{Copy}
 use Rattle.qfs_base.specs.declared.history.Entry.TheVariants as Wrote
@@ -18,13 +16,13 @@ use Rattle.qfs_base.specs.declared.image.SlotRecord.{SlotRecord}
 use Rattle.qfs_base.specs.declared.image.SlotRow.{SlotRow}
 use Rattle.qfs_base.specs.declared.request.SlotId.{SlotId}
 use Rattle.qfs_base.specs.Table.{Each, IsRising, change_row, change_where}
-use Rattle.qfs_model_meta.specs.Apply.{apply, apply_all, write_entry, with_slots, change_record, give_up, fail_grant}
+use Rattle.qfs_model_meta.specs.Apply.{apply, apply_all, write_entry, with_slots, change_record, give_up}
 use Rattle.qfs_base.specs.declared.change.Change.{Change}
-use Rattle.qfs_base.specs.declared.change.Change.TheVariants.{GiveUp, AbortFile, FailGrant}
+use Rattle.qfs_base.specs.declared.change.Change.TheVariants.{GiveUp, AbortFile}
 use Rattle.qfs_model_meta.specs.Condemned.{condemn, condemned_row, list_if_live}
 use Rattle.qfs_model_meta.specs.PutRequests.{abort_changes}
 use Rattle.qfs_model_meta.specs.Servers.{is_live}
-use Rattle.qfs_model_meta.specs.Slots.{is_slot, is_of_file, slot_at, slot_cmp, slots_of, change_slot, change_state, forget_file, ungranted_slot, failed_slot}
+use Rattle.qfs_model_meta.specs.Slots.{is_slot, is_of_file, slot_at, slot_cmp, slots_of, change_slot, change_state, forget_file, never_granted, ungranted_slot}
 use Rattle.qfs_model_meta.specs.TreeRows.{take_file}
 use Rattle.qfs_meta.specs.Condemning.{condemned_rows, condemning, live_granted, live_grants, aborting}
 use Rattle.qfs_meta.specs.declared.condemning.SlotCopy.{SlotCopy}

@@ -1,5 +1,5 @@
 -- Lists that are walked, or built for one number after another.
-use Rattle.std.proofs.Common.{◌≡◌, ℕ, suc, ◌+◌, ◌-◌, ◌<◌, ◌≤◌, Bool, true, false, cond, find, Some, None, List, [], ◌∷◌, ◌++◌, length, drop, slice_index_or, map, refl, sym, ap, ◌∙◌, append_assoc, arith}
+use Rattle.std.proofs.Common.{◌≡◌, ℕ, suc, ◌+◌, ◌-◌, ◌<◌, ◌≤◌, Bool, true, false, cond, find, Some, None, List, [], ◌∷◌, ◌++◌, length, drop, slice_index_or, map, sym, ap, ◌∙◌, append_assoc, arith}
 use Rattle.std.proofs.lemmas.List.{drop_more}
 use Rattle.std.proofs.lemmas.List.Folds.{find-append}
 use Rattle.std.specs.List.{range_with_len, flat_map}
@@ -89,6 +89,8 @@ pub find_flat-start : {X : Type 0} (test : X → Bool) (f : ℕ → List X) (cou
 find_flat-start test f count =
     let all : count - 0 ≡ count = omega arith in
     ap (λ n. find test (flat_map f (range_with_len 0 n))) all
+
+pub ruleset find_both = (find-append)
 
 pub ruleset find_steps = (find-here, find-next, find-end)
 

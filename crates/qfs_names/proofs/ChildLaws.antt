@@ -15,6 +15,7 @@ use Rattle.qfs_base.specs.NameTree.{PathNames, Standing, is_below, is_filled, is
 use Rattle.qfs_base.specs.Table.{Each, IsRising}
 use Rattle.qfs_base.specs.declared.lists.Name.{Name}
 use Rattle.qfs_laws_tables.specs.Keys.{equal-is, less-not}
+use Rattle.qfs_laws_tables.specs.SomeRow.{any_mapped, any_none}
 use Rattle.qfs_laws_tree.specs.TreeFacts.{within-is}
 use Rattle.qfs_names.proofs.NameLaws.{within-is_eq}
 use Rattle.qfs_names.specs.declared.row.NameRow.{NameRow}

@@ -6,8 +6,8 @@ use Rattle.std.specs.List.{list_any}
 use Rattle.std.specs.Option.{option_map}
 use Rattle.std.specs.Ordering.{ordering_reverse}
 use Rattle.std.specs.declared.cmp.Ordering.{Ordering}
-use Rattle.std.specs.declared.cmp.Ordering.TheVariants.{Equal, Greater, Less}
-use Rattle.qfs_base.specs.Table.{Each, IsRising, change_row, change_where, place, place_all, place_before}
+use Rattle.std.specs.declared.cmp.Ordering.TheVariants.{Equal, Less}
+use Rattle.qfs_base.specs.Table.{Each, IsRising, change_row, change_where, place, place_all}
 use Rattle.qfs_base.specs.EachLaws.{each_weaker}
 use Rattle.qfs_laws_tables.specs.EachRow.{found_has}
 use Rattle.qfs_laws_tables.specs.Keys.{greater-not, less-not}
@@ -20,7 +20,7 @@ module _ {X : Type 0} where
       → find test (place order new rows) ≡ Some new
   find-placed_on order test new rows on each =
       find-placed order test new rows on (each_weaker _ _ (λ row only above.
-      false_from_ne_true (λ is. greater-not (sym above ∙ only is))) rows each)
+      false_from_ne_true (test row) (λ is. greater-not (sym above ∙ only is))) rows each)
 
   -- rows that are kept: those that pass the test are
   pub find-kept : (test keep : X → Bool) (rows : List X)

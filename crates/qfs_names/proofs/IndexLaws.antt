@@ -1,6 +1,6 @@
 -- The paths of unclosed files stay found by file, whatever happens to the tree. For its changes.
 use Rattle.std.proofs.Common.{Bool, List, None, Some, [], ap, arith, cond, false, find, map, not, refl, subst, suc, sym, true, true≢false, zero, ℕ, ◌&&◌, ◌<◌, ◌==◌, ◌^◌, ◌∙◌, ◌∷◌, ◌≡◌, ◌≢◌, ◌≤◌}
-use Rattle.std.proofs.lemmas.Bool.{and_from, and_parts, eq-eqb, eqb-true}
+use Rattle.std.proofs.lemmas.Bool.{and_from, and_left, and_parts, and_right, eq-eqb, eqb-true}
 use Rattle.std.specs.Option.{option_map}
 use Rattle.std.specs.Ordering.{is_eq, nat_cmp}
 use Rattle.std.specs.declared.cmp.Ordering.TheVariants.{Equal}
@@ -12,7 +12,7 @@ use Rattle.qfs_base.specs.declared.lists.NameKind.{NameKind}
 use Rattle.qfs_model_meta.specs.TreeRows.{is_unclosed, kind_of}
 use Rattle.qfs_laws_tables.specs.EachRow.{each_change, each_of_all, each_of_map, find_none, found_has, none_found}
 use Rattle.qfs_laws_tables.specs.Keys.{equal-is, key-is}
-use Rattle.qfs_laws_tables.specs.Placed.{Apart}
+use Rattle.qfs_laws_tables.specs.Placed.{Apart, find_beside}
 use Rattle.qfs_laws_tree.specs.Stands.{at_path-off}
 use Rattle.qfs_laws_tree.specs.Tree.{HasTree, file-one}
 use Rattle.qfs_laws_tree.specs.TreeFacts.{kind_in, path-self}

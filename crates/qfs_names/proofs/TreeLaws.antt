@@ -1,10 +1,8 @@
 -- What the tables find, in the words of the tree's rules. For the calls that read the tree.
-use Rattle.std.proofs.Common.{◌≡◌, ℕ, suc, ◌<◌, ◌+◌, ◌-◌, true, false, cond, List, [], ◌∷◌, length, map, take, find, filter, Option, Some, None, refl, ap, ◌∙◌, arith}
-use Rattle.std.specs.Option.{option_map, option_or}
+use Rattle.std.proofs.Common.{◌≡◌, ◌<◌, true, false, cond, List, [], ◌∷◌, length, find, filter, Some, refl, arith}
+use Rattle.std.specs.Option.{option_map}
 use Rattle.std.specs.Ordering.{is_eq}
-use Rattle.std.specs.List.{range_with_len}
-use Rattle.qfs_base.specs.declared.reply.TreeRefusal.{TreeRefusal}
-use Rattle.qfs_base.specs.Table.{first_of, without}
+use Rattle.qfs_base.specs.Table.{without}
 use Rattle.qfs_base.specs.NameTree.{PathNames, Standing, is_within, kind_at, path_cmp, path_eq, stands_at}
 use Rattle.qfs_names.specs.declared.row.NameRow.{NameRow}
 use Rattle.qfs_names.specs.Names.{row_kind, row_path, standing_of, within_order}

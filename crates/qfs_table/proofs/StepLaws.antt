@@ -5,7 +5,6 @@ use Rattle.std.specs.Cmp.{IsTotalOrder}
 use Rattle.std.specs.Ordering.{is_ge, is_gt, ordering_reverse}
 use Rattle.std.specs.Prelude.{Vec}
 use Rattle.std.specs.declared.cmp.Ordering.{Ordering}
-use Rattle.std.specs.declared.cmp.Ordering.TheVariants.{Less}
 use Rattle.qfs_base.specs.Table.{Each, IsRising, change_row, change_where, has_key}
 use Rattle.qfs_table.specs.Chunks.{flat, rows_at, front, back, change_first}
 use Rattle.qfs_table.specs.Cuts.{IsCut}

@@ -59,12 +59,13 @@ replace_slot-requires-clause-pending c =
     ∙ ap is_some c.in-Some.is
 
 pub returns-clause-ok : goal.returns-clause-ok
-unfolding with_slot
+unfolding with_slot condemn_any
 returns-clause-ok c =
     let m = c.args.image.now in
     let state = c.granted.ensures
     ∙ (λ i. granted_anew c.args.server ((c.server_at-life.ensures ∙ ap (λ servers. server_at servers c.args.server) c.as_slice.ensures) i).life c.args.actor (c.requires.state i)) in
-    let slots = slots_stay c in
+    let slots = ap (λ (n : MetaImage). n.slots) c.in_ok-condemn.ensures.ok
+    ∙ condemned-slots c.args.id.block c.args.id.slot m (Some c.in-Some.pending.copy) in
     next-grant c.args.id c.args.server c.args.actor m c.condemn.new.image c.in-Some.pending c.replace_slot.new.slots
     (ap (λ (state : SlotRecord). state.grant) (sym c.requires.state) ∙ c.in-Some.is)
     c.in_ok-condemn.ensures.ok
