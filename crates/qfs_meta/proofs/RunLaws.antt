@@ -1,7 +1,7 @@
 -- The rows of a table that have a key stand next to each other, and a binary search finds them.
 use Rattle.std.proofs.Common.{◌≡◌, ℕ, zero, suc, ◌+◌, ◌-◌, ◌≤◌, ◌<◌, nat_lt, Bool, true, false, cond, not, List, [], ◌∷◌, ◌++◌, length, take, drop, map, filter, find, slice_range, slice_get, slice_set, slice_index_or, insert, Some, true≢false, refl, sym, ap, ◌∙◌, subst, add-one, append_assoc, length-append, arith}
 use Rattle.std.proofs.lemmas.Bool.Decides.{nat_tests}
-use Rattle.std.proofs.lemmas.List.{append-nil, take-append-drop, drop-drop, set_split, length-take-le, take_at, drop_at}
+use Rattle.std.proofs.lemmas.List.{append-nil, nil_from_length, take-append-drop, drop-drop, set_split, length-take-le, take_at, drop_at}
 use Rattle.std.proofs.lemmas.List.Edits.{length-between}
 use Rattle.std.proofs.lemmas.List.Elements.{filter-append}
 use Rattle.std.proofs.lemmas.List.Folds.{drop_split}
@@ -173,15 +173,11 @@ filter_part {X = X} test rows run part =
     ∙ (λ i. filter_all test inside part.inside i ++ filter_none test behind part.behind i)
     ∙ append-nil inside
 
-no_items : {X : Type 0} (xs : List X) → length xs ≡ 0 → xs ≡ []
-no_items [] none = refl
-no_items (x ∷ xs) none = absurd (omega arith)
-
 -- none passes where the run is empty
 pub filter_empty : {X : Type 0} (test : X → Bool) (rows : List X) (run : Run) → IsPart test rows run → run.end ≤ length rows → run.end ≤ run.start → filter test rows ≡ []
 filter_empty test rows run part within empty =
     filter_part test rows run part
-    ∙ no_items (slice_range rows run.start run.end) (omega (arith, length-between rows run.start run.end within, empty))
+    ∙ nil_from_length (slice_range rows run.start run.end) (omega (arith, length-between rows run.start run.end within, empty))
 
 -- those that don't are the others
 pub without_part : {X : Type 0} (test : X → Bool) (rows : List X) (run : Run) → IsPart test rows run → without test rows ≡ take run.start rows ++ drop run.end rows

@@ -1,5 +1,5 @@
 -- The name tree's rules over the rows of the metaserver's tree.
-use Rattle.std.proofs.Common.{◌≡◌, ◌<◌, ◌-◌, List, [], ◌∷◌, length, find, arith}
+use Rattle.std.proofs.Common.{◌≡◌, ◌<◌, List, [], ◌∷◌, length, find, arith}
 use Rattle.std.specs.Option.{option_map}
 use Rattle.qfs_base.specs.declared.image.TreeRow.{TreeRow}
 use Rattle.qfs_base.specs.NameTree.{PathNames, kind_at, stands_at}
