@@ -1,0 +1,37 @@
+-- The best one of the servers, one server after another.
+use Rattle.std.proofs.Common.{◌≡◌, ℕ, ◌+◌, true, false, cond, List, [], ◌∷◌, filter, fold, Option, Some, None, refl}
+use Rattle.std.specs.List.{reduce, enumerate_from}
+use Rattle.qfs_base.specs.declared.image.Load.{Load}
+use Rattle.qfs_model_meta.specs.Placing.{Numbered, is_open}
+use Rattle.qfs_place.specs.Choosing.{best_with, best_then, better_of}
+use Rattle.qfs_place.specs.declared.choosing.Wanted.{Wanted}
+
+-- the best of a server that may be there and of those behind it
+abbrev pub best_from : Wanted → Option Numbered → List Numbered → Option Numbered
+best_from wanted None servers = reduce (better_of wanted) servers
+best_from wanted (Some best) servers = Some (fold (better_of wanted) best servers)
+
+-- the servers from a number on that may get a new chunk
+abbrev pub open_from : List ℕ → ℕ → List Load → List Numbered
+open_from barred number loads = filter (is_open barred) (enumerate_from number loads)
+
+pub best_next : (wanted : Wanted) (barred : List ℕ) (best : Option Numbered) (number : ℕ) (load : Load)
+    (loads : List Load)
+    → best_from wanted (best_with wanted barred best (number, load)) (open_from barred (number + 1) loads)
+    ≡ best_from wanted best (open_from barred number (load ∷ loads))
+best_next wanted barred None number load loads =
+    let rest : List Numbered = open_from barred (number + 1) loads in
+    elim (is_open barred (number, load)) as (λ b.
+    best_from wanted (cond b (Some (number, load)) None) rest
+    ≡ best_from wanted None (cond b ((number, load) ∷ rest) rest)) [
+      | true ↦ refl
+      | false ↦ refl
+    ]
+best_next wanted barred (Some best) number load loads =
+    let rest : List Numbered = open_from barred (number + 1) loads in
+    elim (is_open barred (number, load)) as (λ b.
+    best_from wanted (cond b (Some (better_of wanted best (number, load))) (Some best)) rest
+    ≡ best_from wanted (Some best) (cond b ((number, load) ∷ rest) rest)) [
+      | true ↦ refl
+      | false ↦ refl
+    ]
