@@ -1,8 +1,7 @@
 -- What each change of the metaserver does to the census of its servers. Cited by whoever keeps a
 -- census beside its tables.
-use Rattle.std.proofs.Common.{◌≡◌, ◌∙◌, ℕ, zero, suc, ◌+◌, ◌==◌, ◌&&◌, Bool, true, false, cond, not, List, [], ◌∷◌, ◌++◌, length, map, filter, fold, count_by, Option, Some, None, refl, sym, ap, subst, arith}
+use Rattle.std.proofs.Common.{◌≡◌, ◌∙◌, ℕ, ◌+◌, Bool, true, false, cond, not, List, [], ◌∷◌, map, filter, fold, Option, Some, None, refl, sym, ap, subst, arith}
 use Rattle.std.proofs.lemmas.Bool.Decides.{nat_tests}
-use Rattle.std.specs.Option.{option_to_list}
 use Rattle.std.specs.declared.cmp.Ordering.TheVariants.{Less}
 use Rattle.qfs_base.specs.EachLaws.{each_weaker}
 use Rattle.qfs_base.specs.declared.change.Change.TheVariants.{CloseFile, AbortFile, RemoveFile, GrantSlot, FailGrant, GiveUp, ConfirmSlot, EmptySlot}
@@ -18,7 +17,7 @@ use Rattle.qfs_base.specs.NameTree.{PathNames}
 use Rattle.qfs_base.specs.Table.{Each, IsRising, change_row, change_where, without}
 use Rattle.qfs_laws_slots.specs.Condemning.{condemn_any-frame}
 use Rattle.qfs_laws_slots.specs.Losing.{condemned-slots}
-use Rattle.qfs_laws_slots.specs.Slots.{is_slot-is, not_slot, slot_at-here, slot_at-behind, slot_cmp_total, total-placed}
+use Rattle.qfs_laws_slots.specs.Slots.{is_slot-is, not_slot, slot_at-here, slot_at-behind, total-placed}
 use Rattle.qfs_laws_tables.specs.InOrder.{change_rises}
 use Rattle.qfs_laws_tables.specs.Keys.{less-not}
 use Rattle.qfs_laws_tables.specs.Sums.{total}
@@ -26,9 +25,9 @@ use Rattle.qfs_model_meta.specs.Apply.{apply, write_entry, with_slots, change_re
 use Rattle.qfs_model_meta.specs.Condemned.{condemn, condemn_any}
 use Rattle.qfs_model_meta.specs.Placing.{census}
 use Rattle.qfs_model_meta.specs.Servers.{server_at, is_live}
-use Rattle.qfs_model_meta.specs.Slots.{is_on, is_slot, is_of_file, slot_at, slots_of, slot_cmp, never_granted, count_on, with_slot, change_slot, change_state, granted_copy, granted_slot, ungranted_slot, failed_slot, confirmed_slot, emptied_slot, sealed_slot, seal_file, forget_file}
-use Rattle.qfs_place.specs.Loads.{change_load, one_more, count_live, uncount_live, uncount_row}
-use Rattle.qfs_place.specs.LoadLaws.{copies_on, copies_in, weight, weight-parts, current_alone, count_on-none, count_on-next, count_on-total, census-same, census-counted, census-uncounted, census-unrow, census-unrows}
+use Rattle.qfs_model_meta.specs.Slots.{is_slot, is_of_file, slot_at, slots_of, slot_cmp, never_granted, with_slot, change_slot, change_state, granted_copy, granted_slot, ungranted_slot, failed_slot, confirmed_slot, emptied_slot, sealed_slot, seal_file, forget_file}
+use Rattle.qfs_place.specs.Loads.{change_load, one_more, uncount_live, uncount_row}
+use Rattle.qfs_place.specs.LoadLaws.{copies_on, copies_in, weight, current_alone, count_on-total, census-same, census-counted, census-uncounted, census-unrow, census-unrows}
 
 -- the census of a state
 abbrev pub census_of : MetaImage → List Load

@@ -1,6 +1,6 @@
 -- How the census of the servers changes with the copies that the slots have. Cited by the laws of
 -- the changes, and by whoever keeps a census beside a table of slots.
-use Rattle.std.proofs.Common.{◌≡◌, ◌∙◌, ◌≢◌, ℕ, zero, suc, ◌+◌, ◌-◌, ◌<◌, ◌≤◌, ◌==◌, ◌&&◌, Bool, true, false, cond, List, [], ◌∷◌, ◌++◌, length, map, fold, count_by, Option, Some, None, slice_index_or, slice_set, refl, sym, ap, subst, arith, ⊎_elim}
+use Rattle.std.proofs.Common.{◌≡◌, ◌∙◌, ℕ, zero, suc, ◌+◌, ◌-◌, ◌<◌, ◌==◌, ◌&&◌, Bool, true, false, cond, List, [], ◌∷◌, ◌++◌, length, map, fold, count_by, Option, Some, None, slice_index_or, slice_set, refl, sym, ap, subst, arith, ⊎_elim}
 use Rattle.std.proofs.lemmas.Bool.{cases_eq, eqb-true}
 use Rattle.std.proofs.lemmas.Bool.Decides.{nat_tests}
 use Rattle.std.proofs.lemmas.List.{ext_get_or, get_or-set_other, get_or-set_same, length-set}
@@ -17,7 +17,7 @@ use Rattle.qfs_laws_tables.specs.Sums.{total, total-append}
 use Rattle.qfs_model_meta.specs.Placing.{load_of, census}
 use Rattle.qfs_model_meta.specs.Servers.{no_server, server_at, is_live}
 use Rattle.qfs_model_meta.specs.Slots.{is_on, count_on, granted_copy}
-use Rattle.qfs_place.specs.Loads.{no_load, load_at, with_load, change_load, one_more, one_fewer, count_live, uncount_live, count_row, uncount_row}
+use Rattle.qfs_place.specs.Loads.{no_load, change_load, one_more, one_fewer, count_live, uncount_live, count_row, uncount_row}
 
 -- ---- what one slot adds to a server's load
 

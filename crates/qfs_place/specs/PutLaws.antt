@@ -1,11 +1,9 @@
 -- The server that a put of a slot is granted, by the census as it stands: the pending grant needs
 -- no leaving out, since its server is barred anyway.
-use Rattle.std.proofs.Common.{◌≡◌, ◌∙◌, ℕ, ◌+◌, ◌==◌, ◌&&◌, ◌||◌, Bool, true, false, cond, not, List, [], ◌∷◌, ◌++◌, map, filter, find, Option, Some, None, refl, sym, ap, subst, arith, ⊎_elim}
+use Rattle.std.proofs.Common.{◌≡◌, ◌∙◌, ℕ, ◌+◌, ◌==◌, ◌&&◌, ◌||◌, Bool, true, false, cond, not, List, [], ◌∷◌, map, filter, Some, None, refl, sym, ap, arith, ⊎_elim}
 use Rattle.std.proofs.lemmas.Bool.{cases_eq, eqb-true, true≢false}
-use Rattle.std.proofs.lemmas.Bool.Decides.{nat_tests}
 use Rattle.std.specs.List.{reduce, enumerate_from, flat_map, list_any}
 use Rattle.std.specs.Option.{option_map, option_to_list}
-use Rattle.std.specs.Prelude.{nat_eq}
 use Rattle.qfs_base.specs.EachLaws.{each_weaker}
 use Rattle.qfs_base.specs.declared.chunk.BlockId.{BlockId}
 use Rattle.qfs_base.specs.declared.chunk.Copy.{Copy}
@@ -18,13 +16,13 @@ use Rattle.qfs_base.specs.NumberSet.{has, with_member}
 use Rattle.qfs_base.specs.Table.{Each, IsRising, change_row, change_where}
 use Rattle.qfs_laws_slots.specs.Slots.{is_slot-is, rows-found}
 use Rattle.qfs_laws_tables.specs.SomeRow.{any_of_append}
-use Rattle.qfs_model_meta.specs.Placing.{Numbered, load_of, census, is_open, open_servers, lighter, choose, with_live_servers, barred_for_put}
+use Rattle.qfs_model_meta.specs.Placing.{Numbered, load_of, census, is_open, open_servers, lighter, choose, barred_for_put}
 use Rattle.qfs_model_meta.specs.PutRequests.{failed_with, chosen_for_put}
 use Rattle.qfs_model_meta.specs.Servers.{is_live}
-use Rattle.qfs_model_meta.specs.Slots.{is_slot, is_of_block, slot_at, slot_cmp, never_granted, count_on, granted_copy, grants_of_block, without_grant, change_slot, change_state, ungranted_slot}
+use Rattle.qfs_model_meta.specs.Slots.{is_slot, is_of_block, slot_at, slot_cmp, never_granted, count_on, granted_copy, without_grant, change_slot, change_state, ungranted_slot}
 use Rattle.qfs_place.specs.Barred.{is_live_at}
 use Rattle.qfs_place.specs.BarredLaws.{row_grants, barred_for_put-is, has-live, has-with_member}
-use Rattle.qfs_place.specs.ChangeLaws.{total-changed, none-granted, TakesOne, ungranted-takes}
+use Rattle.qfs_place.specs.ChangeLaws.{total-changed, none-granted, ungranted-takes}
 use Rattle.qfs_place.specs.LoadLaws.{copies_on, copies_in, count_on-total, is_itself, load_of-same, on_no_other}
 
 -- ---- what the choice depends on
@@ -64,7 +62,7 @@ choose-alike : (servers : List ServerView) (slots others : List SlotRow) (barred
     → choose (census servers slots) barred ≡ choose (census servers others) more
 unfolding choose census open_servers
 choose-alike servers slots others barred more alike =
-    ap (λ open. option_map (λ (s : Numbered). s.0) (reduce lighter open))
+    ap (λ servers. option_map (λ (s : Numbered). s.0) (reduce lighter servers))
     (open-alike slots others barred more alike 1 servers)
 
 -- ---- a slot's pending grant
@@ -78,8 +76,9 @@ rows-have : (block : BlockId) (slot : ℕ) (grant : Grant) (slots : List SlotRow
     → IsRising slot_cmp slots → (slot_at slots block slot).grant ≡ Some grant
     → HaveGrant block slot grant slots
 rows-have block slot grant slots rising is =
-    each_weaker _ _
-    (λ (row : SlotRow) (found : slot_at slots row.block row.slot ≡ row.state) here.
+    each_weaker (λ (row : SlotRow). slot_at slots row.block row.slot ≡ row.state)
+    (λ (row : SlotRow). is_slot block slot row ≡ true → row.state.grant ≡ Some grant)
+    (λ row found here.
     let same = is_slot-is block slot row here in
     ap (λ (state : SlotRecord). state.grant) (sym found)
     ∙ (λ i. (slot_at slots (same.0 i) (same.1 i)).grant)
@@ -228,12 +227,14 @@ ungranted-alike servers slots block slot failed grant rising is n server =
     (ap (has one) own ∙ own-barred servers others block failed grant.copy.server) in
     let second : is_open two (n, other) ≡ false = barred-shut two n other
     (ap (has two) own ∙ own-barred servers slots block failed grant.copy.server) in
-    (first ∙ sym second, (λ open. absurd (true≢false (sym open ∙ second)))))
+    (first ∙ sym second, (λ is_so. absurd (true≢false (sym is_so ∙ second)))))
     (λ differs.
     let same : load ≡ other = load_of-same slots others n server
-    (count-ungranted slots block slot grant n server.life differs rising is) in
-    (open-same one two n load other (barred-ungranted servers slots block slot all grant n differs
-    (rows-have block slot grant slots rising is)) same, (λ _. same)))
+    (count-ungranted slots block slot grant n server.life differs rising is) in (
+      open-same one two n load other (barred-ungranted servers slots block slot all grant n differs
+          (rows-have block slot grant slots rising is)) same,
+      (λ _. same),
+    ))
     (cases_eq n grant.copy.server)
 
 -- ---- the choice for a put

@@ -1,6 +1,6 @@
 -- What becomes of the census where a server goes or comes, and what leaves it alone. Cited by
 -- whoever keeps a census beside the servers.
-use Rattle.std.proofs.Common.{◌≡◌, ◌∙◌, ℕ, List, refl, sym, ap, length}
+use Rattle.std.proofs.Common.{◌≡◌, ℕ, List, refl, sym, ap, length}
 use Rattle.std.specs.Prelude.{⊤}
 use Rattle.qfs_base.specs.declared.change.Change.{Change}
 use Rattle.qfs_base.specs.declared.change.Change.TheVariants.{AddDirectory, TakeDirectory, AddFile, MovePath, GiveLease, EndLease, MarkOrdered, TakeCondemned, CondemnStray, ServerUp, ServerDown, ServerLeaves, ServerSleeps, ClockTicks, DropActor}

@@ -173,7 +173,13 @@ impl Loads {
         ensures { self.new ≡ change_load (seen_as view.now) self.old server }
     {
         let count = self.on(server);
-        self.set(server, Load { count, ..empty(view) });
+        self.set(
+            server,
+            Load {
+                count,
+                ..empty(view)
+            },
+        );
     }
 
     /// Counts a copy or grant, if there is one and it is live. Where its server's load is full the
