@@ -1,3 +1,4 @@
+pub mod BalanceLaws
 pub mod Barred
 pub mod BarredLaws
 pub mod ChangeLaws

@@ -9,17 +9,22 @@ ghost use Rattle.qfs_base.specs.declared.image.MetaImage.{MetaImage};
 ghost use Rattle.qfs_base.specs.declared.image.ServerView.{ServerView};
 ghost use Rattle.qfs_base.specs.declared.image.SlotRow.{SlotRow};
 ghost use Rattle.qfs_base.specs.NameTree.{PathNames};
+ghost use Rattle.qfs_base.specs.declared.reply.MetaReply.TheVariants.{Nothing};
+ghost use Rattle.qfs_base.specs.Shape.{Shape};
 ghost use Rattle.qfs_base.specs.Table.{IsRising};
 ghost use Rattle.qfs_model_meta.specs.Apply.{apply};
+ghost use Rattle.qfs_model_meta.specs.Decision.{need};
 ghost use Rattle.qfs_model_meta.specs.Grammar.{IsServer};
-ghost use Rattle.qfs_model_meta.specs.MoveRequests.{is_barred};
+ghost use Rattle.qfs_model_meta.specs.MoveRequests.{is_barred, decide_balance};
 ghost use Rattle.qfs_model_meta.specs.Placing.{census, choose, with_live_servers, barred_for_put, barred_for_block};
 ghost use Rattle.qfs_model_meta.specs.PutRequests.{failed_with, chosen_for_put};
 ghost use Rattle.qfs_model_meta.specs.Servers.{server_at, server_up, server_down, server_leaving, server_asleep};
 ghost use Rattle.qfs_model_meta.specs.Slots.{slot_at, slot_cmp, slots_of, granted_copy, count_on, is_of_block};
+ghost use Rattle.qfs_place.specs.BalanceLaws.{shift_copy};
 ghost use Rattle.qfs_place.specs.Barred.{row_copies, has_live_on};
 ghost use Rattle.qfs_place.specs.BarredLaws.{row_grants};
 ghost use Rattle.qfs_place.specs.ChangeLaws.{census_of};
+ghost use Rattle.qfs_place.specs.Choosing.{uneven};
 ghost use Rattle.qfs_place.specs.Loads.{change_load, one_more, seen_as, emptied_as, count_row, uncount_live, uncount_row};
 ghost use Rattle.qfs_place.specs.ServerLaws.{LeavesLoads};
 
@@ -134,4 +139,12 @@ pub fn rows_bar_servers()
         → is_barred servers slots block n
         ≡ list_any (λ (row : SlotRow). has_live_on servers n row.state)
         (filter (is_of_block block) slots) }
+{}
+
+/// The move that makes the loads more even goes between the two servers that `uneven` names, and
+/// where there are none it is refused.
+pub fn moves_even_loads_out()
+    ensures { (layout : Shape) (term actor : ℕ) (m : MetaImage)
+        → decide_balance layout term actor m
+        ≡ need Nothing (shift_copy layout term actor m) (uneven (census m.servers m.slots)) }
 {}

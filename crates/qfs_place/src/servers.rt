@@ -1,6 +1,6 @@
 //! What is known of the chunk servers.
 ghost use Rattle.std.specs.Prelude.{◌≡◌};
-ghost use Rattle.qfs_model_meta.specs.Servers.{server_at, is_live, is_listed, listed_copy};
+ghost use Rattle.qfs_model_meta.specs.Servers.{server_at, is_live, is_listed, listed_copy, takes_chunks};
 ghost use Rattle.qfs_model_meta.specs.Slots.{granted_copy};
 
 use qfs_base::chunk::Copy;
@@ -52,6 +52,14 @@ pub fn listed_copy(servers: &[ServerView], copy: Option<Copy>) -> Option<Copy>
     ensures { result ≡ listed_copy servers.now copy }
 {
     copy.filter(|copy| is_listed(servers, *copy))
+}
+
+/// Whether a server takes new chunks: it is up and not leaving.
+#[tactic(auto, unfolding(qfs_model_meta::specs::Servers::takes_chunks))]
+pub fn takes_chunks(server: &ServerView) -> bool
+    ensures { result ≡ takes_chunks server.now }
+{
+    server.up && !server.leaving
 }
 
 /// The copy that a pending grant allows.
