@@ -19,9 +19,10 @@ best_from wanted (Some best) servers = Some (fold (better_of wanted) best server
 abbrev pub open_from : List ℕ → ℕ → List Load → List Numbered
 open_from barred number loads = filter (is_open barred) (enumerate_from number loads)
 
-pub best_next : (wanted : Wanted) (barred : List ℕ) (best : Option Numbered) (number : ℕ) (load : Load)
-    (loads : List Load)
-    → best_from wanted (best_with wanted barred best (number, load)) (open_from barred (number + 1) loads)
+pub best_next : (wanted : Wanted) (barred : List ℕ) (best : Option Numbered) (number : ℕ)
+    (load : Load) (loads : List Load)
+    → best_from wanted (best_with wanted barred best (number, load))
+    (open_from barred (number + 1) loads)
     ≡ best_from wanted best (open_from barred number (load ∷ loads))
 best_next wanted barred None number load loads =
     let rest : List Numbered = open_from barred (number + 1) loads in

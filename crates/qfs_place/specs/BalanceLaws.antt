@@ -1,6 +1,6 @@
 -- The move that makes the loads more even, by the two servers between which it goes. Cited by
 -- whoever serves it by a census.
-use Rattle.std.proofs.Common.{◌≡◌, ℕ, ◌+◌, Bool, true, false, List, [], find, Option, Some, None, refl}
+use Rattle.std.proofs.Common.{◌≡◌, ℕ, ◌+◌, true, false, [], find, Option, Some, None, refl}
 use Rattle.std.specs.Bool.{then_some}
 use Rattle.std.specs.List.{reduce}
 use Rattle.std.specs.Prelude.{nat_le}
@@ -20,7 +20,8 @@ shift_copy layout term actor m shift =
     (find (fits_move layout shift.giver shift.taker m) m.slots)
 
 shift-decides : (layout : Shape) (term actor : ℕ) (m : MetaImage) (taker giver : Option Numbered)
-    → need Told.Nothing (λ (g : Numbered). need Told.Nothing (even_out layout term actor m g) taker) giver
+    → need Told.Nothing (λ (g : Numbered). need Told.Nothing (even_out layout term actor m g) taker)
+    giver
     ≡ need Told.Nothing (shift_copy layout term actor m) (shift_from taker giver)
 unfolding need unless even_out
 shift-decides layout term actor m taker None = refl

@@ -24,7 +24,8 @@ use Rattle.qfs_place.specs.Barred.{row_copies, is_live_at, has_live_on}
 
 -- the set with the server of a copy that is live
 abbrev pub with_live : List ServerView → List ℕ → Copy → List ℕ
-with_live servers members copy = cond (is_live servers copy) (with_member members copy.server) members
+with_live servers members copy =
+    cond (is_live servers copy) (with_member members copy.server) members
 
 fold-append : {A B : Type 0} (f : B → A → B) (start : B) (xs ys : List A)
     → fold f start (xs ++ ys) ≡ fold f (fold f start xs) ys
@@ -43,18 +44,22 @@ row_grants row = option_to_list (granted_copy row.state.grant)
 
 pub grants_next : (servers : List ServerView) (set : List ℕ) (row : SlotRow) (rows : List SlotRow)
     → with_live_servers servers set (flat_map row_grants (row ∷ rows))
-    ≡ with_live_servers servers (with_live_servers servers set (row_grants row)) (flat_map row_grants rows)
-grants_next servers set row rows = live_append servers set (row_grants row) (flat_map row_grants rows)
+    ≡ with_live_servers servers (with_live_servers servers set (row_grants row))
+    (flat_map row_grants rows)
+grants_next servers set row rows =
+    live_append servers set (row_grants row) (flat_map row_grants rows)
 
 pub copies_next : (servers : List ServerView) (set : List ℕ) (row : SlotRow) (rows : List SlotRow)
     → with_live_servers servers set (flat_map (λ (r : SlotRow). row_copies r.state) (row ∷ rows))
     ≡ with_live_servers servers (with_live_servers servers set (row_copies row.state))
     (flat_map (λ (r : SlotRow). row_copies r.state) rows)
 copies_next servers set row rows =
-    live_append servers set (row_copies row.state) (flat_map (λ (r : SlotRow). row_copies r.state) rows)
+    live_append servers set (row_copies row.state)
+    (flat_map (λ (r : SlotRow). row_copies r.state) rows)
 
 -- all rows of a block bar these
-pub barred_for_put-is : (servers : List ServerView) (slots : List SlotRow) (block : BlockId) (failed : List ℕ)
+pub barred_for_put-is : (servers : List ServerView) (slots : List SlotRow) (block : BlockId)
+    (failed : List ℕ)
     → barred_for_put servers slots block failed
     ≡ with_live_servers servers failed (flat_map row_grants (filter (is_of_block block) slots))
 unfolding barred_for_put grants_of_block
@@ -70,7 +75,8 @@ barred_for_block-is servers slots block = refl
 -- ---- who is barred
 
 -- a set has the number that was put in, and those it had (this belongs to the laws of sets)
-pub has-with_member : (set : List ℕ) (k n : ℕ) → has (with_member set k) n ≡ (nat_eq k n || has set n)
+pub has-with_member : (set : List ℕ) (k n : ℕ)
+    → has (with_member set k) n ≡ (nat_eq k n || has set n)
 has-with_member [] k n = refl
 has-with_member (x ∷ xs) k n =
     elim (nat_cmp k x) as (λ o. nat_cmp k x ≡ o
@@ -110,7 +116,8 @@ has-live servers n set (copy ∷ copies) =
     ∙ elim (is_live servers copy) as (λ b.
     (has (cond b (with_member set copy.server) set) n || list_any (is_live_at servers n) copies)
     ≡ (has set n || ((nat_eq copy.server n && b) || list_any (is_live_at servers n) copies))) [
-      | true ↦ ap (λ b. b || list_any (is_live_at servers n) copies) (has-with_member set copy.server n)
+      | true ↦ ap (λ b. b || list_any (is_live_at servers n) copies)
+          (has-with_member set copy.server n)
           ∙ moved (nat_eq copy.server n) (has set n) (list_any (is_live_at servers n) copies)
       | false ↦ dead (nat_eq copy.server n) (has set n) (list_any (is_live_at servers n) copies)
     ]
@@ -142,7 +149,8 @@ any-rows servers n (row ∷ rows) =
 -- copy or grant there
 pub barred-rows : (servers : List ServerView) (slots : List SlotRow) (block : BlockId) (n : ℕ)
     → is_barred servers slots block n
-    ≡ list_any (λ (row : SlotRow). has_live_on servers n row.state) (filter (is_of_block block) slots)
+    ≡ list_any (λ (row : SlotRow). has_live_on servers n row.state)
+    (filter (is_of_block block) slots)
 unfolding is_barred
 barred-rows servers slots block n =
     let rows : List SlotRow = filter (is_of_block block) slots in

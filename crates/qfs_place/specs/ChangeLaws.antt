@@ -1,6 +1,6 @@
 -- What each change of the metaserver does to the census of its servers. Cited by whoever keeps a
 -- census beside its tables.
-use Rattle.std.proofs.Common.{◌≡◌, ◌∙◌, ℕ, ◌+◌, Bool, true, false, cond, not, List, [], ◌∷◌, map, filter, fold, Option, Some, None, refl, sym, ap, subst, arith}
+use Rattle.std.proofs.Common.{◌≡◌, ◌∙◌, ℕ, ◌+◌, Bool, true, false, cond, not, List, [], ◌∷◌, map, filter, fold, length, Option, Some, None, refl, sym, ap, subst, arith}
 use Rattle.std.proofs.lemmas.Bool.Decides.{nat_tests}
 use Rattle.std.specs.declared.cmp.Ordering.TheVariants.{Less}
 use Rattle.qfs_base.specs.EachLaws.{each_weaker}
@@ -13,6 +13,7 @@ use Rattle.qfs_base.specs.declared.image.MetaImage.{MetaImage}
 use Rattle.qfs_base.specs.declared.image.ServerView.{ServerView}
 use Rattle.qfs_base.specs.declared.image.SlotRecord.{SlotRecord}
 use Rattle.qfs_base.specs.declared.image.SlotRow.{SlotRow}
+use Rattle.qfs_base.specs.declared.reply.MetaReply.TheVariants as Told
 use Rattle.qfs_base.specs.NameTree.{PathNames}
 use Rattle.qfs_base.specs.Table.{Each, IsRising, change_row, change_where, without}
 use Rattle.qfs_laws_slots.specs.Condemning.{condemn_any-frame}
@@ -23,15 +24,24 @@ use Rattle.qfs_laws_tables.specs.Keys.{less-not}
 use Rattle.qfs_laws_tables.specs.Sums.{total}
 use Rattle.qfs_model_meta.specs.Apply.{apply, write_entry, with_slots, change_record, grant_slot, give_up, fail_grant, confirm_slot, empty_slot}
 use Rattle.qfs_model_meta.specs.Condemned.{condemn, condemn_any}
-use Rattle.qfs_model_meta.specs.Placing.{census}
+use Rattle.qfs_model_meta.specs.Decision.{Tells}
+use Rattle.qfs_model_meta.specs.Grammar.{IsServer}
+use Rattle.qfs_model_meta.specs.Placing.{census, load_of}
+use Rattle.qfs_model_meta.specs.ServerRequests.{decide_left_on}
 use Rattle.qfs_model_meta.specs.Servers.{server_at, is_live}
-use Rattle.qfs_model_meta.specs.Slots.{is_slot, is_of_file, slot_at, slots_of, slot_cmp, never_granted, with_slot, change_slot, change_state, granted_copy, granted_slot, ungranted_slot, failed_slot, confirmed_slot, emptied_slot, sealed_slot, seal_file, forget_file}
-use Rattle.qfs_place.specs.Loads.{change_load, one_more, uncount_live, uncount_row}
-use Rattle.qfs_place.specs.LoadLaws.{copies_on, copies_in, weight, current_alone, count_on-total, census-same, census-counted, census-uncounted, census-unrow, census-unrows}
+use Rattle.qfs_model_meta.specs.Slots.{count_on, is_slot, is_of_file, slot_at, slots_of, slot_cmp, never_granted, with_slot, change_slot, change_state, granted_copy, granted_slot, ungranted_slot, failed_slot, confirmed_slot, emptied_slot, sealed_slot, seal_file, forget_file}
+use Rattle.qfs_place.specs.Loads.{load_at, change_load, one_more, uncount_live, uncount_row}
+use Rattle.qfs_place.specs.LoadLaws.{census-load, copies_on, copies_in, weight, current_alone, count_on-total, census-same, census-counted, census-uncounted, census-unrow, census-unrows}
 
 -- the census of a state
 abbrev pub census_of : MetaImage → List Load
 census_of m = census m.servers m.slots
+
+left-load : (m : MetaImage) (server : ℕ) → IsServer (length m.servers) server
+    → (load_at (census_of m) server).count
+    ≡ count_on server (server_at m.servers server).life m.slots
+unfolding load_of
+left-load m server is = ap (λ (load : Load). load.count) (census-load m.servers m.slots server is)
 
 -- ---- one slot's record changes (the sum over the rows belongs to the laws of slots)
 
@@ -222,8 +232,8 @@ unfolding fail_grant change_record with_slots
 failed-census block slot m None rising is = none_uncounted m
 failed-census block slot m (Some grant) rising is =
     let n : MetaImage = give_up block slot m (Some grant) in
-    census-kept n.servers (failed_slot grant.copy.server) (failed-keeps grant.copy.server) block slot
-    n.slots (given_up-rises block slot m (Some grant) rising)
+    census-kept n.servers (failed_slot grant.copy.server) (failed-keeps grant.copy.server) block
+    slot n.slots (given_up-rises block slot m (Some grant) rising)
     ∙ given_up-census block slot m (Some grant) rising is
 
 -- ---- the changes of one slot
@@ -238,8 +248,8 @@ more_granted n l server life actor lease state free =
     ap (λ grant. copies_on n l (granted_copy grant)) free in
     omega (arith, none)
 
-is_known : (servers : List ServerView) (copy : Copy) → copy.life ≡ (server_at servers copy.server).life
-    → is_live servers copy ≡ true
+is_known : (servers : List ServerView) (copy : Copy)
+    → copy.life ≡ (server_at servers copy.server).life → is_live servers copy ≡ true
 unfolding is_live
 is_known servers copy same = grind (arith, nat_tests)
 
@@ -261,7 +271,8 @@ granted-census m block slot server actor lease rising free =
     let later = count_on-total n l (with_slot block slot new m.slots) in
     let more = more_granted n l server life actor lease state free in
     omega (arith, placed, old, later, more))
-    ∙ ap (λ b. cond b (change_load one_more (census_of m) server) (census_of m)) (is_known m.servers copy refl)
+    ∙ ap (λ b. cond b (change_load one_more (census_of m) server) (census_of m))
+    (is_known m.servers copy refl)
 
 -- a grant that is given up, or whose server failed, leaves its server
 pub gave_up-census : (m : MetaImage) (block : BlockId) (slot : ℕ) → IsRising slot_cmp m.slots
@@ -285,8 +296,8 @@ pub confirmed-census : (m : MetaImage) (block : BlockId) (slot : ℕ) → IsRisi
 unfolding apply confirm_slot
 confirmed-census m block slot rising =
     condemned-changed block slot m (slot_at m.slots block slot).current confirmed_slot
-    ∙ census-took m.servers confirmed_slot (λ state. state.current) confirmed-takes block slot m.slots
-    rising
+    ∙ census-took m.servers confirmed_slot (λ state. state.current) confirmed-takes block slot
+    m.slots rising
 
 -- a slot that is emptied: both copies leave their servers
 pub emptied-census : (m : MetaImage) (block : BlockId) (slot : ℕ) → IsRising slot_cmp m.slots
@@ -404,3 +415,10 @@ closed-census m file actor command =
     let gone = count_on-total n l (currents before) in
     omega (arith, parts, all, kept, gone))
     ∙ fold-currents m.servers (census_of m) before
+
+-- what is left on a server is its load
+pub left-census : (m : MetaImage) (server : ℕ) → IsServer (length m.servers) server
+    → decide_left_on server m ≡ Tells (Told.Left (load_at (census_of m) server).count)
+unfolding decide_left_on
+left-census m server is =
+    ap (λ count. Tells (Told.Left count)) (sym (left-load m server is))

@@ -19,7 +19,8 @@ best_then wanted None next = next
 best_then wanted (Some best) next = better_of wanted best next
 
 abbrev pub best_with : Wanted → List ℕ → Option Numbered → Numbered → Option Numbered
-best_with wanted barred best next = cond (is_open barred next) (Some (best_then wanted best next)) best
+best_with wanted barred best next =
+    cond (is_open barred next) (Some (best_then wanted best next)) best
 
 -- from one server to another, where the second would still have no more copies than the first
 abbrev pub shift_between : Numbered → Numbered → Option Shift

@@ -1,6 +1,6 @@
 -- How the census of the servers changes with the copies that the slots have. Cited by the laws of
 -- the changes, and by whoever keeps a census beside a table of slots.
-use Rattle.std.proofs.Common.{◌≡◌, ◌∙◌, ℕ, zero, suc, ◌+◌, ◌-◌, ◌<◌, ◌==◌, ◌&&◌, Bool, true, false, cond, List, [], ◌∷◌, ◌++◌, length, map, fold, count_by, Option, Some, None, slice_index_or, slice_set, refl, sym, ap, subst, arith, ⊎_elim}
+use Rattle.std.proofs.Common.{◌≡◌, ◌≤◌, ◌∙◌, ℕ, zero, suc, ◌+◌, ◌-◌, ◌<◌, ◌==◌, ◌&&◌, Bool, true, false, cond, List, [], ◌∷◌, ◌++◌, length, map, fold, count_by, Option, Some, None, slice_index_or, slice_set, refl, sym, ap, subst, arith, ⊎_elim}
 use Rattle.std.proofs.lemmas.Bool.{cases_eq, eqb-true}
 use Rattle.std.proofs.lemmas.Bool.Decides.{nat_tests}
 use Rattle.std.proofs.lemmas.List.{ext_get_or, get_or-set_other, get_or-set_same, length-set}
@@ -14,10 +14,11 @@ use Rattle.qfs_base.specs.declared.image.SlotRecord.{SlotRecord}
 use Rattle.qfs_base.specs.declared.image.SlotRow.{SlotRow}
 use Rattle.qfs_laws_slots.specs.Choice.{census-length}
 use Rattle.qfs_laws_tables.specs.Sums.{total, total-append}
+use Rattle.qfs_model_meta.specs.Grammar.{IsServer}
 use Rattle.qfs_model_meta.specs.Placing.{load_of, census}
 use Rattle.qfs_model_meta.specs.Servers.{no_server, server_at, is_live}
 use Rattle.qfs_model_meta.specs.Slots.{is_on, count_on, granted_copy}
-use Rattle.qfs_place.specs.Loads.{no_load, change_load, one_more, one_fewer, count_live, uncount_live, count_row, uncount_row}
+use Rattle.qfs_place.specs.Loads.{no_load, load_at, change_load, one_more, one_fewer, count_live, uncount_live, count_row, uncount_row}
 
 -- ---- what one slot adds to a server's load
 
@@ -98,6 +99,13 @@ pub length-census : (servers : List ServerView) (slots : List SlotRow)
 unfolding census
 length-census servers slots = census-length slots 1 servers
 
+-- the load of a server that is there
+pub census-load : (servers : List ServerView) (slots : List SlotRow) (s : ℕ)
+    → IsServer (length servers) s
+    → load_at (census servers slots) s ≡ load_of slots s (server_at servers s)
+census-load servers slots zero is = absurd (omega (arith, is.0))
+census-load servers slots (suc at) is = census-at servers slots at (omega (arith, is.1))
+
 -- where the load of one server changed, and those of all others stayed
 pub census-moved : (change : Load → Load) (s : ℕ) (servers later : List ServerView)
     (before after : List SlotRow) → length later ≡ length servers
@@ -120,7 +128,8 @@ census-moved change (suc k) servers later before after long own others =
     ext_get_or no_load (census later after) set
     (new ∙ long ∙ sym old ∙ sym (length-set (census servers before) k load))
     (λ i within. ⊎_elim
-    (λ (e : k ≡ i). subst (λ n. slice_index_or (census later after) n no_load ≡ slice_index_or set n no_load) e
+    (λ (e : k ≡ i). subst
+    (λ n. slice_index_or (census later after) n no_load ≡ slice_index_or set n no_load) e
     (let here : k < length servers = omega (arith, within, new, long, e) in
     census-at later after k (omega (arith, here, long))
     ∙ own
@@ -151,7 +160,8 @@ load_of-fewer : (before after : List SlotRow) (n : ℕ) (server : ServerView)
     → load_of after n server ≡ one_fewer (load_of before n server)
 unfolding load_of
 load_of-fewer before after n server fewer =
-    let e : count_on n server.life after ≡ count_on n server.life before - 1 = omega (arith, fewer) in
+    let e : count_on n server.life after ≡ count_on n server.life before - 1 =
+    omega (arith, fewer) in
     ap (λ (count : ℕ). record { up = server.up; leaving = server.leaving; count = count }) e
 
 -- where each server's load stayed
@@ -160,7 +170,8 @@ pub census-same : (servers : List ServerView) (before after : List SlotRow)
     ≡ count_on n (server_at servers n).life before)
     → census servers after ≡ census servers before
 census-same servers before after same =
-    census-moved (λ _. load_of after 0 (server_at servers 0)) 0 servers servers before after refl refl
+    census-moved (λ _. load_of after 0 (server_at servers 0)) 0 servers servers before after refl
+    refl
     (λ n _. load_of-same before after n (server_at servers n) (same n))
 
 -- ---- one copy more or fewer
@@ -178,7 +189,8 @@ on_its_own servers copy live =
     ap (λ b. b && (copy.life == life)) (is_itself copy.server) ∙ live in
     ap (λ b. 0 + cond b 1 0) both
 
-pub on_no_other : (n life : ℕ) (copy : Copy) → (n ≡ copy.server → ⊥) → copies_on n life (Some copy) ≡ 0
+pub on_no_other : (n life : ℕ) (copy : Copy) → (n ≡ copy.server → ⊥)
+    → copies_on n life (Some copy) ≡ 0
 on_no_other n life copy differs =
     elim (copy.server == n) as (λ b. (copy.server == n) ≡ b
     → 0 + cond (b && (copy.life == life)) 1 0 ≡ 0) [
@@ -195,7 +207,8 @@ on_none servers copy dead n =
     → 0 + cond (b && (copy.life == (server_at servers n).life)) 1 0 ≡ 0) [
       | true ↦ λ is.
           let own : (copy.life == (server_at servers n).life) ≡ false =
-          subst (λ k. (copy.life == (server_at servers k).life) ≡ false) (eqb-true copy.server n is) dead in
+          subst (λ k. (copy.life == (server_at servers k).life) ≡ false)
+          (eqb-true copy.server n is) dead in
           ap (λ b. 0 + cond b 1 0) own
       | false ↦ λ is. refl
     ] refl
@@ -223,7 +236,8 @@ census-counted servers (Some copy) before after more =
     ] refl
 
 -- they have one copy fewer
-pub census-uncounted : (servers : List ServerView) (copy : Option Copy) (before after : List SlotRow)
+pub census-uncounted : (servers : List ServerView) (copy : Option Copy)
+    (before after : List SlotRow)
     → ((n life : ℕ) → count_on n life before ≡ count_on n life after + copies_on n life copy)
     → census servers after ≡ uncount_live servers copy (census servers before)
 census-uncounted servers None before after fewer =
@@ -243,6 +257,41 @@ census-uncounted servers (Some copy) before after fewer =
           (λ n. let m = fewer n (server_at servers n).life in
           let o = on_none servers copy dead n in omega (arith, m, o))
     ] refl
+
+-- no load rises where a copy leaves
+fewer-at : (loads : List Load) (s n : ℕ)
+    → (load_at (change_load one_fewer loads s) n).count ≤ (load_at loads n).count
+fewer-at loads zero n = omega arith
+fewer-at loads (suc k) zero = omega arith
+fewer-at loads (suc k) (suc i) =
+    let load : Load = one_fewer (slice_index_or loads k no_load) in
+    ⊎_elim
+    (λ (e : k ≡ i). subst
+    (λ j. (slice_index_or (slice_set loads k load) j no_load).count
+    ≤ (slice_index_or loads j no_load).count)
+    e (here loads k))
+    (λ differs. let same = ap (λ (l : Load). l.count)
+    (get_or-set_other loads k i load no_load (λ e. differs (sym e))) in omega (arith, same))
+    (cases_eq k i)
+  where
+    here : (loads : List Load) (k : ℕ)
+        → (slice_index_or (slice_set loads k (one_fewer (slice_index_or loads k no_load))) k
+        no_load).count
+        ≤ (slice_index_or loads k no_load).count
+    here [] k = omega arith
+    here (load ∷ loads) zero = omega arith
+    here (load ∷ loads) (suc k) = here loads k
+
+pub uncounted-at : (servers : List ServerView) (copy : Option Copy) (loads : List Load) (n : ℕ)
+    → (load_at (uncount_live servers copy loads) n).count ≤ (load_at loads n).count
+uncounted-at servers None loads n = omega arith
+uncounted-at servers (Some copy) loads n =
+    elim (is_live servers copy) as (λ b.
+    (load_at (cond b (change_load one_fewer loads copy.server) loads) n).count
+    ≤ (load_at loads n).count) [
+      | true ↦ fewer-at loads copy.server n
+      | false ↦ omega arith
+    ]
 
 -- ---- slots that come and go
 

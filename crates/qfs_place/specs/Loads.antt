@@ -37,9 +37,12 @@ one_fewer load = record load { count = load.count - 1 }
 abbrev pub seen_as : ServerView → Load → Load
 seen_as server load = record load { up = server.up; leaving = server.leaving }
 
--- the same where it came up empty
+-- the same where it came up with so many copies, and where it came up with none
+abbrev pub counted_as : ServerView → ℕ → Load → Load
+counted_as server count load = record { up = server.up; leaving = server.leaving; count = count }
+
 abbrev pub emptied_as : ServerView → Load → Load
-emptied_as server load = record { up = server.up; leaving = server.leaving; count = 0 }
+emptied_as server = counted_as server 0
 
 -- the loads once a copy, if it is live, came to its server, and once it left it
 abbrev pub count_live : List ServerView → Option Copy → List Load → List Load
@@ -59,4 +62,5 @@ count_row servers loads row =
 
 abbrev pub uncount_row : List ServerView → List Load → SlotRow → List Load
 uncount_row servers loads row =
-    uncount_live servers (granted_copy row.state.grant) (uncount_live servers row.state.current loads)
+    uncount_live servers (granted_copy row.state.grant)
+    (uncount_live servers row.state.current loads)

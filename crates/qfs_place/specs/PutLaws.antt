@@ -32,9 +32,11 @@ abbrev AreAlike : List SlotRow → List ℕ → List SlotRow → List ℕ → Ty
 AreAlike slots barred others more =
     (n : ℕ) (server : ServerView)
     → (is_open barred (n, load_of slots n server) ≡ is_open more (n, load_of others n server))
-    × (is_open more (n, load_of others n server) ≡ true → load_of slots n server ≡ load_of others n server)
+    × (is_open more (n, load_of others n server) ≡ true
+    → load_of slots n server ≡ load_of others n server)
 
-open-alike : (slots others : List SlotRow) (barred more : List ℕ) → AreAlike slots barred others more
+open-alike : (slots others : List SlotRow) (barred more : List ℕ)
+    → AreAlike slots barred others more
     → (number : ℕ) (servers : List ServerView)
     → filter (is_open barred) (enumerate_from number
     (map (λ (s : ℕ × ServerView). load_of slots s.0 s.1) (enumerate_from number servers)))
@@ -48,7 +50,8 @@ open-alike slots others barred more alike number (server ∷ servers) =
     let rest : list barred slots ≡ list more others =
     open-alike slots others barred more alike (number + 1) servers in
     let same = alike number server in
-    ap (λ b. cond b ((number, load_of slots number server) ∷ list barred slots) (list barred slots)) same.0
+    ap (λ b. cond b ((number, load_of slots number server) ∷ list barred slots)
+    (list barred slots)) same.0
     ∙ elim (is_open more (number, load_of others number server)) as
     (λ b. (b ≡ true → load_of slots number server ≡ load_of others number server)
     → cond b ((number, load_of slots number server) ∷ list barred slots) (list barred slots)
@@ -156,10 +159,12 @@ barred-ungranted : (servers : List ServerView) (slots : List SlotRow) (block : B
     ≡ has (barred_for_put servers slots block failed) n
 unfolding change_slot
 barred-ungranted servers slots block slot failed grant n differs have =
-    let others : List SlotRow = change_where (is_slot block slot) (change_state ungranted_slot) slots in
+    let others : List SlotRow =
+    change_where (is_slot block slot) (change_state ungranted_slot) slots in
     ap (λ set. has set n) (barred_for_put-is servers others block failed)
     ∙ has-live servers n failed (flat_map row_grants (filter (is_of_block block) others))
-    ∙ ap (λ b. has failed n || b) (any-ungranted servers n block block slot grant differs slots have)
+    ∙ ap (λ b. has failed n || b)
+    (any-ungranted servers n block block slot grant differs slots have)
     ∙ sym (has-live servers n failed (flat_map row_grants (filter (is_of_block block) slots)))
     ∙ ap (λ set. has set n) (sym (barred_for_put-is servers slots block failed))
 
@@ -239,7 +244,8 @@ ungranted-alike servers slots block slot failed grant rising is n server =
 
 -- ---- the choice for a put
 
-pub chosen-by-census : (servers : List ServerView) (slots : List SlotRow) (block : BlockId) (slot : ℕ)
+pub chosen-by-census : (servers : List ServerView) (slots : List SlotRow) (block : BlockId)
+    (slot : ℕ)
     → IsRising slot_cmp slots
     → chosen_for_put block slot servers slots (slot_at slots block slot)
     ≡ choose (census servers slots)
@@ -250,8 +256,10 @@ chosen-by-census servers slots block slot rising =
     let failed : List ℕ = (slot_at slots block slot).failed in
     elim (slot_at slots block slot).grant as (λ pending. (slot_at slots block slot).grant ≡ pending
     → choose (census servers (without_grant block slot slots pending))
-    (barred_for_put servers (without_grant block slot slots pending) block (failed_with failed pending))
-    ≡ choose (census servers slots) (barred_for_put servers slots block (failed_with failed pending))) [
+    (barred_for_put servers (without_grant block slot slots pending) block
+    (failed_with failed pending))
+    ≡ choose (census servers slots)
+    (barred_for_put servers slots block (failed_with failed pending))) [
       | None ↦ λ _. refl
       | Some grant ↦ λ is. choose-alike servers (change_slot block slot ungranted_slot slots) slots
           (barred_for_put servers (change_slot block slot ungranted_slot slots) block

@@ -17,7 +17,7 @@ use Rattle.qfs_model_meta.specs.Servers.{server_at, change_server, server_up, se
 use Rattle.qfs_model_meta.specs.Slots.{count_on}
 use Rattle.qfs_place.specs.ChangeLaws.{census_of}
 use Rattle.qfs_place.specs.LoadLaws.{census-moved}
-use Rattle.qfs_place.specs.Loads.{change_load, seen_as, emptied_as}
+use Rattle.qfs_place.specs.Loads.{change_load, seen_as, counted_as}
 
 -- a server that changed, where the slots stay
 changed-census : (see : Load → Load) (change : ServerView → ServerView) (servers : List ServerView)
@@ -27,9 +27,11 @@ changed-census : (see : Load → Load) (change : ServerView → ServerView) (ser
 changed-census see change servers slots s is own =
     census-moved see s servers (change_server change servers s) slots slots
     (change-length change servers s)
-    (server-cases (λ (view : ServerView). load_of slots s view ≡ see (load_of slots s (server_at servers s)))
+    (server-cases
+    (λ (view : ServerView). load_of slots s view ≡ see (load_of slots s (server_at servers s)))
     change servers s s is (λ _. own) (λ differs. absurd (differs refl)))
-    (λ n differs. server-cases (λ (view : ServerView). load_of slots n view ≡ load_of slots n (server_at servers n))
+    (λ n differs. server-cases
+    (λ (view : ServerView). load_of slots n view ≡ load_of slots n (server_at servers n))
     change servers s n is (λ e. absurd (differs (sym e))) (λ _. refl))
 
 seen-load : (slots : List SlotRow) (s : ℕ) (before after : ServerView) → after.life ≡ before.life
@@ -38,12 +40,12 @@ unfolding load_of
 seen-load slots s before after same = λ i.
     record { up = after.up; leaving = after.leaving; count = count_on s (same i) slots }
 
-emptied-load : (slots : List SlotRow) (s : ℕ) (before after : ServerView)
-    → count_on s after.life slots ≡ 0
-    → load_of slots s after ≡ emptied_as after (load_of slots s before)
+counted-load : (slots : List SlotRow) (s : ℕ) (before after : ServerView)
+    (count : ℕ) → count_on s after.life slots ≡ count
+    → load_of slots s after ≡ counted_as after count (load_of slots s before)
 unfolding load_of
-emptied-load slots s before after none = λ i.
-    record { up = after.up; leaving = after.leaving; count = none i }
+counted-load slots s before after count is = λ i.
+    record { up = after.up; leaving = after.leaving; count = is i }
 
 -- a server that came up again in the life that was known keeps its load
 pub up_again-census : (m : MetaImage) (server life : ℕ) → IsServer (length m.servers) server
@@ -56,16 +58,18 @@ up_again-census m server life is same =
     changed-census (seen_as after) (server_up life) m.servers m.slots server is
     (seen-load m.slots server (server_at m.servers server) after same)
 
--- one that came up in a new life, in which no copy stands there, has none
-pub up_anew-census : (m : MetaImage) (server life : ℕ) → IsServer (length m.servers) server
-    → count_on server life m.slots ≡ 0
+-- one that came up in a new life has the copies that stand there in this life, of which a sound
+-- state has none
+pub up_anew-census : (m : MetaImage) (server life count : ℕ) → IsServer (length m.servers) server
+    → count_on server life m.slots ≡ count
     → census_of (apply m (ServerUp server life))
-    ≡ change_load (emptied_as (server_up life (server_at m.servers server))) (census_of m) server
+    ≡ change_load (counted_as (server_up life (server_at m.servers server)) count) (census_of m)
+    server
 unfolding apply bring_up server_up
-up_anew-census m server life is none =
+up_anew-census m server life count is counted =
     let after : ServerView = server_up life (server_at m.servers server) in
-    changed-census (emptied_as after) (server_up life) m.servers m.slots server is
-    (emptied-load m.slots server (server_at m.servers server) after none)
+    changed-census (counted_as after count) (server_up life) m.servers m.slots server is
+    (counted-load m.slots server (server_at m.servers server) after count counted)
 
 -- one that goes down, leaves or hibernates keeps its load
 pub down-census : (m : MetaImage) (server : ℕ) → IsServer (length m.servers) server

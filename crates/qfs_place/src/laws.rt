@@ -1,23 +1,26 @@
 //! Laws of the loads and of the choice. Each function here does nothing, and its contract is a
 //! law.
-ghost use Rattle.std.specs.Prelude.{◌≡◌, ◌++◌, ◌∷◌, [], ℕ, List, None, fold, filter, flat_map, length};
+ghost use Rattle.std.specs.Prelude.{◌≡◌, ◌++◌, ◌∷◌, [], ◌≤◌, ℕ, List, Option, None, fold, filter, flat_map, length};
 ghost use Rattle.std.specs.List.{list_any};
 ghost use Rattle.qfs_base.specs.declared.change.Change.{Change};
 ghost use Rattle.qfs_base.specs.declared.change.Change.TheVariants.{CloseFile, AbortFile, RemoveFile, GrantSlot, FailGrant, GiveUp, ConfirmSlot, EmptySlot, ServerUp, ServerDown, ServerLeaves, ServerSleeps};
 ghost use Rattle.qfs_base.specs.declared.chunk.BlockId.{BlockId};
+ghost use Rattle.qfs_base.specs.declared.chunk.Copy.{Copy};
+ghost use Rattle.qfs_base.specs.declared.image.Load.{Load};
 ghost use Rattle.qfs_base.specs.declared.image.MetaImage.{MetaImage};
 ghost use Rattle.qfs_base.specs.declared.image.ServerView.{ServerView};
 ghost use Rattle.qfs_base.specs.declared.image.SlotRow.{SlotRow};
 ghost use Rattle.qfs_base.specs.NameTree.{PathNames};
-ghost use Rattle.qfs_base.specs.declared.reply.MetaReply.TheVariants.{Nothing};
+ghost use Rattle.qfs_base.specs.declared.reply.MetaReply.TheVariants.{Left, Nothing};
 ghost use Rattle.qfs_base.specs.Shape.{Shape};
 ghost use Rattle.qfs_base.specs.Table.{IsRising};
 ghost use Rattle.qfs_model_meta.specs.Apply.{apply};
-ghost use Rattle.qfs_model_meta.specs.Decision.{need};
+ghost use Rattle.qfs_model_meta.specs.Decision.{Tells, need};
 ghost use Rattle.qfs_model_meta.specs.Grammar.{IsServer};
 ghost use Rattle.qfs_model_meta.specs.MoveRequests.{is_barred, decide_balance};
 ghost use Rattle.qfs_model_meta.specs.Placing.{census, choose, with_live_servers, barred_for_put, barred_for_block};
 ghost use Rattle.qfs_model_meta.specs.PutRequests.{failed_with, chosen_for_put};
+ghost use Rattle.qfs_model_meta.specs.ServerRequests.{decide_left_on};
 ghost use Rattle.qfs_model_meta.specs.Servers.{server_at, server_up, server_down, server_leaving, server_asleep};
 ghost use Rattle.qfs_model_meta.specs.Slots.{slot_at, slot_cmp, slots_of, granted_copy, count_on, is_of_block};
 ghost use Rattle.qfs_place.specs.BalanceLaws.{shift_copy};
@@ -25,7 +28,7 @@ ghost use Rattle.qfs_place.specs.Barred.{row_copies, has_live_on};
 ghost use Rattle.qfs_place.specs.BarredLaws.{row_grants};
 ghost use Rattle.qfs_place.specs.ChangeLaws.{census_of};
 ghost use Rattle.qfs_place.specs.Choosing.{uneven};
-ghost use Rattle.qfs_place.specs.Loads.{change_load, one_more, seen_as, emptied_as, count_row, uncount_live, uncount_row};
+ghost use Rattle.qfs_place.specs.Loads.{change_load, one_more, load_at, seen_as, counted_as, count_row, uncount_live, uncount_row};
 ghost use Rattle.qfs_place.specs.ServerLaws.{LeavesLoads};
 
 /// The census with the slots that a table has, one row after another.
@@ -72,17 +75,17 @@ pub fn loads_follow_files()
 {}
 
 /// A server that goes down, leaves or hibernates, and one that comes up again in the life that was
-/// known, keeps its load. One that comes up in a life in which no copy stands there has none.
+/// known, keeps its load. One that comes up in a new life has the copies that stand there in it.
 pub fn loads_follow_servers()
     ensures up_again { (m : MetaImage) (server life : ℕ) → IsServer (length m.servers) server
         → life ≡ (server_at m.servers server).life
         → census_of (apply m (ServerUp server life))
         ≡ change_load (seen_as (server_up life (server_at m.servers server)))
         (census_of m) server }
-    ensures up_anew { (m : MetaImage) (server life : ℕ) → IsServer (length m.servers) server
-        → count_on server life m.slots ≡ 0
+    ensures up_anew { (m : MetaImage) (server life count : ℕ)
+        → IsServer (length m.servers) server → count_on server life m.slots ≡ count
         → census_of (apply m (ServerUp server life))
-        ≡ change_load (emptied_as (server_up life (server_at m.servers server)))
+        ≡ change_load (counted_as (server_up life (server_at m.servers server)) count)
         (census_of m) server }
     ensures down { (m : MetaImage) (server : ℕ) → IsServer (length m.servers) server
         → census_of (apply m (ServerDown server))
@@ -95,6 +98,15 @@ pub fn loads_follow_servers()
         → census_of (apply m (ServerSleeps server until))
         ≡ change_load (seen_as (server_asleep until (server_at m.servers server)))
         (census_of m) server }
+{}
+
+/// A server's load is what `LeftOn` answers. Where copies leave servers no load rises, so a server
+/// that isn't full isn't full after that either.
+pub fn loads_are_counts()
+    ensures left_on { (m : MetaImage) (server : ℕ) → IsServer (length m.servers) server
+        → decide_left_on server m ≡ Tells (Left (load_at (census_of m) server).count) }
+    ensures falls { (servers : List ServerView) (copy : Option Copy) (loads : List Load) (n : ℕ)
+        → (load_at (uncount_live servers copy loads) n).count ≤ (load_at loads n).count }
 {}
 
 /// All other changes leave the loads as they are.

@@ -1,8 +1,8 @@
 //! The load of each server: how many live current copies and live pending grants stand on it.
-ghost use Rattle.std.specs.Prelude.{◌≡◌, ◌<◌, ◌≤◌, [], fold, true, IfOk, OnOk, OnErr, IsTrue, ◌↔◌};
+ghost use Rattle.std.specs.Prelude.{◌≡◌, ◌<◌, ◌≤◌, [], IfOk, OnOk, OnErr, IsTrue, ◌↔◌};
 ghost use Rattle.qfs_base.specs.Sizes.{LAST_U32};
 ghost use Rattle.qfs_model_meta.specs.Placing.{census};
-ghost use Rattle.qfs_place.specs.Loads.{load_at, with_load, change_load, one_more, one_fewer, seen_as, emptied_as, count_live, uncount_live, uncount_row};
+ghost use Rattle.qfs_place.specs.Loads.{load_at, with_load, change_load, one_more, one_fewer, seen_as, emptied_as, counted_as, count_live, uncount_live, uncount_row};
 
 use crate::servers::{granted_copy, is_live};
 use qfs_base::chunk::Copy;
@@ -36,7 +36,6 @@ const NO_LOAD: Load = Load {
 };
 
 /// A server that has no copies.
-#[tactic(auto, unfolding(qfs_model_meta::specs::Placing::load_of))]
 fn empty(server: &ServerView) -> Load
     ensures { result ≡ record { up = server.now.up; leaving = server.now.leaving; count = 0 } }
 {
@@ -165,14 +164,13 @@ impl Loads {
     pub fn clear(&mut self, server: ServerId, view: &ServerView)
         ensures { self.new ≡ change_load (emptied_as view.now) self.old server }
     {
-        self.set(server, empty(view));
+        self.recount(server, view, 0);
     }
 
-    /// Sees a server up or down, and leaving or not, as it is now. Its load stays.
-    pub fn see(&mut self, server: ServerId, view: &ServerView)
-        ensures { self.new ≡ change_load (seen_as view.now) self.old server }
+    /// Sees a server that came up in a life in which so many copies and grants stand there.
+    pub fn recount(&mut self, server: ServerId, view: &ServerView, count: u32)
+        ensures { self.new ≡ change_load (counted_as view.now count) self.old server }
     {
-        let count = self.on(server);
         self.set(
             server,
             Load {
@@ -180,6 +178,14 @@ impl Loads {
                 ..empty(view)
             },
         );
+    }
+
+    /// Sees a server up or down, and leaving or not, as it is now. Its load stays.
+    pub fn see(&mut self, server: ServerId, view: &ServerView)
+        ensures { self.new ≡ change_load (seen_as view.now) self.old server }
+    {
+        let count = self.on(server);
+        self.recount(server, view, count);
     }
 
     /// Counts a copy or grant, if there is one and it is live. Where its server's load is full the

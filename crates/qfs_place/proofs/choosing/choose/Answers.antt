@@ -9,7 +9,8 @@ use Rattle.qfs_place.proofs.choosing.choose.Goals as goal
 pub returns-clause-chosen : goal.returns-clause-chosen
 unfolding choose
 returns-clause-chosen c =
-    let number : c.map.result ≡ option_map (λ (s : Numbered). s.0) c.lightest.result = search rules in
+    let number : c.map.result ≡ option_map (λ (s : Numbered). s.0) c.lightest.result =
+    search rules in
     number ∙ ap (option_map (λ (s : Numbered). s.0)) c.lightest.ensures
 
 pub returns-clause-number : goal.returns-clause-number
