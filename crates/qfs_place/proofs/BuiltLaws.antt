@@ -8,7 +8,7 @@ use Rattle.qfs_base.specs.declared.image.ServerView.{ServerView}
 use Rattle.qfs_base.specs.declared.image.SlotRow.{SlotRow}
 use Rattle.qfs_model_meta.specs.Placing.{load_of, census}
 use Rattle.qfs_place.specs.Loads.{count_row}
-use Rattle.qfs_place.specs.LoadLaws.{census-row, count_on-none}
+use Rattle.qfs_place.specs.LoadLaws.{census_row, count_on_none}
 
 -- the loads of the servers from a number on that have no copies
 abbrev pub empty_from : ℕ → List ServerView → List Load
@@ -24,7 +24,7 @@ pub empty_load : (number : ℕ) (server : ServerView)
 unfolding load_of
 empty_load number server =
     ap (λ (count : ℕ). record { up = server.up; leaving = server.leaving; count = count })
-    (count_on-none number server.life)
+    (count_on_none number server.life)
 
 -- the loads with that of one server more
 pub empty_next : (servers : List ServerView) (done : List Load) (at : ℕ) (d : ServerView)
@@ -54,6 +54,6 @@ pub row_next : (servers : List ServerView) (slots : List SlotRow) (at : ℕ) (ro
     → at < length slots → row ≡ slice_index_or slots at row
     → count_row servers (census servers (take at slots)) row ≡ census servers (take (at + 1) slots)
 row_next servers slots at row within read =
-    sym (census-row servers (take at slots) row)
+    sym (census_row servers (take at slots) row)
     ∙ ap (λ x. census servers (take at slots ++ x ∷ [])) read
     ∙ ap (census servers) (sym (take_more slots at row within))

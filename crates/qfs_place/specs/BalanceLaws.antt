@@ -19,14 +19,14 @@ shift_copy layout term actor m shift =
     need Told.Nothing (move_slot layout term actor shift.taker m)
     (find (fits_move layout shift.giver shift.taker m) m.slots)
 
-shift-decides : (layout : Shape) (term actor : ℕ) (m : MetaImage) (taker giver : Option Numbered)
+shift_decides : (layout : Shape) (term actor : ℕ) (m : MetaImage) (taker giver : Option Numbered)
     → need Told.Nothing (λ (g : Numbered). need Told.Nothing (even_out layout term actor m g) taker)
     giver
     ≡ need Told.Nothing (shift_copy layout term actor m) (shift_from taker giver)
 unfolding need unless even_out
-shift-decides layout term actor m taker None = refl
-shift-decides layout term actor m None (Some giver) = refl
-shift-decides layout term actor m (Some taker) (Some giver) =
+shift_decides layout term actor m taker None = refl
+shift_decides layout term actor m None (Some giver) = refl
+shift_decides layout term actor m (Some taker) (Some giver) =
     elim (nat_le (taker.1.count + 2) giver.1.count) as (λ b.
     unless b Told.Nothing
     (need Told.Nothing (move_slot layout term actor taker.0 m)
@@ -37,10 +37,10 @@ shift-decides layout term actor m (Some taker) (Some giver) =
       | false ↦ refl
     ]
 
-pub balance-by-census : (layout : Shape) (term actor : ℕ) (m : MetaImage)
+pub balance_by_census : (layout : Shape) (term actor : ℕ) (m : MetaImage)
     → decide_balance layout term actor m
     ≡ need Told.Nothing (shift_copy layout term actor m) (uneven (census m.servers m.slots))
 unfolding decide_balance give_to_lightest
-balance-by-census layout term actor m =
-    shift-decides layout term actor m (reduce lighter (open_servers [] (census m.servers m.slots)))
+balance_by_census layout term actor m =
+    shift_decides layout term actor m (reduce lighter (open_servers [] (census m.servers m.slots)))
     (reduce heavier (open_servers [] (census m.servers m.slots)))

@@ -27,16 +27,16 @@ abbrev pub with_live : List ServerView → List ℕ → Copy → List ℕ
 with_live servers members copy =
     cond (is_live servers copy) (with_member members copy.server) members
 
-fold-append : {A B : Type 0} (f : B → A → B) (start : B) (xs ys : List A)
+fold_append : {A B : Type 0} (f : B → A → B) (start : B) (xs ys : List A)
     → fold f start (xs ++ ys) ≡ fold f (fold f start xs) ys
-fold-append f start [] ys = refl
-fold-append f start (x ∷ xs) ys = fold-append f (f start x) xs ys
+fold_append f start [] ys = refl
+fold_append f start (x ∷ xs) ys = fold_append f (f start x) xs ys
 
 pub live_append : (servers : List ServerView) (set : List ℕ) (xs ys : List Copy)
     → with_live_servers servers set (xs ++ ys)
     ≡ with_live_servers servers (with_live_servers servers set xs) ys
 unfolding with_live_servers
-live_append servers set xs ys = fold-append (with_live servers) set xs ys
+live_append servers set xs ys = fold_append (with_live servers) set xs ys
 
 -- the copy that a slot's grant allows, and the servers of such copies of more slots
 abbrev pub row_grants : SlotRow → List Copy
@@ -58,27 +58,27 @@ copies_next servers set row rows =
     (flat_map (λ (r : SlotRow). row_copies r.state) rows)
 
 -- all rows of a block bar these
-pub barred_for_put-is : (servers : List ServerView) (slots : List SlotRow) (block : BlockId)
+pub barred_for_put_is : (servers : List ServerView) (slots : List SlotRow) (block : BlockId)
     (failed : List ℕ)
     → barred_for_put servers slots block failed
     ≡ with_live_servers servers failed (flat_map row_grants (filter (is_of_block block) slots))
 unfolding barred_for_put grants_of_block
-barred_for_put-is servers slots block failed = refl
+barred_for_put_is servers slots block failed = refl
 
-pub barred_for_block-is : (servers : List ServerView) (slots : List SlotRow) (block : BlockId)
+pub barred_for_block_is : (servers : List ServerView) (slots : List SlotRow) (block : BlockId)
     → barred_for_block servers slots block
     ≡ with_live_servers servers []
     (flat_map (λ (row : SlotRow). row_copies row.state) (filter (is_of_block block) slots))
 unfolding barred_for_block copies_of_block
-barred_for_block-is servers slots block = refl
+barred_for_block_is servers slots block = refl
 
 -- ---- who is barred
 
 -- a set has the number that was put in, and those it had (this belongs to the laws of sets)
-pub has-with_member : (set : List ℕ) (k n : ℕ)
+pub has_with_member : (set : List ℕ) (k n : ℕ)
     → has (with_member set k) n ≡ (nat_eq k n || has set n)
-has-with_member [] k n = refl
-has-with_member (x ∷ xs) k n =
+has_with_member [] k n = refl
+has_with_member (x ∷ xs) k n =
     elim (nat_cmp k x) as (λ o. nat_cmp k x ≡ o
     → has (match_ordering o (k ∷ x ∷ xs) (x ∷ xs) (x ∷ insert_key nat_cmp xs k)) n
     ≡ (nat_eq k n || (nat_eq x n || has xs n))) [
@@ -87,7 +87,7 @@ has-with_member (x ∷ xs) k n =
           let same : k ≡ x = ranked k x Equal (sym o) in
           twice (nat_eq x n) (has xs n)
           ∙ ap (λ m. nat_eq m n || (nat_eq x n || has xs n)) (sym same)
-      | Greater ↦ λ _. ap (λ b. nat_eq x n || b) (has-with_member xs k n)
+      | Greater ↦ λ _. ap (λ b. nat_eq x n || b) (has_with_member xs k n)
           ∙ swapped (nat_eq x n) (nat_eq k n) (has xs n)
     ] refl
   where
@@ -102,22 +102,22 @@ has-with_member (x ∷ xs) k n =
     swapped false false c = refl
 
 -- a number is barred where it was barred before, or one of the copies is live there
-pub has-live : (servers : List ServerView) (n : ℕ) (set : List ℕ) (copies : List Copy)
+pub has_live : (servers : List ServerView) (n : ℕ) (set : List ℕ) (copies : List Copy)
     → has (with_live_servers servers set copies) n
     ≡ (has set n || list_any (is_live_at servers n) copies)
 unfolding with_live_servers
-has-live servers n set [] = at_end (has set n)
+has_live servers n set [] = at_end (has set n)
   where
     at_end : (b : Bool) → b ≡ (b || false)
     at_end true = refl
     at_end false = refl
-has-live servers n set (copy ∷ copies) =
-    has-live servers n (with_live servers set copy) copies
+has_live servers n set (copy ∷ copies) =
+    has_live servers n (with_live servers set copy) copies
     ∙ elim (is_live servers copy) as (λ b.
     (has (cond b (with_member set copy.server) set) n || list_any (is_live_at servers n) copies)
     ≡ (has set n || ((nat_eq copy.server n && b) || list_any (is_live_at servers n) copies))) [
       | true ↦ ap (λ b. b || list_any (is_live_at servers n) copies)
-          (has-with_member set copy.server n)
+          (has_with_member set copy.server n)
           ∙ moved (nat_eq copy.server n) (has set n) (list_any (is_live_at servers n) copies)
       | false ↦ dead (nat_eq copy.server n) (has set n) (list_any (is_live_at servers n) copies)
     ]
@@ -134,26 +134,26 @@ has-live servers n set (copy ∷ copies) =
     dead false true c = refl
     dead false false c = refl
 
-any-rows : (servers : List ServerView) (n : ℕ) (rows : List SlotRow)
+any_rows : (servers : List ServerView) (n : ℕ) (rows : List SlotRow)
     → list_any (is_live_at servers n) (flat_map (λ (row : SlotRow). row_copies row.state) rows)
     ≡ list_any (λ (row : SlotRow). has_live_on servers n row.state) rows
-any-rows servers n [] = refl
-any-rows servers n (row ∷ rows) =
+any_rows servers n [] = refl
+any_rows servers n (row ∷ rows) =
     let test : Copy → Bool = is_live_at servers n in
     let current : List Copy = option_to_list row.state.current in
     let granted : List Copy = option_to_list (granted_copy row.state.grant) in
     any_of_append test (row_copies row.state) (flat_map (λ (r : SlotRow). row_copies r.state) rows)
-    ∙ (λ i. any_of_append test current granted i || any-rows servers n rows i)
+    ∙ (λ i. any_of_append test current granted i || any_rows servers n rows i)
 
 -- a server is barred from a block's recoveries and moves where one of the block's slots has a live
 -- copy or grant there
-pub barred-rows : (servers : List ServerView) (slots : List SlotRow) (block : BlockId) (n : ℕ)
+pub barred_rows : (servers : List ServerView) (slots : List SlotRow) (block : BlockId) (n : ℕ)
     → is_barred servers slots block n
     ≡ list_any (λ (row : SlotRow). has_live_on servers n row.state)
     (filter (is_of_block block) slots)
 unfolding is_barred
-barred-rows servers slots block n =
+barred_rows servers slots block n =
     let rows : List SlotRow = filter (is_of_block block) slots in
-    ap (λ set. has set n) (barred_for_block-is servers slots block)
-    ∙ has-live servers n [] (flat_map (λ (row : SlotRow). row_copies row.state) rows)
-    ∙ any-rows servers n rows
+    ap (λ set. has set n) (barred_for_block_is servers slots block)
+    ∙ has_live servers n [] (flat_map (λ (row : SlotRow). row_copies row.state) rows)
+    ∙ any_rows servers n rows

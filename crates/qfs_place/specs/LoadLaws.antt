@@ -34,95 +34,95 @@ copies_in server life state =
 abbrev pub weight : ℕ → ℕ → SlotRow → ℕ
 weight server life row = copies_in server life row.state
 
-count_by-append : (p : Copy → Bool) (xs ys : List Copy)
+count_by_append : (p : Copy → Bool) (xs ys : List Copy)
     → count_by p (xs ++ ys) ≡ count_by p xs + count_by p ys
-count_by-append p xs ys = sum_by-append _ xs ys
+count_by_append p xs ys = sum_by-append _ xs ys
 
-pub count_on-none : (server life : ℕ) → count_on server life [] ≡ 0
+pub count_on_none : (server life : ℕ) → count_on server life [] ≡ 0
 unfolding count_on
-count_on-none server life = refl
+count_on_none server life = refl
 
-pub count_on-next : (server life : ℕ) (row : SlotRow) (rows : List SlotRow)
+pub count_on_next : (server life : ℕ) (row : SlotRow) (rows : List SlotRow)
     → count_on server life (row ∷ rows) ≡ weight server life row + count_on server life rows
 unfolding count_on
-count_on-next server life row rows =
+count_on_next server life row rows =
     let p = is_on server life in
-    let e₁ = count_by-append p (option_to_list row.state.current)
+    let e₁ = count_by_append p (option_to_list row.state.current)
     (flat_map (λ (r : SlotRow). option_to_list r.state.current) rows) in
-    let e₂ = count_by-append p (option_to_list (granted_copy row.state.grant))
+    let e₂ = count_by_append p (option_to_list (granted_copy row.state.grant))
     (flat_map (λ (r : SlotRow). option_to_list (granted_copy r.state.grant)) rows) in
     omega (arith, e₁, e₂)
 
-pub count_on-total : (server life : ℕ) (slots : List SlotRow)
+pub count_on_total : (server life : ℕ) (slots : List SlotRow)
     → count_on server life slots ≡ total (weight server life) slots
-count_on-total server life [] = count_on-none server life
-count_on-total server life (row ∷ rows) =
-    count_on-next server life row rows
-    ∙ ap (λ n. weight server life row + n) (count_on-total server life rows)
+count_on_total server life [] = count_on_none server life
+count_on_total server life (row ∷ rows) =
+    count_on_next server life row rows
+    ∙ ap (λ n. weight server life row + n) (count_on_total server life rows)
 
-pub count_on-append : (server life : ℕ) (xs ys : List SlotRow)
+pub count_on_append : (server life : ℕ) (xs ys : List SlotRow)
     → count_on server life (xs ++ ys) ≡ count_on server life xs + count_on server life ys
-count_on-append server life xs ys =
-    let whole = count_on-total server life (xs ++ ys) in
-    let front = count_on-total server life xs in
-    let rest = count_on-total server life ys in
+count_on_append server life xs ys =
+    let whole = count_on_total server life (xs ++ ys) in
+    let front = count_on_total server life xs in
+    let rest = count_on_total server life ys in
     let parts = total-append (weight server life) xs ys in
     omega (arith, whole, front, rest, parts)
 
 -- ---- the census, server by server
 
-census_from-at : (number : ℕ) (servers : List ServerView) (slots : List SlotRow) (at : ℕ)
+census_from_at : (number : ℕ) (servers : List ServerView) (slots : List SlotRow) (at : ℕ)
     → at < length servers
     → slice_index_or (map (λ (s : ℕ × ServerView). load_of slots s.0 s.1)
     (enumerate_from number servers)) at no_load
     ≡ load_of slots (number + at) (slice_index_or servers at no_server)
-census_from-at number [] slots at within = absurd (omega arith)
-census_from-at number (server ∷ servers) slots zero within =
+census_from_at number [] slots at within = absurd (omega arith)
+census_from_at number (server ∷ servers) slots zero within =
     let n : number ≡ number + 0 = omega arith in
     ap (λ k. load_of slots k server) n
-census_from-at number (server ∷ servers) slots (suc at) within =
+census_from_at number (server ∷ servers) slots (suc at) within =
     let n : number + 1 + at ≡ number + suc at = omega arith in
-    census_from-at (number + 1) servers slots at (omega arith)
+    census_from_at (number + 1) servers slots at (omega arith)
     ∙ ap (λ k. load_of slots k (slice_index_or servers at no_server)) n
 
-pub census-at : (servers : List ServerView) (slots : List SlotRow) (at : ℕ) → at < length servers
+pub census_at : (servers : List ServerView) (slots : List SlotRow) (at : ℕ) → at < length servers
     → slice_index_or (census servers slots) at no_load
     ≡ load_of slots (suc at) (server_at servers (suc at))
 unfolding census server_at
-census-at servers slots at within =
+census_at servers slots at within =
     let n : 1 + at ≡ suc at = omega arith in
-    census_from-at 1 servers slots at within
+    census_from_at 1 servers slots at within
     ∙ ap (λ k. load_of slots k (slice_index_or servers at no_server)) n
 
-pub length-census : (servers : List ServerView) (slots : List SlotRow)
+pub length_census : (servers : List ServerView) (slots : List SlotRow)
     → length (census servers slots) ≡ length servers
 unfolding census
-length-census servers slots = census-length slots 1 servers
+length_census servers slots = census-length slots 1 servers
 
 -- the load of a server that is there
-pub census-load : (servers : List ServerView) (slots : List SlotRow) (s : ℕ)
+pub census_load : (servers : List ServerView) (slots : List SlotRow) (s : ℕ)
     → IsServer (length servers) s
     → load_at (census servers slots) s ≡ load_of slots s (server_at servers s)
-census-load servers slots zero is = absurd (omega (arith, is.0))
-census-load servers slots (suc at) is = census-at servers slots at (omega (arith, is.1))
+census_load servers slots zero is = absurd (omega (arith, is.0))
+census_load servers slots (suc at) is = census_at servers slots at (omega (arith, is.1))
 
 -- where the load of one server changed, and those of all others stayed
-pub census-moved : (change : Load → Load) (s : ℕ) (servers later : List ServerView)
+pub census_moved : (change : Load → Load) (s : ℕ) (servers later : List ServerView)
     (before after : List SlotRow) → length later ≡ length servers
     → load_of after s (server_at later s) ≡ change (load_of before s (server_at servers s))
     → ((n : ℕ) → (n ≡ s → ⊥)
     → load_of after n (server_at later n) ≡ load_of before n (server_at servers n))
     → census later after ≡ change_load change (census servers before) s
-census-moved change zero servers later before after long own others =
-    let new = length-census later after in
-    let old = length-census servers before in
+census_moved change zero servers later before after long own others =
+    let new = length_census later after in
+    let old = length_census servers before in
     ext_get_or no_load (census later after) (census servers before) (new ∙ long ∙ sym old)
-    (λ i within. census-at later after i (omega (arith, within, new))
+    (λ i within. census_at later after i (omega (arith, within, new))
     ∙ others (suc i) (λ e. omega arith)
-    ∙ sym (census-at servers before i (omega (arith, within, new, long))))
-census-moved change (suc k) servers later before after long own others =
-    let new = length-census later after in
-    let old = length-census servers before in
+    ∙ sym (census_at servers before i (omega (arith, within, new, long))))
+census_moved change (suc k) servers later before after long own others =
+    let new = length_census later after in
+    let old = length_census servers before in
     let load : Load = change (slice_index_or (census servers before) k no_load) in
     let set : List Load = slice_set (census servers before) k load in
     ext_get_or no_load (census later after) set
@@ -131,48 +131,48 @@ census-moved change (suc k) servers later before after long own others =
     (λ (e : k ≡ i). subst
     (λ n. slice_index_or (census later after) n no_load ≡ slice_index_or set n no_load) e
     (let here : k < length servers = omega (arith, within, new, long, e) in
-    census-at later after k (omega (arith, here, long))
+    census_at later after k (omega (arith, here, long))
     ∙ own
-    ∙ ap change (sym (census-at servers before k here))
+    ∙ ap change (sym (census_at servers before k here))
     ∙ sym (get_or-set_same (census servers before) k load no_load (omega (arith, here, old)))))
-    (λ differs. census-at later after i (omega (arith, within, new))
+    (λ differs. census_at later after i (omega (arith, within, new))
     ∙ others (suc i) (λ e. differs (omega arith))
-    ∙ sym (census-at servers before i (omega (arith, within, new, long)))
+    ∙ sym (census_at servers before i (omega (arith, within, new, long)))
     ∙ sym (get_or-set_other (census servers before) k i load no_load (λ e. differs (sym e))))
     (cases_eq k i))
 
-pub load_of-same : (before after : List SlotRow) (n : ℕ) (server : ServerView)
+pub load_of_same : (before after : List SlotRow) (n : ℕ) (server : ServerView)
     → count_on n server.life after ≡ count_on n server.life before
     → load_of after n server ≡ load_of before n server
 unfolding load_of
-load_of-same before after n server same =
+load_of_same before after n server same =
     ap (λ (count : ℕ). record { up = server.up; leaving = server.leaving; count = count }) same
 
-load_of-more : (before after : List SlotRow) (n : ℕ) (server : ServerView)
+load_of_more : (before after : List SlotRow) (n : ℕ) (server : ServerView)
     → count_on n server.life after ≡ count_on n server.life before + 1
     → load_of after n server ≡ one_more (load_of before n server)
 unfolding load_of
-load_of-more before after n server more =
+load_of_more before after n server more =
     ap (λ (count : ℕ). record { up = server.up; leaving = server.leaving; count = count }) more
 
-load_of-fewer : (before after : List SlotRow) (n : ℕ) (server : ServerView)
+load_of_fewer : (before after : List SlotRow) (n : ℕ) (server : ServerView)
     → count_on n server.life before ≡ count_on n server.life after + 1
     → load_of after n server ≡ one_fewer (load_of before n server)
 unfolding load_of
-load_of-fewer before after n server fewer =
+load_of_fewer before after n server fewer =
     let e : count_on n server.life after ≡ count_on n server.life before - 1 =
     omega (arith, fewer) in
     ap (λ (count : ℕ). record { up = server.up; leaving = server.leaving; count = count }) e
 
 -- where each server's load stayed
-pub census-same : (servers : List ServerView) (before after : List SlotRow)
+pub census_same : (servers : List ServerView) (before after : List SlotRow)
     → ((n : ℕ) → count_on n (server_at servers n).life after
     ≡ count_on n (server_at servers n).life before)
     → census servers after ≡ census servers before
-census-same servers before after same =
-    census-moved (λ _. load_of after 0 (server_at servers 0)) 0 servers servers before after refl
+census_same servers before after same =
+    census_moved (λ _. load_of after 0 (server_at servers 0)) 0 servers servers before after refl
     refl
-    (λ n _. load_of-same before after n (server_at servers n) (same n))
+    (λ n _. load_of_same before after n (server_at servers n) (same n))
 
 -- ---- one copy more or fewer
 
@@ -214,56 +214,56 @@ on_none servers copy dead n =
     ] refl
 
 -- the slots have one copy more
-pub census-counted : (servers : List ServerView) (copy : Option Copy) (before after : List SlotRow)
+pub census_counted : (servers : List ServerView) (copy : Option Copy) (before after : List SlotRow)
     → ((n life : ℕ) → count_on n life after ≡ count_on n life before + copies_on n life copy)
     → census servers after ≡ count_live servers copy (census servers before)
-census-counted servers None before after more =
-    census-same servers before after
+census_counted servers None before after more =
+    census_same servers before after
     (λ n. let m = more n (server_at servers n).life in omega (arith, m))
-census-counted servers (Some copy) before after more =
+census_counted servers (Some copy) before after more =
     elim (is_live servers copy) as (λ b. is_live servers copy ≡ b → census servers after
     ≡ cond b (change_load one_more (census servers before) copy.server) (census servers before)) [
-      | true ↦ λ live. census-moved one_more copy.server servers servers before after refl
-          (load_of-more before after copy.server (server_at servers copy.server)
+      | true ↦ λ live. census_moved one_more copy.server servers servers before after refl
+          (load_of_more before after copy.server (server_at servers copy.server)
           (let m = more copy.server (server_at servers copy.server).life in
           let o = on_its_own servers copy live in omega (arith, m, o)))
-          (λ n differs. load_of-same before after n (server_at servers n)
+          (λ n differs. load_of_same before after n (server_at servers n)
           (let m = more n (server_at servers n).life in
           let o = on_no_other n (server_at servers n).life copy differs in omega (arith, m, o)))
-      | false ↦ λ dead. census-same servers before after
+      | false ↦ λ dead. census_same servers before after
           (λ n. let m = more n (server_at servers n).life in
           let o = on_none servers copy dead n in omega (arith, m, o))
     ] refl
 
 -- they have one copy fewer
-pub census-uncounted : (servers : List ServerView) (copy : Option Copy)
+pub census_uncounted : (servers : List ServerView) (copy : Option Copy)
     (before after : List SlotRow)
     → ((n life : ℕ) → count_on n life before ≡ count_on n life after + copies_on n life copy)
     → census servers after ≡ uncount_live servers copy (census servers before)
-census-uncounted servers None before after fewer =
-    census-same servers before after
+census_uncounted servers None before after fewer =
+    census_same servers before after
     (λ n. let m = fewer n (server_at servers n).life in omega (arith, m))
-census-uncounted servers (Some copy) before after fewer =
+census_uncounted servers (Some copy) before after fewer =
     elim (is_live servers copy) as (λ b. is_live servers copy ≡ b → census servers after
     ≡ cond b (change_load one_fewer (census servers before) copy.server) (census servers before)) [
-      | true ↦ λ live. census-moved one_fewer copy.server servers servers before after refl
-          (load_of-fewer before after copy.server (server_at servers copy.server)
+      | true ↦ λ live. census_moved one_fewer copy.server servers servers before after refl
+          (load_of_fewer before after copy.server (server_at servers copy.server)
           (let m = fewer copy.server (server_at servers copy.server).life in
           let o = on_its_own servers copy live in omega (arith, m, o)))
-          (λ n differs. load_of-same before after n (server_at servers n)
+          (λ n differs. load_of_same before after n (server_at servers n)
           (let m = fewer n (server_at servers n).life in
           let o = on_no_other n (server_at servers n).life copy differs in omega (arith, m, o)))
-      | false ↦ λ dead. census-same servers before after
+      | false ↦ λ dead. census_same servers before after
           (λ n. let m = fewer n (server_at servers n).life in
           let o = on_none servers copy dead n in omega (arith, m, o))
     ] refl
 
 -- no load rises where a copy leaves
-fewer-at : (loads : List Load) (s n : ℕ)
+fewer_at : (loads : List Load) (s n : ℕ)
     → (load_at (change_load one_fewer loads s) n).count ≤ (load_at loads n).count
-fewer-at loads zero n = omega arith
-fewer-at loads (suc k) zero = omega arith
-fewer-at loads (suc k) (suc i) =
+fewer_at loads zero n = omega arith
+fewer_at loads (suc k) zero = omega arith
+fewer_at loads (suc k) (suc i) =
     let load : Load = one_fewer (slice_index_or loads k no_load) in
     ⊎_elim
     (λ (e : k ≡ i). subst
@@ -282,14 +282,14 @@ fewer-at loads (suc k) (suc i) =
     here (load ∷ loads) zero = omega arith
     here (load ∷ loads) (suc k) = here loads k
 
-pub uncounted-at : (servers : List ServerView) (copy : Option Copy) (loads : List Load) (n : ℕ)
+pub uncounted_at : (servers : List ServerView) (copy : Option Copy) (loads : List Load) (n : ℕ)
     → (load_at (uncount_live servers copy loads) n).count ≤ (load_at loads n).count
-uncounted-at servers None loads n = omega arith
-uncounted-at servers (Some copy) loads n =
+uncounted_at servers None loads n = omega arith
+uncounted_at servers (Some copy) loads n =
     elim (is_live servers copy) as (λ b.
     (load_at (cond b (change_load one_fewer loads copy.server) loads) n).count
     ≤ (load_at loads n).count) [
-      | true ↦ fewer-at loads copy.server n
+      | true ↦ fewer_at loads copy.server n
       | false ↦ omega arith
     ]
 
@@ -302,62 +302,62 @@ without_current row = record row { state = record row.state { current = None } }
 abbrev pub current_alone : SlotRow → SlotRow
 current_alone row = record row { state = record row.state { grant = None } }
 
-pub weight-parts : (n life : ℕ) (row : SlotRow)
+pub weight_parts : (n life : ℕ) (row : SlotRow)
     → (weight n life (current_alone row) ≡ copies_on n life row.state.current)
     × (weight n life (without_current row) ≡ copies_on n life (granted_copy row.state.grant))
 unfolding granted_copy
-weight-parts n life row = (omega arith, omega arith)
+weight_parts n life row = (omega arith, omega arith)
 
-weight-last : (n life : ℕ) (rows : List SlotRow) (row : SlotRow)
+weight_last : (n life : ℕ) (rows : List SlotRow) (row : SlotRow)
     → count_on n life (rows ++ row ∷ []) ≡ count_on n life rows + weight n life row
-weight-last n life rows row =
-    let parts = count_on-append n life rows (row ∷ []) in
-    let one = count_on-next n life row [] in
-    let none = count_on-none n life in
+weight_last n life rows row =
+    let parts = count_on_append n life rows (row ∷ []) in
+    let one = count_on_next n life row [] in
+    let none = count_on_none n life in
     omega (arith, parts, one, none)
 
 -- one row more
-pub census-row : (servers : List ServerView) (rows : List SlotRow) (row : SlotRow)
+pub census_row : (servers : List ServerView) (rows : List SlotRow) (row : SlotRow)
     → census servers (rows ++ row ∷ []) ≡ count_row servers (census servers rows) row
-census-row servers rows row =
+census_row servers rows row =
     let middle : List SlotRow = rows ++ current_alone row ∷ [] in
-    census-counted servers (granted_copy row.state.grant) middle (rows ++ row ∷ [])
-    (λ n life. let a = weight-last n life rows row in
-    let b = weight-last n life rows (current_alone row) in
-    let c = weight-parts n life row in omega (arith, a, b, c.0))
+    census_counted servers (granted_copy row.state.grant) middle (rows ++ row ∷ [])
+    (λ n life. let a = weight_last n life rows row in
+    let b = weight_last n life rows (current_alone row) in
+    let c = weight_parts n life row in omega (arith, a, b, c.0))
     ∙ ap (count_live servers (granted_copy row.state.grant))
-    (census-counted servers row.state.current rows middle
-    (λ n life. let b = weight-last n life rows (current_alone row) in
-    let c = weight-parts n life row in omega (arith, b, c.0)))
+    (census_counted servers row.state.current rows middle
+    (λ n life. let b = weight_last n life rows (current_alone row) in
+    let c = weight_parts n life row in omega (arith, b, c.0)))
 
 -- one row fewer, wherever it stood
-pub census-unrow : (servers : List ServerView) (row : SlotRow) (before after : List SlotRow)
+pub census_unrow : (servers : List ServerView) (row : SlotRow) (before after : List SlotRow)
     → ((n life : ℕ) → count_on n life before ≡ count_on n life after + weight n life row)
     → census servers after ≡ uncount_row servers (census servers before) row
-census-unrow servers row before after fewer =
+census_unrow servers row before after fewer =
     let middle : List SlotRow = after ++ without_current row ∷ [] in
-    census-uncounted servers (granted_copy row.state.grant) middle after
-    (λ n life. let b = weight-last n life after (without_current row) in
-    let c = weight-parts n life row in omega (arith, b, c.1))
+    census_uncounted servers (granted_copy row.state.grant) middle after
+    (λ n life. let b = weight_last n life after (without_current row) in
+    let c = weight_parts n life row in omega (arith, b, c.1))
     ∙ ap (uncount_live servers (granted_copy row.state.grant))
-    (census-uncounted servers row.state.current before middle
+    (census_uncounted servers row.state.current before middle
     (λ n life. let a = fewer n life in
-    let b = weight-last n life after (without_current row) in
-    let c = weight-parts n life row in omega (arith, a, b, c.1)))
+    let b = weight_last n life after (without_current row) in
+    let c = weight_parts n life row in omega (arith, a, b, c.1)))
 
 -- so many rows fewer
-pub census-unrows : (servers : List ServerView) (gone before after : List SlotRow)
+pub census_unrows : (servers : List ServerView) (gone before after : List SlotRow)
     → ((n life : ℕ) → count_on n life before ≡ count_on n life after + count_on n life gone)
     → census servers after ≡ fold (uncount_row servers) (census servers before) gone
-census-unrows servers [] before after fewer =
-    census-same servers before after
+census_unrows servers [] before after fewer =
+    census_same servers before after
     (λ n. let a = fewer n (server_at servers n).life in
-    let b = count_on-none n (server_at servers n).life in omega (arith, a, b))
-census-unrows servers (row ∷ gone) before after fewer =
+    let b = count_on_none n (server_at servers n).life in omega (arith, a, b))
+census_unrows servers (row ∷ gone) before after fewer =
     let middle : List SlotRow = after ++ gone in
-    census-unrows servers gone middle after (λ n life. count_on-append n life after gone)
+    census_unrows servers gone middle after (λ n life. count_on_append n life after gone)
     ∙ ap (λ loads. fold (uncount_row servers) loads gone)
-    (census-unrow servers row before middle
+    (census_unrow servers row before middle
     (λ n life. let a = fewer n life in
-    let b = count_on-append n life after gone in
-    let c = count_on-next n life row gone in omega (arith, a, b, c)))
+    let b = count_on_append n life after gone in
+    let c = count_on_next n life row gone in omega (arith, a, b, c)))
