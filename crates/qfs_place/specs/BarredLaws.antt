@@ -1,6 +1,7 @@
 -- How the servers that are barred from a block's chunks are found, one slot after another. Cited by
 -- whoever walks over the slots of a block.
-use Rattle.std.proofs.Common.{◌≡◌, ◌∙◌, ℕ, ◌&&◌, ◌||◌, Bool, true, false, cond, List, [], ◌∷◌, ◌++◌, filter, fold, refl, sym, ap}
+use Rattle.std.proofs.Common.{◌≡◌, ◌∙◌, ℕ, ◌&&◌, ◌||◌, Bool, true, false, cond, List, [], ◌∷◌, ◌++◌, filter, refl, sym, ap}
+use Rattle.std.proofs.lemmas.List.Sums.{fold-append}
 use Rattle.std.specs.BTreeSet.{insert_key}
 use Rattle.std.specs.Cmp.{ranked}
 use Rattle.std.specs.List.{flat_map, list_any}
@@ -27,16 +28,11 @@ abbrev pub with_live : List ServerView → List ℕ → Copy → List ℕ
 with_live servers members copy =
     cond (is_live servers copy) (with_member members copy.server) members
 
-fold_append : {A B : Type 0} (f : B → A → B) (start : B) (xs ys : List A)
-    → fold f start (xs ++ ys) ≡ fold f (fold f start xs) ys
-fold_append f start [] ys = refl
-fold_append f start (x ∷ xs) ys = fold_append f (f start x) xs ys
-
 pub live_append : (servers : List ServerView) (set : List ℕ) (xs ys : List Copy)
     → with_live_servers servers set (xs ++ ys)
     ≡ with_live_servers servers (with_live_servers servers set xs) ys
 unfolding with_live_servers
-live_append servers set xs ys = fold_append (with_live servers) set xs ys
+live_append servers set xs ys = fold-append (with_live servers) set xs ys
 
 -- the copy that a slot's grant allows, and the servers of such copies of more slots
 abbrev pub row_grants : SlotRow → List Copy

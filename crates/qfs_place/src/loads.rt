@@ -146,7 +146,7 @@ impl Loads {
         );
     }
 
-    /// Takes a live copy or grant that left a server off its load, which is at least 0.
+    /// Takes a live copy or grant that left a server off its load. A load of 0 stays.
     pub fn uncount(&mut self, server: ServerId)
         ensures { self.new ≡ change_load one_fewer self.old server }
     {
