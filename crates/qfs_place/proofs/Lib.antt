@@ -1,0 +1,3 @@
+mod BuiltLaws
+mod ChoiceLaws
+mod ServerLaws
