@@ -25,19 +25,19 @@ abbrev pub within_order : PathNames → PathNames → Ordering
 within_order top path = path_cmp top (take (length top) path)
 
 -- lists compare by their fronts of one length first
-cmp-fronts : {X : Type 0} (cmp : X → X → Ordering) (n : ℕ) (a b : List X)
+cmp_fronts : {X : Type 0} (cmp : X → X → Ordering) (n : ℕ) (a b : List X)
     → slice_cmp cmp a b
     ≡ ordering_then (slice_cmp cmp (take n a) (take n b)) (slice_cmp cmp (drop n a) (drop n b))
-cmp-fronts cmp zero a b = refl
-cmp-fronts cmp (suc n) [] [] = refl
-cmp-fronts cmp (suc n) [] (y ∷ ys) = refl
-cmp-fronts cmp (suc n) (x ∷ xs) [] = refl
-cmp-fronts cmp (suc n) (x ∷ xs) (y ∷ ys) =
+cmp_fronts cmp zero a b = refl
+cmp_fronts cmp (suc n) [] [] = refl
+cmp_fronts cmp (suc n) [] (y ∷ ys) = refl
+cmp_fronts cmp (suc n) (x ∷ xs) [] = refl
+cmp_fronts cmp (suc n) (x ∷ xs) (y ∷ ys) =
     elim (cmp x y) as (λ o. ordering_then o (slice_cmp cmp xs ys)
     ≡ ordering_then (ordering_then o (slice_cmp cmp (take n xs) (take n ys)))
     (slice_cmp cmp (drop n xs) (drop n ys))) [
       | Less ↦ refl
-      | Equal ↦ cmp-fronts cmp n xs ys
+      | Equal ↦ cmp_fronts cmp n xs ys
       | Greater ↦ refl
     ]
 
@@ -46,7 +46,7 @@ pub within_falls : (top a b : PathNames) → path_cmp a b ≡ Less
 within_falls top a b less =
     front_falls paths_total top (take (length top) a) (take (length top) b)
     (path_cmp (drop (length top) a) (drop (length top) b))
-    (sym (cmp-fronts (slice_cmp _) (length top) a b) ∙ less)
+    (sym (cmp_fronts (slice_cmp _) (length top) a b) ∙ less)
 
 -- ---- where unclosed files may stand
 
@@ -68,12 +68,12 @@ file_falls file a b less =
 
 -- such a row finds the unclosed file at its path, if it is still there
 abbrev pub open_order : OpenRow → FileRow → Ordering
-open_order open row =
-    ordering_then (path_cmp open.names row.names) (cond (is_unclosed_row open.file row) Equal Less)
+open_order kept row =
+    ordering_then (path_cmp kept.names row.names) (cond (is_unclosed_row kept.file row) Equal Less)
 
-below-greater : (key a b : PathNames) → path_cmp a b ≡ Less → path_cmp key b ≡ Equal
+below_greater : (key a b : PathNames) → path_cmp a b ≡ Less → path_cmp key b ≡ Equal
     → path_cmp key a ≡ Greater
-below-greater key a b less tie =
+below_greater key a b less tie =
     paths_total.congr key b a tie ∙ paths_total.antisymm b a ∙ ap ordering_reverse less
 
 then_falls : (first later : Ordering) (a b : Bool) → (later ≡ Greater → first ≡ Greater)
@@ -83,11 +83,11 @@ then_falls first Less a b above same = (λ is. absurd (cc), λ is. absurd (cc))
 then_falls first Greater a b above same = rw (above refl) (λ _. refl, λ _. refl)
 then_falls first Equal a b above same = rw (same refl) (λ _. refl, λ _. refl)
 
-pub open_falls : (open : OpenRow) → Follows (row_cmp row_names) (open_order open)
-open_falls open a b less =
-    then_falls (path_cmp open.names a.names) (path_cmp open.names b.names) _ _
-    (λ is. gt_is _ ((whole_falls paths_total open.names a.names b.names less).0 (ap is_gt is)))
-    (λ tie. below-greater open.names a.names b.names less tie)
+pub open_falls : (kept : OpenRow) → Follows (row_cmp row_names) (open_order kept)
+open_falls kept a b less =
+    then_falls (path_cmp kept.names a.names) (path_cmp kept.names b.names) _ _
+    (λ is. gt_is _ ((whole_falls paths_total kept.names a.names b.names less).0 (ap is_gt is)))
+    (λ tie. below_greater kept.names a.names b.names less tie)
 
 then_alone : (first later : Ordering) (a b : Bool) → (first ≡ Equal → later ≡ Less)
     → ordering_then first (cond a Equal Less) ≡ Equal
@@ -96,7 +96,7 @@ then_alone Less later a b behind same = absurd (cc)
 then_alone Greater later a b behind same = absurd (cc)
 then_alone Equal later a b behind same = rw (behind refl) refl
 
-pub open_alone : (open : OpenRow) → IsOnly (row_cmp row_names) (open_order open)
-open_alone open a b less same =
-    then_alone (path_cmp open.names a.names) (path_cmp open.names b.names) _ _
-    (λ tie. whole_alone paths_total open.names a.names b.names less tie) same
+pub open_alone : (kept : OpenRow) → IsOnly (row_cmp row_names) (open_order kept)
+open_alone kept a b less same =
+    then_alone (path_cmp kept.names a.names) (path_cmp kept.names b.names) _ _
+    (λ tie. whole_alone paths_total kept.names a.names b.names less tie) same

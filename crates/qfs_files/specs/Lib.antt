@@ -2,4 +2,3 @@
 pub mod Rows
 pub mod Keys
 pub mod Open
-pub mod Puts

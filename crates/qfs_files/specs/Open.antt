@@ -10,12 +10,12 @@ use Rattle.qfs_files.specs.Rows.{is_unclosed_row}
 
 -- whether a row is that of the unclosed file at the path that is kept
 abbrev pub finds : OpenRow → FileRow → Bool
-finds open row = has_key (open_order open) row
+finds kept row = has_key (open_order kept) row
 
 -- a row of an unclosed file is found by one of the paths that are kept
 abbrev pub IsCovered : List OpenRow → FileRow → Type 0
-IsCovered open row =
-    (file : ℕ) → is_unclosed_row file row ≡ true → list_any (λ one. finds one row) open ≡ true
+IsCovered places row =
+    (file : ℕ) → is_unclosed_row file row ≡ true → list_any (λ kept. finds kept row) places ≡ true
 
 abbrev pub Covers : List OpenRow → List FileRow → Type 0
-Covers open rows = Each (IsCovered open) rows
+Covers places rows = Each (IsCovered places) rows

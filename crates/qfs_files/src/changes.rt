@@ -13,34 +13,34 @@ use qfs_table::{Run, Table};
 use std::alloc::{AllocError, Global};
 
 /// Keeps the path of a row, if it is that of an unclosed file. On want of memory the paths stay.
-pub fn keep_open(alloc: Global, open: &mut Table<OpenRow>, row: &FileRow) -> Result<(), AllocError>
-    ensures own { OnOk result (IsCovered open.new.rows row.now) }
-    ensures others { (row : FileRow) → IsCovered open.old.rows row → IsCovered open.new.rows row }
+pub fn keep_open(alloc: Global, places: &mut Table<OpenRow>, row: &FileRow) -> Result<(), AllocError>
+    ensures own { OnOk result (IsCovered places.new.rows row.now) }
+    ensures others { (row : FileRow) → IsCovered places.old.rows row → IsCovered places.new.rows row }
 {
     if let Holding::Unclosed(file) = row.holding {
         let names = copy_names(alloc, row.names.as_slice())?;
-        open.reserve(1)?;
-        open.insert(OpenRow { file, names });
+        places.reserve(1)?;
+        places.insert(OpenRow { file, names });
     }
     Ok(())
 }
 
 /// A file is closed wherever it stands unclosed.
-pub fn close_rows(rows: &mut Table<FileRow>, open: Run<'_, OpenRow>, close: &Close)
+pub fn close_rows(rows: &mut Table<FileRow>, places: Run<'_, OpenRow>, close: &Close)
     ensures { rows.new.rows
-        ≡ fold (λ rows open. change_where (finds open)
-        (closed_by close.now.file close.now.actor close.now.command) rows) rows.old.rows open.entry }
+        ≡ fold (λ rows kept. change_where (finds kept)
+        (closed_by close.now.file close.now.actor close.now.command) rows) rows.old.rows places.entry }
 {
-    for row in open {
+    for row in places {
         rows.change(row, close);
     }
 }
 
 /// A file is taken out wherever it stands unclosed.
-pub fn take_rows(rows: &mut Table<FileRow>, open: Run<'_, OpenRow>)
-    ensures { rows.new.rows ≡ fold (λ rows open. without (finds open) rows) rows.old.rows open.entry }
+pub fn take_rows(rows: &mut Table<FileRow>, places: Run<'_, OpenRow>)
+    ensures { rows.new.rows ≡ fold (λ rows kept. without (finds kept) rows) rows.old.rows places.entry }
 {
-    for row in open {
+    for row in places {
         rows.remove(row);
     }
 }

@@ -22,7 +22,7 @@ use std::marker::Model;
 pub struct Files {
     pub(crate) alloc: Global,
     rows: Table<FileRow>,
-    open: Table<OpenRow>,
+    places: Table<OpenRow>,
 }
 
 impl Model for Files {
@@ -34,7 +34,7 @@ impl Model for Files {
 
     ghost view = { λ it. it.rows.rows };
 
-    ghost invariant = { λ it. Covers it.open.rows it.rows.rows };
+    ghost invariant = { λ it. Covers it.places.rows it.rows.rows };
 }
 
 impl Files {
@@ -45,7 +45,7 @@ impl Files {
         Files {
             alloc,
             rows: Table::new(alloc),
-            open: Table::new(alloc),
+            places: Table::new(alloc),
         }
     }
 
@@ -53,7 +53,7 @@ impl Files {
     fn put(&mut self, row: FileRow) -> Result<(), AllocError>
         ensures { OnOk result (self.new ≡ place (row_cmp row_names) row self.old) }
     {
-        keep_open(self.alloc, &mut self.open, &row)?;
+        keep_open(self.alloc, &mut self.places, &row)?;
         self.rows.reserve(1)?;
         self.rows.insert(row);
         Ok(())
@@ -91,14 +91,14 @@ impl Files {
             (closed_by close.now.file close.now.actor close.now.command) self.old }
     {
         let file = close.file;
-        close_rows(&mut self.rows, self.open.run(&ByFile { file }), close);
+        close_rows(&mut self.rows, self.places.run(&ByFile { file }), close);
     }
 
     /// An unclosed file is taken out, wherever it stands.
     fn give_up(&mut self, file: FileId)
         ensures { self.new ≡ without (is_unclosed_row file) self.old }
     {
-        take_rows(&mut self.rows, self.open.run(&ByFile { file }));
+        take_rows(&mut self.rows, self.places.run(&ByFile { file }));
     }
 
     /// The rows within a path: the one at it, and those below it.
@@ -125,6 +125,7 @@ impl Files {
     }
 
     /// Goes on by one entry of the history. On want of memory the files are those of no entry.
+    #[tactic(auto, unfolding(qfs_base::specs::NameTree::added, qfs_base::specs::NameTree::taken))]
     fn apply(&mut self, entry: &Entry) -> Result<(), AllocError>
         ensures { OnOk result (self.new ≡ rows_after self.old entry.now) }
     {

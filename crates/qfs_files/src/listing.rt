@@ -45,6 +45,7 @@ fn push_child(
 }
 
 /// The names of these rows right below a directory, each with what it stands for.
+#[tactic(auto, using(crate::proofs::RuleLaws::children))]
 pub fn names_below(
     alloc: Global,
     directory: &[Bytes],

@@ -3,9 +3,8 @@ ghost use Rattle.std.specs.Prelude.{◌≡◌, ◌+◌, ◌≤◌, ℕ, List, fl
 ghost use Rattle.std.specs.Option.{option_copied, option_map};
 ghost use Rattle.qfs_base.specs.FileReplies.{wanted_bytes};
 ghost use Rattle.qfs_base.specs.Recipe.{bytes_of};
-ghost use Rattle.qfs_model_world.specs.Puts.{command_of, puts_of};
+ghost use Rattle.qfs_model_world.specs.Puts.{PutCommand, command_of, put_in, put_of, puts_of};
 ghost use Rattle.qfs_model_world.specs.World.{numbered};
-ghost use Rattle.qfs_files.specs.Puts.{recipe_in, recipe_of};
 
 use qfs_base::command::{Command, FileCommand, Range};
 use qfs_base::listing::Listing;
@@ -16,10 +15,14 @@ use qfs_recipe::{Recipe, RecipeCalls};
 use std::alloc::{AllocError, Global};
 
 /// The commands of an actor. Actors are numbered from 1 through all phases.
+#[tactic(auto, unfolding(qfs_model_world::specs::World::numbered))]
 fn commands_of(phases: &[Phase], actor: ActorId) -> Option<&Commands>
     ensures { option_copied result ≡ numbered (flat_map (λ phase. phase) phases.now) actor }
 {
-    let mut left = usize::from(actor.checked_sub(1)?);
+    if actor == 0 {
+        return None;
+    }
+    let mut left = usize::from(actor - 1);
     for phase in phases {
         if left < phase.len() {
             return phase.get(left);
@@ -30,6 +33,7 @@ fn commands_of(phases: &[Phase], actor: ActorId) -> Option<&Commands>
 }
 
 /// The command of an actor and a number, both from 1.
+#[tactic(auto, unfolding(qfs_model_world::specs::Puts::command_of, qfs_model_world::specs::World::numbered))]
 fn command_of(script: &Script, actor: ActorId, number: u16) -> Option<&Command>
     ensures { option_copied result ≡ command_of script.now actor number }
 {
@@ -38,8 +42,10 @@ fn command_of(script: &Script, actor: ActorId, number: u16) -> Option<&Command>
 }
 
 /// What a command puts, if it is a put.
+#[tactic(auto, unfolding(qfs_model_world::specs::Puts::put_in))]
 fn recipe_in(command: &Command) -> Option<&Recipe>
-    ensures { option_copied result ≡ recipe_in command.now }
+    ensures { option_map bytes_of (option_copied result)
+        ≡ option_map (λ (put : PutCommand). put.bytes) (put_in command.now) }
 {
     match command {
         Command::File(FileCommand::Put(_, recipe)) => Some(recipe),
@@ -48,8 +54,10 @@ fn recipe_in(command: &Command) -> Option<&Recipe>
 }
 
 /// What the put of an actor and a number writes.
+#[tactic(auto, unfolding(qfs_model_world::specs::Puts::put_of))]
 fn recipe_of(script: &Script, actor: ActorId, number: u16) -> Option<&Recipe>
-    ensures { option_copied result ≡ recipe_of script.now actor number }
+    ensures { option_map bytes_of (option_copied result)
+        ≡ option_map (λ (put : PutCommand). put.bytes) (put_of script.now actor number) }
 {
     recipe_in(command_of(script, actor, number)?)
 }
@@ -94,6 +102,7 @@ fn read_recipe(alloc: Global, recipe: &Recipe, range: Option<Range>) -> Result<B
 
 /// The bytes that are wanted of what the put of an actor and a number writes: none where that is
 /// no put.
+#[tactic(auto, unfolding(qfs_model_world::specs::Puts::puts_of))]
 pub fn read_put(
     alloc: Global,
     script: &Script,

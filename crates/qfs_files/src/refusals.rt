@@ -106,7 +106,7 @@ fn is_too_deep(from: &[Bytes], to: &[Bytes], row: &FileRow) -> bool
 {
     let names = row.names.as_slice();
     let below = names.len().saturating_sub(from.len());
-    is_within(from, names) && below > MOST_NAMES.saturating_sub(to.len())
+    is_within(from, names) && to.len() + below > MOST_NAMES
 }
 
 /// Whether one of these rows would.
@@ -123,7 +123,7 @@ fn any_too_deep(from: &[Bytes], to: &[Bytes], rows: Run<'_, FileRow>) -> bool
 
 impl Files {
     /// What stands under a path, if anything does: the root is a directory.
-    #[tactic(auto, unfolding(qfs_base::specs::NameTree::kind_at))]
+    #[tactic(auto, using(crate::proofs::RuleLaws::kind_at_filled), unfolding(qfs_base::specs::NameTree::kind_at))]
     fn kind_at(&self, names: &[Bytes]) -> Option<NameKind>
         ensures { result ≡ kind_at (standing_of self.now) names.now }
     {
@@ -173,7 +173,7 @@ impl Files {
     }
 
     /// Whether something stands below a directory. The root counts as never empty.
-    #[tactic(auto, unfolding(qfs_base::specs::NameTree::is_filled))]
+    #[tactic(auto, using(crate::proofs::RuleLaws::filled_below), unfolding(qfs_base::specs::NameTree::is_filled))]
     fn is_filled(&self, names: &[Bytes]) -> bool
         ensures { result ≡ is_filled (standing_of self.now) names.now }
     {
@@ -205,6 +205,7 @@ impl Files {
     }
 
     /// Whether an entry within `from` would have more than 32 names, once it is within `to`.
+    #[tactic(auto, using(crate::proofs::RuleLaws::too_deep))]
     fn grows_too_deep(&self, from: &[Bytes], to: &[Bytes]) -> bool
         ensures { result ≡ grows_too_deep (standing_of self.now) from.now to.now }
     {

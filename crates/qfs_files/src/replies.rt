@@ -1,10 +1,10 @@
 //! What a file command is answered.
 ghost use Rattle.std.specs.Prelude.{◌≡◌, IfOk};
-ghost use Rattle.qfs_base.specs.FileReplies.{bytes_at, file_reply, refused_or, reply_at, wanted_bytes};
+ghost use Rattle.qfs_base.specs.FileReplies.{bytes_at, bytes_of_content, file_reply, refused_or, reply_at, wanted_bytes};
 ghost use Rattle.qfs_base.specs.NameTree.{directory_refusal, look_refusal, names_below};
 ghost use Rattle.qfs_base.specs.declared.history.FileReply.TheVariants as Told;
 ghost use Rattle.qfs_model_world.specs.Puts.{puts_of};
-ghost use Rattle.qfs_files.specs.Rows.{entries_from, standing_of};
+ghost use Rattle.qfs_files.specs.Rows.{content_held, entries_from, standing_of};
 
 use crate::files::{Files, files_of};
 use crate::listing::names_below;
@@ -30,6 +30,23 @@ fn refused_or(reply: FileReply, refusal: Option<TreeRefusal>) -> FileReply
     }
 }
 
+/// The bytes that are wanted of what a path holds: none where that is no closed file.
+#[tactic(auto, using(crate::proofs::PutLaws::wanted_nil), unfolding(qfs_base::specs::FileReplies::bytes_of_content))]
+fn read_held(
+    alloc: Global,
+    script: &Script,
+    holding: Holding,
+    range: Option<Range>,
+) -> Result<Bytes, AllocError>
+    ensures { IfOk result (λ bytes. bytes
+        ≡ wanted_bytes (bytes_of_content (content_held (puts_of script.now) holding)) range) }
+{
+    match holding {
+        Holding::Closed(_, actor, command) => read_put(alloc, script, actor, command, range),
+        Holding::Directory | Holding::Unclosed(_) => Ok(Listing::new(alloc)),
+    }
+}
+
 impl Files {
     /// The bytes that are wanted of what stands at a path: none where that is no closed file.
     fn read(
@@ -41,12 +58,10 @@ impl Files {
         ensures { IfOk result (λ bytes. bytes
             ≡ wanted_bytes (bytes_at (entries_from (puts_of script.now) self.now) names.now) range) }
     {
-        if let Some(row) = self.row_at(names) {
-            if let Holding::Closed(_, actor, command) = row.holding {
-                return read_put(self.alloc, script, actor, command, range);
-            }
+        match self.row_at(names) {
+            Some(row) => read_held(self.alloc, script, row.holding, range),
+            None => Ok(Listing::new(self.alloc)),
         }
-        Ok(Listing::new(self.alloc))
     }
 
     /// What a get is answered: the bytes that are wanted, or why the path is no closed file.
@@ -81,7 +96,7 @@ impl Files {
     }
 
     /// What a command is answered over these files.
-    #[tactic(auto, unfolding(qfs_base::specs::FileReplies::file_reply))]
+    #[tactic(auto, using(crate::proofs::EntryLaws::standing_same), unfolding(qfs_base::specs::FileReplies::file_reply))]
     fn reply(&self, script: &Script, command: &FileCommand) -> Result<FileReply, AllocError>
         ensures { IfOk result (λ reply. reply
             ≡ file_reply (entries_from (puts_of script.now) self.now) command.now) }
