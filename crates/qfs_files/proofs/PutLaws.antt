@@ -1,6 +1,7 @@
 -- The commands of actors that are numbered through all phases, and the bytes that are wanted.
 use Rattle.std.proofs.Common.{◌≡◌, ℕ, zero, suc, ◌+◌, ◌-◌, ◌<◌, ◌≤◌, ◌⊎◌, ⊎_elim, min, List, [], ◌∷◌, ◌++◌, length, take, drop, refl, ap, sym, ◌∙◌, arith}
-use Rattle.std.proofs.Common.{Option, Some, None, slice_index_or, unwrap_or, common_steps}
+use Rattle.std.proofs.Common.{Option, Some, None, slice_index_or, unwrap_or}
+use Rattle.std.proofs.lemmas.Grind.{common_steps}
 use Rattle.std.proofs.lemmas.List.{drop_all, drop_more, length-drop, take_at}
 use Rattle.std.proofs.lemmas.List.Folds.{drop_split}
 use Rattle.std.specs.List.{slice_get, slice_range}

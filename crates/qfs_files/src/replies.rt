@@ -144,7 +144,7 @@ pub fn reply_at(
         (λ reply. reply ≡ reply_at (puts_of script.now) history.now place command.now) }
 {
     let entries = history.as_slice();
-    let place = entries.len().min(place as usize);
+    let place = (place as usize).min(entries.len());
     let files = files_of(alloc, &entries[..place])?;
     files.reply(script, command)
 }

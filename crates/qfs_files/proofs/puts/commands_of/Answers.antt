@@ -15,7 +15,7 @@ returns-then-left-len c =
     ∙ sym (ap (λ phases. slice_get (flat_map (λ phase. phase) phases) c.loop-phase.left)
     (drop_read phases at phase c.loop-phase-test.true c.phase-item.is))
     ∙ sym c.loop-phase.invariant
-    ∙ sym (numbered_is (flat_map (λ phase. phase) phases) c.args.actor c.if-actor.false)
+    ∙ sym (numbered_is (flat_map (λ phase. phase) phases) c.args.actor c.if-actor-eq0.false)
 
 pub loop-phase-preserved : goal.loop-phase-preserved
 loop-phase-preserved c =
@@ -28,4 +28,4 @@ loop-phase-preserved c =
     ∙ get_behind phase (flat_map (λ phase. phase) (drop (at + 1) phases)) c.loop-phase.left
     (omega (arith, c.if-left-len.false, c.len.ensures))
     ∙ ap (λ n. slice_get (flat_map (λ phase. phase) (drop (at + 1) phases)) (c.loop-phase.left - n))
-    (sym c.len-in-loop-phase.ensures)
+    (sym c.len-left.ensures)
