@@ -99,7 +99,8 @@ pub standing_same : (puts : Puts) (rows : List FileRow)
 unfolding files_standing
 standing_same puts [] = refl
 standing_same puts (row ∷ rows) =
-    (λ i. record { path = row.names; kind = kind_same puts row.holding i } ∷ standing_same puts rows i)
+    (λ i. record { path = row.names; kind = kind_same puts row.holding i }
+    ∷ standing_same puts rows i)
 
 find_same : (puts : Puts) (rows : List FileRow) (path : PathNames)
     → find (stands_at entry_path path) (entries_from puts rows)

@@ -1,7 +1,7 @@
 -- What the keys find, in the words of the tree's rules.
-use Rattle.std.proofs.Common.{◌≡◌, ℕ, Bool, List, filter, find, length, take, true, false, refl, ap, sym, ◌∙◌, true≢false, ◌&&◌, cond}
+use Rattle.std.proofs.Common.{◌≡◌, List, filter, find, length, take, refl, ap, sym, ◌∙◌}
 use Rattle.std.specs.Cmp.Lexicographic.{lists_ties, slice_cmp, texts_ties}
-use Rattle.std.specs.Ordering.{is_eq, nat_cmp, ordering_reverse, ordering_then}
+use Rattle.std.specs.Ordering.{is_eq, nat_cmp, ordering_reverse}
 use Rattle.std.specs.declared.cmp.Ordering.{Ordering}
 use Rattle.std.specs.declared.cmp.Ordering.TheVariants.{Less, Equal, Greater}
 use Rattle.qfs_base.specs.NameTree.{PathNames, is_within, path_cmp, path_eq, stands_at}

@@ -1,21 +1,21 @@
 -- A file that is closed, or taken out, at each path that is kept for it is so wherever it stands
 -- unclosed; and the paths that are kept go on to be enough.
-use Rattle.std.proofs.Common.{◌≡◌, ℕ, Bool, List, [], ◌∷◌, filter, cond, fold, not, true, false, refl, ap, sym, subst, ◌∙◌, true≢false, ◌&&◌, ◌||◌, ◌==◌}
+use Rattle.std.proofs.Common.{◌≡◌, ℕ, Bool, List, [], ◌∷◌, filter, cond, fold, not, true, false, refl, ap, sym, ◌∙◌, true≢false, ◌&&◌, ◌||◌, ◌==◌}
 use Rattle.std.proofs.lemmas.Bool.{and_parts, eq-eqb, eqb-true}
 use Rattle.std.proofs.lemmas.Cmp.{nat_cmp_total, ranked, tied_itself}
 use Rattle.std.specs.List.{list_any}
 use Rattle.std.specs.Ordering.{is_eq, nat_cmp, ordering_then}
 use Rattle.std.specs.declared.cmp.Ordering.{Ordering}
 use Rattle.std.specs.declared.cmp.Ordering.TheVariants.{Less, Equal, Greater}
-use Rattle.qfs_base.specs.EachLaws.{each_filter, each_weaker}
-use Rattle.qfs_base.specs.NameTree.{PathNames, path_cmp}
+use Rattle.qfs_base.specs.EachLaws.{each_weaker}
+use Rattle.qfs_base.specs.NameTree.{path_cmp}
 use Rattle.qfs_base.specs.Table.{Each, change_row, change_where, has_key, place, place_before, without}
-use Rattle.qfs_laws_tables.specs.EachRow.{each_change, each_of_all}
+use Rattle.qfs_laws_tables.specs.EachRow.{each_change}
 use Rattle.qfs_files.specs.declared.row.FileRow.{FileRow}
 use Rattle.qfs_files.specs.declared.row.Holding.{Holding}
 use Rattle.qfs_files.specs.declared.row.Holding.TheVariants.{Directory, Unclosed, Closed}
 use Rattle.qfs_files.specs.declared.row.OpenRow.{OpenRow}
-use Rattle.qfs_files.specs.Keys.{file_order, open_cmp, open_order, paths_total}
+use Rattle.qfs_files.specs.Keys.{file_order, open_cmp, paths_total}
 use Rattle.qfs_files.specs.Open.{Covers, IsCovered, finds}
 use Rattle.qfs_files.specs.Rows.{closed_by, holds_unclosed, is_unclosed_row}
 
@@ -83,7 +83,8 @@ none_own file row (kept ∷ places) off =
     (elim (of_file file kept) as (λ b. of_file file kept ≡ b →
     list_any (λ kept. finds kept row) (cond b (kept ∷ filter (of_file file) places)
     (filter (of_file file) places)) ≡ false) [
-      | true ↦ λ own. ap (λ b. b || list_any (λ kept. finds kept row) (filter (of_file file) places))
+      | true ↦ λ own.
+          ap (λ b. b || list_any (λ kept. finds kept row) (filter (of_file file) places))
           (finds_is kept row
           ∙ ap (λ n. is_eq (path_cmp kept.names row.names) && is_unclosed_row n row)
           (sym (own_number file kept own))

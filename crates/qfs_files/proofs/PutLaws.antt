@@ -83,7 +83,8 @@ span_cut from count len xs long =
     let cut : drop (min from len) xs ≡ drop from xs =
     ap (λ n. drop (min from n) xs) (sym long) ∙ drop_cut from xs in
     let left : len - min from len ≡ length (drop from xs) =
-    (let e : len - min from len ≡ length xs - from = omega arith in e) ∙ sym (length-drop from xs) in
+    (let e : len - min from len ≡ length xs - from = omega arith in e)
+    ∙ sym (length-drop from xs) in
     range_is xs (min from len) (min count (len - min from len)) (omega arith)
     ∙ (λ i. take (min count (left i)) (cut i))
     ∙ take_cut count (drop from xs)

@@ -13,9 +13,14 @@ use qfs_table::{Run, Table};
 use std::alloc::{AllocError, Global};
 
 /// Keeps the path of a row, if it is that of an unclosed file. On want of memory the paths stay.
-pub fn keep_open(alloc: Global, places: &mut Table<OpenRow>, row: &FileRow) -> Result<(), AllocError>
+pub fn keep_open(
+    alloc: Global,
+    places: &mut Table<OpenRow>,
+    row: &FileRow,
+) -> Result<(), AllocError>
     ensures own { OnOk result (IsCovered places.new.rows row.now) }
-    ensures others { (row : FileRow) → IsCovered places.old.rows row → IsCovered places.new.rows row }
+    ensures others { (row : FileRow) → IsCovered places.old.rows row
+        → IsCovered places.new.rows row }
 {
     if let Holding::Unclosed(file) = row.holding {
         let names = copy_names(alloc, row.names.as_slice())?;
@@ -29,7 +34,8 @@ pub fn keep_open(alloc: Global, places: &mut Table<OpenRow>, row: &FileRow) -> R
 pub fn close_rows(rows: &mut Table<FileRow>, places: Run<'_, OpenRow>, close: &Close)
     ensures { rows.new.rows
         ≡ fold (λ rows kept. change_where (finds kept)
-        (closed_by close.now.file close.now.actor close.now.command) rows) rows.old.rows places.entry }
+        (closed_by close.now.file close.now.actor close.now.command) rows)
+        rows.old.rows places.entry }
 {
     for row in places {
         rows.change(row, close);
@@ -38,7 +44,8 @@ pub fn close_rows(rows: &mut Table<FileRow>, places: Run<'_, OpenRow>, close: &C
 
 /// A file is taken out wherever it stands unclosed.
 pub fn take_rows(rows: &mut Table<FileRow>, places: Run<'_, OpenRow>)
-    ensures { rows.new.rows ≡ fold (λ rows kept. without (finds kept) rows) rows.old.rows places.entry }
+    ensures { rows.new.rows
+        ≡ fold (λ rows kept. without (finds kept) rows) rows.old.rows places.entry }
 {
     for row in places {
         rows.remove(row);

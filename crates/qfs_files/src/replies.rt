@@ -55,8 +55,8 @@ impl Files {
         names: &[Bytes],
         range: Option<Range>,
     ) -> Result<Bytes, AllocError>
-        ensures { IfOk result (λ bytes. bytes
-            ≡ wanted_bytes (bytes_at (entries_from (puts_of script.now) self.now) names.now) range) }
+        ensures { IfOk result (λ bytes. bytes ≡ wanted_bytes
+            (bytes_at (entries_from (puts_of script.now) self.now) names.now) range) }
     {
         match self.row_at(names) {
             Some(row) => read_held(self.alloc, script, row.holding, range),

@@ -1,5 +1,5 @@
 -- What the check leaves to show of `changes::keep_open`.
-use Rattle.std.proofs.Common.{ap, sym, subst, ◌∙◌}
+use Rattle.std.proofs.Common.{sym, subst, ◌∙◌}
 use Rattle.qfs_base.specs.Table.{place}
 use Rattle.qfs_files.specs.Keys.{open_cmp}
 use Rattle.qfs_files.specs.Open.{IsCovered}

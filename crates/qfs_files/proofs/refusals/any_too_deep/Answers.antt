@@ -8,10 +8,12 @@ pub loop-row-preserved : goal.loop-row-preserved
 loop-row-preserved c =
     let deep = is_deep c.args.from.now c.args.to.now in
     c.loop-row.invariant ∙ ap (list_any deep) c.in-Some.ensures.steps
-    ∙ ap (λ b. b || list_any deep c.next.new.self) (sym c.is_too_deep.ensures ∙ c.if-is_too_deep.false)
+    ∙ ap (λ b. b || list_any deep c.next.new.self)
+    (sym c.is_too_deep.ensures ∙ c.if-is_too_deep.false)
 
 pub returns-then-is_too_deep : goal.returns-then-is_too_deep
 returns-then-is_too_deep c =
     let deep = is_deep c.args.from.now c.args.to.now in
     sym (c.loop-row.invariant ∙ ap (list_any deep) c.in-Some.ensures.steps
-    ∙ ap (λ b. b || list_any deep c.next.new.self) (sym c.is_too_deep.ensures ∙ c.if-is_too_deep.true))
+    ∙ ap (λ b. b || list_any deep c.next.new.self)
+    (sym c.is_too_deep.ensures ∙ c.if-is_too_deep.true))
