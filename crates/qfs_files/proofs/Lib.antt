@@ -1,0 +1,5 @@
+mod EntryLaws
+mod KeyTests
+mod OpenLaws
+mod PutLaws
+mod RuleLaws
