@@ -66,7 +66,7 @@ module _ (script : Script) (bytes : ℕ → List ℕ) (steps : List Event) (worl
       file-lines (closed_rows world.meta.tree) have-blocks) in
       (λ i. record {
         lines = lines i;
-        summary = record summary_of world taken {
+        summary = record (summary_of world taken) {
           blocks = length (blocks-stand i);
           copies = sum_by (current_copies world.meta) (blocks-stand i);
         };
@@ -81,14 +81,13 @@ pub printed-is : (script : Script) (order : List Step) (steps : List Event) (wor
     → IsSoundAt script (made script (events script order)) steps world
     → SlotsFit world.rules world.meta
     → output_of_world world script.audit order ≡ printed script order world
-unfolding output_of_parts printed
+unfolding output_of_parts printed audit_if then_some
 printed-is script order steps world sound fits =
     ap (λ audit. output (lines_of_world world) world.meta.history audit order) (asked script.audit)
   where
     asked : (audit : Bool)
         → then_some audit (audit_of_image world.meta (lives_of world) (length order))
         ≡ audit_if script order world audit
-    unfolding audit_if then_some
     asked true = ap (λ (audit : Audit). Some audit)
         (audit-is script (made script (events script order)) steps world sound fits (length order))
     asked false = refl
@@ -99,7 +98,7 @@ texts-agree script order sound fits =
     printed-is script order (events script order) (after script order) sound fits
 
 pub plain-texts-agree : PlainTextsAgree
-unfolding text output_of_parts printed
+unfolding text output_of_parts printed audit_if then_some
 plain-texts-agree script order none =
     ap (λ audit. output (lines_of_world (after script order)) (after script order).meta.history
     audit order) (asked script.audit none)
@@ -108,6 +107,5 @@ plain-texts-agree script order none =
         → then_some audit
         (audit_of_image (after script order).meta (lives_of (after script order)) (length order))
         ≡ audit_if script order (after script order) audit
-    unfolding audit_if then_some
     asked true is = absurd (cc)
     asked false is = refl

@@ -99,53 +99,57 @@ is_of_index file index row = (row.block.file == file) && (row.block.index == ind
 abbrev pub InFile : ℕ → ℕ → SlotRow → Type 0
 InFile file count row = row.block.file ≡ file → row.block.index < count
 
-pub blocks-are : (file count : ℕ) (slots : List SlotRow) → Each (InFile file count) slots
-    → ((index : ℕ) → index < count → list_any (is_of_index file index) slots ≡ true)
-    → blocks_of_file slots file
-    ≡ map (λ index. record { file = file; index = index }) (range_with_len 0 count)
-unfolding blocks_of_file blocks_of
-blocks-are file count slots inside full =
-    by-index file of-file in-file
-    ∙ ap (map {B = BlockId} (λ index. record { file = file; index = index }))
-    (range-is count 0 (indices of-file) (indices-rise file of-file in-file rising)
-    (each_map (λ (b : BlockId). b.file ≡ file) (λ n. 0 ≤ n) (λ (b : BlockId). b.index)
-    (λ b _. omega arith) of-file in-file)
-    (each_map (λ (b : BlockId). b.index < count) (λ n. n < 0 + count) (λ (b : BlockId). b.index)
-    (λ b below. omega arith) of-file below)
-    (λ index _ high. has index (omega arith)))
-  where
-    abbrev blocks : List BlockId
-    blocks = put_blocks [] slots
+module _ (file count : ℕ) (slots : List SlotRow) (inside : Each (InFile file count) slots)
+    (full : (index : ℕ) → index < count → list_any (is_of_index file index) slots ≡ true) where
+  abbrev blocks : List BlockId
+  blocks = put_blocks [] slots
 
-    abbrev is_in : BlockId → Bool
-    is_in b = b.file == file
+  abbrev is_in : BlockId → Bool
+  is_in b = b.file == file
 
-    abbrev of-file : List BlockId
-    of-file = filter is_in blocks
+  abbrev of-file : List BlockId
+  of-file = filter is_in blocks
 
-    in-file : Each (λ (b : BlockId). b.file ≡ file) of-file
-    in-file = each_weaker (λ b. is_in b ≡ true) (λ (b : BlockId). b.file ≡ file)
-        (λ b is. eqb-true b.file file is) of-file (each_passes is_in blocks)
+  in-file : Each (λ (b : BlockId). b.file ≡ file) of-file
+  in-file = each_weaker (λ b. is_in b ≡ true) (λ (b : BlockId). b.file ≡ file)
+      (λ b is. eqb-true b.file file is) of-file (each_passes is_in blocks)
 
-    rising : IsRising block_cmp of-file
-    rising = filter_rises block_cmp is_in blocks (blocks-rise slots [] tt)
+  rising : IsRising block_cmp of-file
+  rising = filter_rises block_cmp is_in blocks (blocks-rise slots [] tt)
 
-    below : Each (λ (b : BlockId). b.index < count) of-file
-    below = each_weaker (λ (b : BlockId). (b.file ≡ file → b.index < count) × (b.file ≡ file))
-        (λ (b : BlockId). b.index < count) (λ b p. p.0 p.1) of-file
-        (each_both (λ (b : BlockId). b.file ≡ file → b.index < count) (λ (b : BlockId). b.file ≡ file)
-        of-file
-        (each_filter (λ (b : BlockId). b.file ≡ file → b.index < count) is_in blocks
-        (blocks-each (λ (b : BlockId). b.file ≡ file → b.index < count) slots [] inside tt)) in-file)
+  below : Each (λ (b : BlockId). b.index < count) of-file
+  below = each_weaker (λ (b : BlockId). (b.file ≡ file → b.index < count) × (b.file ≡ file))
+      (λ (b : BlockId). b.index < count) (λ b p. p.0 p.1) of-file
+      (each_both (λ (b : BlockId). b.file ≡ file → b.index < count) (λ (b : BlockId). b.file ≡ file)
+      of-file
+      (each_filter (λ (b : BlockId). b.file ≡ file → b.index < count) is_in blocks
+      (blocks-each (λ (b : BlockId). b.file ≡ file → b.index < count) slots [] inside tt)) in-file)
 
-    is_at : ℕ → BlockId → Bool
-    is_at index b = (b.file == file) && (b.index == index)
+  abbrev is_at : ℕ → BlockId → Bool
+  is_at index b = (b.file == file) && (b.index == index)
 
-    has : (index : ℕ) → index < count → list_any (nat_eq index) (indices of-file) ≡ true
-    has index small = any_map (is_at index) (nat_eq index) (λ (b : BlockId). b.index)
-        (λ b is. let p = and_parts (b.file == file) (b.index == index) is in let e : b.index ≡ index
-        = eqb-true b.index index p.1 in grind (arith, nat_tests)) of-file
-        (any_filter (is_at index) is_in
-        (λ b is. (and_parts (b.file == file) (b.index == index) is).0) blocks
-        (blocks-any (is_at index) slots []
-        ∙ ap (λ b. b || false) (full index small)))
+  same-index : (index : ℕ) (b : BlockId) → is_at index b ≡ true → nat_eq index b.index ≡ true
+  same-index index b is =
+      let at : b.index ≡ index = eqb-true b.index index
+      (and_parts (b.file == file) (b.index == index) is).1 in
+      grind (arith, nat_tests)
+
+  has : (index : ℕ) → index < count → list_any (nat_eq index) (indices of-file) ≡ true
+  has index small =
+      any_map (is_at index) (nat_eq index) (λ (b : BlockId). b.index) (same-index index) of-file
+      (any_filter (is_at index) is_in
+      (λ b is. (and_parts (b.file == file) (b.index == index) is).0) blocks
+      (blocks-any (is_at index) slots [] ∙ ap (λ b. b || false) (full index small)))
+
+  pub blocks-are : blocks_of_file slots file
+      ≡ map (λ index. record { file = file; index = index }) (range_with_len 0 count)
+  unfolding blocks_of_file blocks_of
+  blocks-are =
+      by-index file of-file in-file
+      ∙ ap (map {B = BlockId} (λ index. record { file = file; index = index }))
+      (range-is count 0 (indices of-file) (indices-rise file of-file in-file rising)
+      (each_map (λ (b : BlockId). b.file ≡ file) (λ n. 0 ≤ n) (λ (b : BlockId). b.index)
+      (λ b _. omega arith) of-file in-file)
+      (each_map (λ (b : BlockId). b.index < count) (λ n. n < 0 + count) (λ (b : BlockId). b.index)
+      (λ b below. omega arith) of-file below)
+      (λ index _ high. has index (omega arith)))

@@ -53,7 +53,7 @@ apart-rows file (row ∷ rows) each =
     × Each (λ (row : TreeRow). 0 < row.file → (row.file ≡ file → ⊥)) rows) [
       | true ↦ λ _ each. (
         (λ some same. let apart : nat_eq file row.file ≡ false = each.0 in
-        absurd (grind (arith, nat_tests))),
+            absurd (grind (arith, nat_tests))),
         apart-rows file rows each.1,
       )
       | false ↦ λ none each. (
@@ -75,6 +75,13 @@ found-behind row later rows apart found =
     apart-test : (a b : ℕ) → (a ≡ b → ⊥) → (a == b) ≡ false
     apart-test a b apart = grind (arith, nat_tests)
 
+found-own : (row : TreeRow) (rows : List TreeRow) → IsFound (row ∷ rows) row
+unfolding has_file
+found-own row rows some =
+    let same : is_eq (nat_cmp row.file row.file) ≡ true = key-is row.file row.file
+    ∙ grind (arith, nat_tests) in
+    rw same refl
+
 rows-found : (tree : List TreeRow) → IsDistinct nat_eq (files_in tree) → Each (IsFound tree) tree
 unfolding IsDistinct files_in
 rows-found [] distinct = tt
@@ -83,7 +90,7 @@ rows-found (row ∷ rows) distinct =
     → IsDistinct nat_eq (cond b (row.file ∷ files_in rows) (files_in rows))
     → Each (IsFound (row ∷ rows)) (row ∷ rows)) [
       | true ↦ λ _ distinct. (
-        own,
+        found-own row rows,
         each_weaker
             (λ (later : TreeRow). IsFound rows later
             × (0 < later.file → (later.file ≡ row.file → ⊥))) (IsFound (row ∷ rows))
@@ -94,29 +101,22 @@ rows-found (row ∷ rows) distinct =
             (rows-found rows distinct.1) (apart-rows row.file rows distinct.0)),
       )
       | false ↦ λ none distinct. (
-        own,
+        found-own row rows,
         each_weaker (IsFound rows) (IsFound (row ∷ rows))
             (λ later p some. found-behind row later rows
             (λ same. absurd (grind (arith, nat_tests))) (p some)) rows (rows-found rows distinct),
       )
     ] refl distinct
-  where
-    own : IsFound (row ∷ rows) row
-    unfolding has_file
-    own some =
-        let same : is_eq (nat_cmp row.file row.file) ≡ true = key-is row.file row.file
-        ∙ grind (arith, nat_tests) in
-        rw same refl
 
 -- a closed file has a number
+numbered : (file : ℕ) (closed : Bool) → is_closed (kind_of file closed) ≡ true → 0 < file
+unfolding is_closed kind_of
+numbered zero closed is = absurd (false≢true is)
+numbered (suc n) closed is = omega arith
+
 closed-numbered : (row : TreeRow) → is_closed_row row ≡ true → 0 < row.file
 unfolding is_closed_row
 closed-numbered row closed = numbered row.file row.closed closed
-  where
-    numbered : (file : ℕ) (closed : Bool) → is_closed (kind_of file closed) ≡ true → 0 < file
-    unfolding is_closed kind_of
-    numbered zero closed is = absurd (false≢true is)
-    numbered (suc n) closed is = omega arith
 
 -- ---- the slots of the blocks of a closed file
 
@@ -161,6 +161,7 @@ filled-has layout m row filled closed index small =
 slots-inside : (layout : Shape) (m : MetaImage) (row : TreeRow)
     → find (has_file row.file) m.tree ≡ Some row → Each (IsOfBlock layout m) m.slots
     → Each (InFile row.file (block_count layout row.len)) m.slots
+unfolding has_block
 slots-inside layout m row found each =
     each_weaker (IsOfBlock layout m) (InFile row.file (block_count layout row.len))
     (λ slot of-block same. within slot.block.index
@@ -169,7 +170,6 @@ slots-inside layout m row found each =
   where
     within : (index : ℕ) → has_block layout index (find (has_file row.file) m.tree) ≡ true
         → index < block_count layout row.len
-    unfolding has_block
     within index has =
         ltb-true index (block_count layout row.len)
         (subst (λ o. has_block layout index o ≡ true) found has)

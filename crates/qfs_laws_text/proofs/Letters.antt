@@ -107,7 +107,7 @@ copy-tells world bytes block slot copy right stored =
 pub letter-tells : (script : Script) (bytes : ℕ → List ℕ) (steps : List Event) (world : World)
     → IsSoundAt script bytes steps world
     → (block : BlockId) (slot : ℕ) → LetterTells world bytes block slot
-unfolding is_right_slot is_slot_of_life
+unfolding is_right_slot is_slot_of_life is_right_copy is_of_life
 letter-tells script bytes steps world sound block slot =
     tells (slot_at world.meta.slots block slot).current
     (sound.copies_stored.current block slot)
@@ -115,7 +115,6 @@ letter-tells script bytes steps world sound block slot =
     tells : (current : Option Copy)
         → ((copy : Copy) → current ≡ Some copy → IsStored world (copy_of block slot copy))
         → is_right_copy world bytes block slot current ≡ is_of_life world current
-    unfolding is_right_copy is_of_life
     tells None stored = refl
     tells (Some copy) stored =
         copy-tells world bytes block slot copy sound.right_copies.stored (stored copy refl)
@@ -142,13 +141,12 @@ life-of (server ∷ servers) life (suc k) = life-of servers life k
 
 pub live-is : (world : World) (current : Option Copy)
     → is_live (lives_of world) current ≡ is_of_life world current
-unfolding is_live is_of_life lives_of numbered
+unfolding is_live is_of_life is_life has_life lives_of numbered
 live-is world None = refl
 live-is world (Some copy) = at copy.server
   where
     at : (server : ℕ)
         → is_life copy.life (numbered (map (λ (s : Server). s.life) world.servers) server)
         ≡ has_life copy.life (numbered world.servers server)
-    unfolding is_life has_life
     at zero = refl
     at (suc k) = life-of world.servers copy.life k
