@@ -1,6 +1,6 @@
 -- The audit that is made of the metaserver's state and the lives of the servers is that of the
 -- world, and so is the text.
-use Rattle.std.proofs.Common.{◌≡◌, ℕ, Bool, true, false, List, length, map, sum_by, Option, Some, None, refl, sym, ap, ◌∙◌, subst}
+use Rattle.std.proofs.Common.{◌≡◌, ℕ, Bool, true, false, List, length, map, sum_by, Some, refl, sym, ap, ◌∙◌}
 use Rattle.std.specs.Bool.{then_some}
 use Rattle.qfs_base.specs.EachLaws.{each_weaker}
 use Rattle.qfs_base.specs.Mask.{all_slots}
@@ -22,9 +22,9 @@ use Rattle.qfs_model_world.specs.Made.{made}
 use Rattle.qfs_model_world.specs.Text.{lines_of_world, printed, text}
 use Rattle.qfs_model_world.specs.World.{World, after}
 use Rattle.qfs_report.specs.AuditOfImage.{audit_of_image, audit_of_block, audit_of_file, blocks_of_file, is_live_slot, output_of_parts, standing_blocks, summary_of_image}
-use Rattle.qfs_laws_text.proofs.Files.{HasItsBlocks, closed-have-blocks}
-use Rattle.qfs_laws_text.proofs.Letters.{letter-tells, live-is}
-use Rattle.qfs_laws_text.proofs.Ranges.{flat_map-each}
+use Rattle.qfs_laws_text.proofs.Files.{HasItsBlocks, closed_have_blocks}
+use Rattle.qfs_laws_text.proofs.Letters.{letter_tells, live_is}
+use Rattle.qfs_laws_text.proofs.Ranges.{flat_map_each}
 use Rattle.qfs_laws_text.specs.Agree.{AuditsAgree, PlainTextsAgree, TextsAgree, lives_of, output_of_world}
 
 module _ (script : Script) (bytes : ℕ → List ℕ) (steps : List Event) (world : World)
@@ -34,72 +34,72 @@ module _ (script : Script) (bytes : ℕ → List ℕ) (steps : List Event) (worl
       ≡ is_right_slot world bytes block slot
   unfolding is_live_slot is_slot_of_life
   letter block slot =
-      live-is world (slot_at world.meta.slots block slot).current
-      ∙ sym (letter-tells script bytes steps world sound block slot)
+      live_is world (slot_at world.meta.slots block slot).current
+      ∙ sym (letter_tells script bytes steps world sound block slot)
 
-  have-blocks : Each (HasItsBlocks world.rules.layout world.meta) (closed_rows world.meta.tree)
-  have-blocks = closed-have-blocks world.rules world.meta sound.image fits
+  have_blocks : Each (HasItsBlocks world.rules.layout world.meta) (closed_rows world.meta.tree)
+  have_blocks = closed_have_blocks world.rules world.meta sound.image fits
 
-  file-lines : (row : TreeRow) → HasItsBlocks world.rules.layout world.meta row
+  file_lines : (row : TreeRow) → HasItsBlocks world.rules.layout world.meta row
       → audit_of_file (lives_of world) world.meta.slots row ≡ world_lines world bytes row
   unfolding audit_of_file audit_of_block world_lines world_line blocks_in
-  file-lines row has = (λ i. map (λ (block : BlockId). record {
+  file_lines row has = (λ i. map (λ (block : BlockId). record {
     path = row.path;
     index = block.index;
     right = map (λ slot. letter block slot i) all_slots;
   }) (has i))
 
-  blocks-stand : standing_blocks world.meta ≡ world_blocks world
+  blocks_stand : standing_blocks world.meta ≡ world_blocks world
   unfolding standing_blocks world_blocks blocks_in
-  blocks-stand =
-      flat_map-each (λ (row : TreeRow). blocks_of_file world.meta.slots row.file) (blocks_in world)
-      (closed_rows world.meta.tree) have-blocks
+  blocks_stand =
+      flat_map_each (λ (row : TreeRow). blocks_of_file world.meta.slots row.file) (blocks_in world)
+      (closed_rows world.meta.tree) have_blocks
 
-  pub audit-is : (taken : ℕ)
+  pub audit_is : (taken : ℕ)
       → audit_of_image world.meta (lives_of world) taken ≡ audit_of world bytes taken
   unfolding audit_of_image audit_of summary_of_image summary_of
-  audit-is taken =
-      let lines = flat_map-each (audit_of_file (lives_of world) world.meta.slots)
+  audit_is taken =
+      let lines = flat_map_each (audit_of_file (lives_of world) world.meta.slots)
       (world_lines world bytes) (closed_rows world.meta.tree)
       (each_weaker (HasItsBlocks world.rules.layout world.meta)
       (λ row. audit_of_file (lives_of world) world.meta.slots row ≡ world_lines world bytes row)
-      file-lines (closed_rows world.meta.tree) have-blocks) in
+      file_lines (closed_rows world.meta.tree) have_blocks) in
       (λ i. record {
         lines = lines i;
         summary = record (summary_of world taken) {
-          blocks = length (blocks-stand i);
-          copies = sum_by (current_copies world.meta) (blocks-stand i);
+          blocks = length (blocks_stand i);
+          copies = sum_by (current_copies world.meta) (blocks_stand i);
         };
       })
 
-pub audits-agree : AuditsAgree
-audits-agree script bytes steps world sound fits taken =
-    audit-is script bytes steps world sound fits taken
+pub audits_agree : AuditsAgree
+audits_agree script bytes steps world sound fits taken =
+    audit_is script bytes steps world sound fits taken
 
 -- what is printed of a world behind these steps
-pub printed-is : (script : Script) (order : List Step) (steps : List Event) (world : World)
+pub printed_is : (script : Script) (order : List Step) (steps : List Event) (world : World)
     → IsSoundAt script (made script (events script order)) steps world
     → SlotsFit world.rules world.meta
     → output_of_world world script.audit order ≡ printed script order world
-unfolding output_of_parts printed audit_if then_some
-printed-is script order steps world sound fits =
+unfolding output_of_parts printed audit_if
+printed_is script order steps world sound fits =
     ap (λ audit. output (lines_of_world world) world.meta.history audit order) (asked script.audit)
   where
     asked : (audit : Bool)
         → then_some audit (audit_of_image world.meta (lives_of world) (length order))
         ≡ audit_if script order world audit
     asked true = ap (λ (audit : Audit). Some audit)
-        (audit-is script (made script (events script order)) steps world sound fits (length order))
+        (audit_is script (made script (events script order)) steps world sound fits (length order))
     asked false = refl
 
-pub texts-agree : TextsAgree
+pub texts_agree : TextsAgree
 unfolding text
-texts-agree script order sound fits =
-    printed-is script order (events script order) (after script order) sound fits
+texts_agree script order sound fits =
+    printed_is script order (events script order) (after script order) sound fits
 
-pub plain-texts-agree : PlainTextsAgree
-unfolding text output_of_parts printed audit_if then_some
-plain-texts-agree script order none =
+pub plain_texts_agree : PlainTextsAgree
+unfolding text output_of_parts printed audit_if
+plain_texts_agree script order none =
     ap (λ audit. output (lines_of_world (after script order)) (after script order).meta.history
     audit order) (asked script.audit none)
   where

@@ -1,11 +1,12 @@
 -- Rising numbers that are all of a range are the range, and what holds of keys that are put at
 -- their places one after another.
-use Rattle.std.proofs.Common.{◌≡◌, ℕ, ⊤, zero, suc, ◌+◌, ◌<◌, ◌≤◌, nat_eq, Bool, true, false, ◌||◌, List, [], ◌∷◌, map, flat_map, refl, sym, ap, subst, ◌∙◌, arith}
+use Rattle.std.proofs.Common.{◌≡◌, ℕ, zero, suc, ◌+◌, ◌<◌, ◌≤◌, nat_eq, Bool, true, false, ◌||◌, List, [], ◌∷◌, flat_map, refl, sym, ap, subst, ◌∙◌, arith}
 use Rattle.std.proofs.lemmas.Bool.{false≢true}
 use Rattle.std.proofs.lemmas.Bool.Decides.{nat_tests}
 use Rattle.std.specs.BTreeSet.{insert_key}
 use Rattle.std.specs.Cmp.{IsTotalOrder}
 use Rattle.std.specs.List.{list_any, range_with_len}
+use Rattle.std.specs.Bool.{⊤}
 use Rattle.std.specs.Ordering.{match_ordering, ordering_reverse}
 use Rattle.std.specs.declared.cmp.Ordering.{Ordering}
 use Rattle.std.specs.declared.cmp.Ordering.TheVariants.{Less, Equal, Greater}
@@ -21,9 +22,9 @@ Rises [] = ⊤
 Rises (n ∷ ns) = Each (λ later. n < later) ns × Rises ns
 
 -- the first of rising numbers is the first of the range that they are all of
-first-is : (first n : ℕ) (ns : List ℕ) → first ≤ n → Each (λ later. n < later) ns
+first_is : (first n : ℕ) (ns : List ℕ) → first ≤ n → Each (λ later. n < later) ns
     → (nat_eq first n || list_any (nat_eq first) ns) ≡ true → n ≡ first
-first-is first n ns low above has =
+first_is first n ns low above has =
     elim (nat_eq first n) as (λ b. nat_eq first n ≡ b → (b || list_any (nat_eq first) ns) ≡ true
     → n ≡ first) [
       | true ↦ λ is _. grind (arith, nat_tests)
@@ -31,74 +32,74 @@ first-is first n ns low above has =
           (λ later over is. absurd (grind (arith, nat_tests))) ns above any
     ] refl has
 
-pub range-is : (count first : ℕ) (ns : List ℕ) → Rises ns → Each (λ n. first ≤ n) ns
+pub range_is : (count first : ℕ) (ns : List ℕ) → Rises ns → Each (λ n. first ≤ n) ns
     → Each (λ n. n < first + count) ns
     → ((i : ℕ) → first ≤ i → i < first + count → list_any (nat_eq i) ns ≡ true)
     → ns ≡ range_with_len first count
-range-is zero first [] rises low high has = refl
-range-is zero first (n ∷ ns) rises low high has =
+range_is zero first [] rises low high has = refl
+range_is zero first (n ∷ ns) rises low high has =
     let l = low.0 in let h = high.0 in absurd (omega arith)
-range-is (suc count) first [] rises low high has =
+range_is (suc count) first [] rises low high has =
     absurd (false≢true (has first (omega arith) (omega arith)))
-range-is (suc count) first (n ∷ ns) rises low high has =
-    let here : n ≡ first = first-is first n ns low.0 rises.0
+range_is (suc count) first (n ∷ ns) rises low high has =
+    let here : n ≡ first = first_is first n ns low.0 rises.0
     (has first (omega arith) (omega arith)) in
-    let rest : ns ≡ range_with_len (first + 1) count = range-is count (first + 1) ns rises.1
+    let rest : ns ≡ range_with_len (first + 1) count = range_is count (first + 1) ns rises.1
     (each_weaker (λ later. n < later) (λ later. first + 1 ≤ later) (λ later over. omega arith) ns
     rises.0)
     (each_weaker (λ m. m < first + suc count) (λ m. m < first + 1 + count) (λ m h. omega arith) ns
     high.1)
-    (λ i l h. later-has i l (has i (omega arith) (omega arith)) here) in
+    (λ i l h. later_has i l (has i (omega arith) (omega arith)) here) in
     (λ k. here k ∷ rest k)
   where
-    later-has : (i : ℕ) → first + 1 ≤ i → (nat_eq i n || list_any (nat_eq i) ns) ≡ true
+    later_has : (i : ℕ) → first + 1 ≤ i → (nat_eq i n || list_any (nat_eq i) ns) ≡ true
         → n ≡ first → list_any (nat_eq i) ns ≡ true
-    later-has i l any here =
+    later_has i l any here =
         let apart : nat_eq i n ≡ false = grind (arith, nat_tests) in
         subst (λ b. (b || list_any (nat_eq i) ns) ≡ true) apart any
 
 -- ---- keys that are put at their places (this belongs to qfs_laws_tables)
 
-either-twice : (a b : Bool) → (a || b) ≡ (a || (a || b))
-either-twice true b = refl
-either-twice false b = refl
+either_twice : (a b : Bool) → (a || b) ≡ (a || (a || b))
+either_twice true b = refl
+either_twice false b = refl
 
-pub either-first : (a b c : Bool) → (b || (a || c)) ≡ (a || (b || c))
-either-first true true c = refl
-either-first true false c = refl
-either-first false true c = refl
-either-first false false c = refl
+pub either_first : (a b c : Bool) → (b || (a || c)) ≡ (a || (b || c))
+either_first true true c = refl
+either_first true false c = refl
+either_first false true c = refl
+either_first false false c = refl
 
 module _ {K : Type 0} (cmp : K → K → Ordering) where
-  pub any-inserted : ((a b : K) → cmp a b ≡ Equal → a ≡ b) → (test : K → Bool) (ks : List K) (k : K)
+  pub any_inserted : ((a b : K) → cmp a b ≡ Equal → a ≡ b) → (test : K → Bool) (ks : List K) (k : K)
       → list_any test (insert_key cmp ks k) ≡ (test k || list_any test ks)
-  any-inserted same test [] k = refl
-  any-inserted same test (x ∷ xs) k =
+  any_inserted same test [] k = refl
+  any_inserted same test (x ∷ xs) k =
       elim (cmp k x) as (λ r. cmp k x ≡ r → list_any test
       (match_ordering r (k ∷ x ∷ xs) (x ∷ xs) (x ∷ insert_key cmp xs k))
       ≡ (test k || (test x || list_any test xs))) [
         | Less ↦ λ _. refl
-        | Equal ↦ λ is. either-twice (test x) (list_any test xs)
+        | Equal ↦ λ is. either_twice (test x) (list_any test xs)
             ∙ ap (λ key. test key || (test x || list_any test xs)) (sym (same k x is))
-        | Greater ↦ λ _. ap (λ b. test x || b) (any-inserted same test xs k)
-            ∙ either-first (test k) (test x) (list_any test xs)
+        | Greater ↦ λ _. ap (λ b. test x || b) (any_inserted same test xs k)
+            ∙ either_first (test k) (test x) (list_any test xs)
       ] refl
 
-  pub each-inserted : (P : K → Type 0) (ks : List K) (k : K) → P k → Each P ks
+  pub each_inserted : (P : K → Type 0) (ks : List K) (k : K) → P k → Each P ks
       → Each P (insert_key cmp ks k)
-  each-inserted P [] k p each = (p, tt)
-  each-inserted P (x ∷ xs) k p each =
+  each_inserted P [] k p each = (p, tt)
+  each_inserted P (x ∷ xs) k p each =
       elim (cmp k x) as (λ r. Each P
       (match_ordering r (k ∷ x ∷ xs) (x ∷ xs) (x ∷ insert_key cmp xs k))) [
         | Less ↦ (p, each)
         | Equal ↦ each
-        | Greater ↦ (each.0, each-inserted P xs k p each.1)
+        | Greater ↦ (each.0, each_inserted P xs k p each.1)
       ]
 
-  pub inserted-rises : IsTotalOrder cmp → (ks : List K) (k : K) → IsRising cmp ks
+  pub inserted_rises : IsTotalOrder cmp → (ks : List K) (k : K) → IsRising cmp ks
       → IsRising cmp (insert_key cmp ks k)
-  inserted-rises total [] k rising = (tt, tt)
-  inserted-rises total (x ∷ xs) k rising =
+  inserted_rises total [] k rising = (tt, tt)
+  inserted_rises total (x ∷ xs) k rising =
       elim (cmp k x) as (λ r. cmp k x ≡ r → IsRising cmp
       (match_ordering r (k ∷ x ∷ xs) (x ∷ xs) (x ∷ insert_key cmp xs k))) [
         | Less ↦ λ below. (
@@ -110,9 +111,9 @@ module _ {K : Type 0} (cmp : K → K → Ordering) where
         )
         | Equal ↦ λ _. rising
         | Greater ↦ λ above. (
-          each-inserted (λ later. cmp x later ≡ Less) xs k
+          each_inserted (λ later. cmp x later ≡ Less) xs k
               (total.antisymm x k ∙ ap ordering_reverse above) rising.0,
-          inserted-rises total xs k rising.1,
+          inserted_rises total xs k rising.1,
         )
       ] refl
 
@@ -127,7 +128,7 @@ each_of_flat P f (x ∷ xs) each = (
 )
 
 -- two functions that agree on each item give the same
-pub flat_map-each : {X Y : Type 0} (f g : X → List Y) (xs : List X) → Each (λ x. f x ≡ g x) xs
+pub flat_map_each : {X Y : Type 0} (f g : X → List Y) (xs : List X) → Each (λ x. f x ≡ g x) xs
     → flat_map f xs ≡ flat_map g xs
-flat_map-each f g [] each = refl
-flat_map-each f g (x ∷ xs) each = rw (each.0, flat_map-each f g xs each.1) refl
+flat_map_each f g [] each = refl
+flat_map_each f g (x ∷ xs) each = rw (each.0, flat_map_each f g xs each.1) refl
