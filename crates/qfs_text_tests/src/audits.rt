@@ -2,7 +2,7 @@
 
 use crate::parts::{add_block, add_file, audited, copy, nothing_yet, path, row, slot};
 use qfs_base::chunk::BlockId;
-use qfs_base::image::{CondemnedRow, Grant, MetaImage};
+use qfs_base::image::{CondemnedRow, Grant, MetaImage, ServerView};
 use qfs_base::listing::Listing;
 use qfs_base::reply::Condemned;
 use std::alloc::Global;
@@ -107,6 +107,27 @@ fn condemned_copies_are_counted(rt: HostRuntime) -> Result<(), Fail> {
     let out = audited(alloc, &image, &FIRST_LIVES, 2)?;
     let wanted =
         b"audit /a 0 rrrrrrrrr\nsummary files 1 dirs 0 blocks 1 copies 9 condemned 2 steps 2\norder 1x2\n";
+    assert!(rt; out.as_slice() == wanted.as_slice());
+    Ok(())
+}
+
+// The letter is told by the life alone: a server that is down, or seen so, has the copy all the same.
+#[test]
+fn a_server_that_is_down_has_its_copies(rt: HostRuntime) -> Result<(), Fail> {
+    let alloc = rt.alloc();
+    let mut image = nothing_yet(alloc);
+    for number in 1..10u16 {
+        image.servers.push(ServerView {
+            up: number > 2,
+            leaving: number == 2,
+            life: 1,
+            until: 0,
+        })?;
+    }
+    add_file(&mut image, path(alloc, b"/d/a")?, 7)?;
+    let out = audited(alloc, &image, &FIRST_LIVES, 1)?;
+    let wanted =
+        b"audit /d/a 0 rrrrrrrrr\nsummary files 1 dirs 0 blocks 1 copies 9 condemned 0 steps 1\norder 1x1\n";
     assert!(rt; out.as_slice() == wanted.as_slice());
     Ok(())
 }

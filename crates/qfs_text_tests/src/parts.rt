@@ -31,13 +31,7 @@ pub fn whole(alloc: Global, bytes: &[u8]) -> Result<Excerpt, Fail> {
 }
 
 /// Replies as those of an actor's commands, from the first one on.
-pub fn replies_of(
-    alloc: Global,
-    actor: u16,
-    replies: Vec<Told>,
-    list: &mut ReplyList,
-) -> Result<(), Fail> {
-    let _ = alloc;
+pub fn replies_of(actor: u16, replies: Vec<Told>, list: &mut ReplyList) -> Result<(), Fail> {
     let mut command = 0u16;
     for reply in replies {
         command = command.saturating_add(1);
@@ -53,7 +47,7 @@ pub fn replies_of(
 /// The reply lines of the commands of actor 1.
 pub fn lines(alloc: Global, replies: Vec<Told>) -> Result<Vec<u8>, Fail> {
     let mut list = Listing::new(alloc);
-    replies_of(alloc, 1, replies, &mut list)?;
+    replies_of(1, replies, &mut list)?;
     let mut out = Vec::new(alloc);
     push_replies(alloc, &mut out, list.as_slice())?;
     Ok(out)
