@@ -9,6 +9,7 @@ use Rattle.qfs_base.specs.declared.chunk.BlockId.{BlockId}
 use Rattle.qfs_base.specs.declared.history.Step.{Step}
 use Rattle.qfs_base.specs.declared.image.TreeRow.{TreeRow}
 use Rattle.qfs_base.specs.declared.script.Script.{Script}
+use Rattle.qfs_model_meta.specs.Grammar.{IsImage}
 use Rattle.qfs_model_meta.specs.Slots.{slot_at}
 use Rattle.qfs_model_promises.specs.Along.{SlotsFit}
 use Rattle.qfs_model_promises.specs.Letters.{is_slot_of_life}
@@ -27,6 +28,27 @@ use Rattle.qfs_laws_text.proofs.Letters.{letter_tells, live_is}
 use Rattle.qfs_laws_text.proofs.Ranges.{flat_map_each}
 use Rattle.qfs_laws_text.specs.Agree.{AuditsAgree, PlainTextsAgree, TextsAgree, lives_of, output_of_world}
 
+-- ---- what the metaserver's state alone tells
+
+module _ (world : World) (image : IsImage world.meta) (fits : SlotsFit world.rules world.meta) where
+  have_blocks : Each (HasItsBlocks world.rules.layout world.meta) (closed_rows world.meta.tree)
+  have_blocks = closed_have_blocks world.rules world.meta image fits
+
+  blocks_stand : standing_blocks world.meta ≡ world_blocks world
+  unfolding standing_blocks world_blocks blocks_in
+  blocks_stand =
+      flat_map_each (λ (row : TreeRow). blocks_of_file world.meta.slots row.file) (blocks_in world)
+      (closed_rows world.meta.tree) have_blocks
+
+  pub summary_is : (taken : ℕ) → summary_of_image world.meta taken ≡ summary_of world taken
+  unfolding summary_of_image summary_of
+  summary_is taken = (λ i. record (summary_of world taken) {
+    blocks = length (blocks_stand i);
+    copies = sum_by (current_copies world.meta) (blocks_stand i);
+  })
+
+-- ---- the letters
+
 module _ (script : Script) (bytes : ℕ → List ℕ) (steps : List Event) (world : World)
     (sound : IsSoundAt script bytes steps world) (fits : SlotsFit world.rules world.meta) where
   letter : (block : BlockId) (slot : ℕ)
@@ -37,9 +59,6 @@ module _ (script : Script) (bytes : ℕ → List ℕ) (steps : List Event) (worl
       live_is world (slot_at world.meta.slots block slot).current
       ∙ sym (letter_tells script bytes steps world sound block slot)
 
-  have_blocks : Each (HasItsBlocks world.rules.layout world.meta) (closed_rows world.meta.tree)
-  have_blocks = closed_have_blocks world.rules world.meta sound.image fits
-
   file_lines : (row : TreeRow) → HasItsBlocks world.rules.layout world.meta row
       → audit_of_file (lives_of world) world.meta.slots row ≡ world_lines world bytes row
   unfolding audit_of_file audit_of_block world_lines world_line blocks_in
@@ -49,28 +68,16 @@ module _ (script : Script) (bytes : ℕ → List ℕ) (steps : List Event) (worl
     right = map (λ slot. letter block slot i) all_slots;
   }) (has i))
 
-  blocks_stand : standing_blocks world.meta ≡ world_blocks world
-  unfolding standing_blocks world_blocks blocks_in
-  blocks_stand =
-      flat_map_each (λ (row : TreeRow). blocks_of_file world.meta.slots row.file) (blocks_in world)
-      (closed_rows world.meta.tree) have_blocks
-
   pub audit_is : (taken : ℕ)
       → audit_of_image world.meta (lives_of world) taken ≡ audit_of world bytes taken
-  unfolding audit_of_image audit_of summary_of_image summary_of
+  unfolding audit_of_image audit_of
   audit_is taken =
       let lines = flat_map_each (audit_of_file (lives_of world) world.meta.slots)
       (world_lines world bytes) (closed_rows world.meta.tree)
       (each_weaker (HasItsBlocks world.rules.layout world.meta)
       (λ row. audit_of_file (lives_of world) world.meta.slots row ≡ world_lines world bytes row)
-      file_lines (closed_rows world.meta.tree) have_blocks) in
-      (λ i. record {
-        lines = lines i;
-        summary = record (summary_of world taken) {
-          blocks = length (blocks_stand i);
-          copies = sum_by (current_copies world.meta) (blocks_stand i);
-        };
-      })
+      file_lines (closed_rows world.meta.tree) (have_blocks world sound.image fits)) in
+      (λ i. record { lines = lines i; summary = summary_is world sound.image fits taken i })
 
 pub audits_agree : AuditsAgree
 audits_agree script bytes steps world sound fits taken =

@@ -4,15 +4,16 @@
 use Rattle.std.specs.Prelude.{◌≡◌, ℕ, Bool, false, List, map}
 use Rattle.qfs_base.specs.declared.history.Step.{Step}
 use Rattle.qfs_base.specs.declared.script.Script.{Script}
+use Rattle.qfs_model_meta.specs.Grammar.{IsImage}
 use Rattle.qfs_model_promises.specs.Along.{SlotsFit}
 use Rattle.qfs_model_promises.specs.Letters.{LettersTellLives}
 use Rattle.qfs_model_promises.specs.SoundWorld.{IsSoundAt, IsSoundWorld}
 use Rattle.qfs_model_server.specs.Server.{Server}
-use Rattle.qfs_model_world.specs.Audit.{audit_of}
+use Rattle.qfs_model_world.specs.Audit.{audit_of, summary_of}
 use Rattle.qfs_model_world.specs.Events.{Event}
 use Rattle.qfs_model_world.specs.Text.{lines_of_world, text}
 use Rattle.qfs_model_world.specs.World.{World, after}
-use Rattle.qfs_report.specs.AuditOfImage.{audit_of_image, output_of_parts}
+use Rattle.qfs_report.specs.AuditOfImage.{audit_of_image, output_of_parts, summary_of_image}
 
 -- the lives of a world's servers, from server 1 on
 unfoldable pub lives_of : World → List ℕ
@@ -28,6 +29,12 @@ output_of_world world audit order =
 abbrev pub SoundLettersTellLives : Type 0
 SoundLettersTellLives =
     (script : Script) (order : List Step) → IsSoundWorld script order → LettersTellLives script order
+
+-- the summary of a world's state is that of the world, whatever stands on its servers
+abbrev pub SummariesAgree : Type 0
+SummariesAgree =
+    (world : World) → IsImage world.meta → SlotsFit world.rules world.meta
+    → (taken : ℕ) → summary_of_image world.meta taken ≡ summary_of world taken
 
 -- the audit of the state of a sound world is that of the world
 abbrev pub AuditsAgree : Type 0

@@ -4,13 +4,19 @@
 #![tactic(auto)]
 
 ghost use Rattle.qfs_laws_text.specs.Agree.{AuditsAgree, PlainTextsAgree};
-ghost use Rattle.qfs_laws_text.specs.Agree.{SoundLettersTellLives, TextsAgree};
+ghost use Rattle.qfs_laws_text.specs.Agree.{SoundLettersTellLives, SummariesAgree, TextsAgree};
 
 /// In the sound world behind an order, the current copy of a chunk of a closed file is on its
 /// server and right exactly where its server is in the life in which the copy was made, up or not.
 /// So no device has to be read for an audit.
 pub fn letters_tell_lives()
     ensures { SoundLettersTellLives }
+{}
+
+/// The summary that is made of the metaserver's state is that of the world, as long as slots are
+/// those of the blocks of their files and closed files have all of theirs.
+pub fn summaries_agree()
+    ensures { SummariesAgree }
 {}
 
 /// In a sound world, where slots are those of the blocks of their files and closed files have all

@@ -14,4 +14,6 @@ mod repairs;
 #[cfg(test)]
 mod replies;
 #[cfg(test)]
+mod says;
+#[cfg(test)]
 mod whole;

@@ -1,20 +1,28 @@
-//! What outputs are made of, in few words.
+//! What outputs are made of, in few words. A state is filled through a borrow, so that a step that
+//! fails has nothing to let go.
 
 use qfs_base::chunk::{BlockId, Copy};
 use qfs_base::command::{Excerpt, Reply, ReplyLine, ReplyList, Shown};
 use qfs_base::history::{Outcome, Step};
 use qfs_base::image::{MetaImage, SlotRecord, SlotRow, TreeRow};
 use qfs_base::listing::Listing;
-use qfs_base::lists::LifeList;
 use qfs_base::order::Order;
 use qfs_base::path::{Path, path_from};
 use qfs_base::server_set::ServerSet;
-use qfs_report::{push_replies, text};
 use std::alloc::Global;
 use std::test::Fail;
 
-/// What the report of a get keeps.
+/// What a command reports.
 pub type Told = Reply<Excerpt>;
+
+/// Fails unless the two texts are the same.
+pub fn same(out: &[u8], wanted: &[u8]) -> Result<(), Fail> {
+    if out == wanted {
+        Ok(())
+    } else {
+        Err("another text".into())
+    }
+}
 
 /// The path of a text.
 pub fn path(alloc: Global, text: &[u8]) -> Result<Path, Fail> {
@@ -30,27 +38,19 @@ pub fn whole(alloc: Global, bytes: &[u8]) -> Result<Excerpt, Fail> {
     })
 }
 
-/// Replies as those of an actor's commands, from the first one on.
-pub fn replies_of(actor: u16, replies: Vec<Told>, list: &mut ReplyList) -> Result<(), Fail> {
-    let mut command = 0u16;
-    for reply in replies {
-        command = command.saturating_add(1);
-        list.push(ReplyLine {
-            actor,
-            command,
-            reply,
-        })?;
-    }
+/// Puts a reply of an actor's command behind the others.
+pub fn add_reply(
+    replies: &mut ReplyList,
+    actor: u16,
+    command: u16,
+    reply: Told,
+) -> Result<(), Fail> {
+    replies.push(ReplyLine {
+        actor,
+        command,
+        reply,
+    })?;
     Ok(())
-}
-
-/// The reply lines of the commands of actor 1.
-pub fn lines(alloc: Global, replies: Vec<Told>) -> Result<Vec<u8>, Fail> {
-    let mut list = Listing::new(alloc);
-    replies_of(1, replies, &mut list)?;
-    let mut out = Vec::new(alloc);
-    push_replies(alloc, &mut out, list.as_slice())?;
-    Ok(out)
 }
 
 /// A state of which nothing is known.
@@ -71,16 +71,24 @@ pub fn nothing_yet(alloc: Global) -> MetaImage {
     }
 }
 
-/// A row of the tree: file 0 for a directory.
-pub fn row(path: Path, file: u32, closed: bool, len: u32) -> TreeRow {
-    TreeRow {
+/// Puts a row behind those of the tree: file 0 is a directory.
+pub fn add_row(
+    alloc: Global,
+    image: &mut MetaImage,
+    text: &[u8],
+    file: u32,
+    closed: bool,
+) -> Result<(), Fail> {
+    let path = path(alloc, text)?;
+    image.tree.push(TreeRow {
         path,
         file,
         closed,
         actor: 1,
         command: 1,
-        len,
-    }
+        len: 1,
+    })?;
+    Ok(())
 }
 
 /// A copy of the first version.
@@ -106,47 +114,25 @@ pub fn slot(file: u32, index: u32, slot: u8, current: Option<Copy>) -> SlotRow {
     }
 }
 
-/// A closed file of one block: slot j has its copy on server j + 1, in life 1.
-pub fn add_file(image: &mut MetaImage, path: Path, file: u32) -> Result<(), Fail> {
-    image.tree.push(row(path, file, true, 1))?;
-    add_block(image, file, 0)
-}
-
-/// The nine slots of a block, each on the server after its number, in life 1.
-pub fn add_block(image: &mut MetaImage, file: u32, index: u32) -> Result<(), Fail> {
-    for at in 0..9u8 {
-        let current = copy(u16::from(at) + 1, 1);
+/// Puts the first slots of a block behind the others, each on the server after its number.
+pub fn add_slots(
+    image: &mut MetaImage,
+    file: u32,
+    index: u32,
+    slots: u8,
+    life: u32,
+) -> Result<(), Fail> {
+    for at in 0..slots {
+        let current = copy(u16::from(at).saturating_add(1), life);
         image.slots.push(slot(file, index, at, Some(current)))?;
     }
     Ok(())
 }
 
-/// Runs of steps, as an order.
-pub fn order_of(alloc: Global, runs: &[(u16, Outcome, u32)]) -> Result<Order, Fail> {
-    let mut order = Order::new(alloc);
-    for (actor, outcome, count) in runs {
-        let step = Step {
-            actor: *actor,
-            outcome: *outcome,
-        };
-        for _ in 0..*count {
-            order.push(step)?;
-        }
+/// Puts so many steps behind an order.
+pub fn add_steps(order: &mut Order, actor: u16, outcome: Outcome, count: u32) -> Result<(), Fail> {
+    for _ in 0..count {
+        order.push(Step { actor, outcome })?;
     }
-    Ok(order)
-}
-
-/// What is printed with an audit and without replies, after this many steps of actor 1.
-pub fn audited(
-    alloc: Global,
-    image: &MetaImage,
-    lives: &[u32],
-    steps: u32,
-) -> Result<Vec<u8>, Fail> {
-    let replies = Listing::new(alloc);
-    let lives: LifeList = Listing::from_slice(alloc, lives)?;
-    let order = order_of(alloc, &[(1, Outcome::Done, steps)])?;
-    let mut out = Vec::new(alloc);
-    text(alloc, &replies, image, &lives, true, &order, &mut out)?;
-    Ok(out)
+    Ok(())
 }

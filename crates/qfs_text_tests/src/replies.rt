@@ -1,58 +1,85 @@
-//! The replies of file commands and of the system's, a line each.
+//! The replies of file commands and of the system's.
 
-use crate::parts::{Told, lines, whole};
+use crate::parts::whole;
+use crate::says::says;
 use qfs_base::command::{Excerpt, Reply, Shown};
 use qfs_base::listing::Listing;
-use qfs_base::lists::{Cause, Name, NameKind, SlotCause};
+use qfs_base::lists::{Cause, Name, NameKind, Names, SlotCause};
 use qfs_base::reply::TreeRefusal;
 use std::alloc::Global;
 use std::test::Fail;
 
-fn name(alloc: Global, part: &[u8], kind: NameKind) -> Result<Name, Fail> {
+fn add_name(alloc: Global, names: &mut Names, part: &[u8], kind: NameKind) -> Result<(), Fail> {
     let part = Listing::from_slice(alloc, part)?;
-    Ok(Name { part, kind })
+    names.push(Name { part, kind })?;
+    Ok(())
+}
+
+#[test]
+fn names_are_listed_with_their_marks(rt: HostRuntime) -> Result<(), Fail> {
+    let alloc = rt.alloc();
+    let mut names = Listing::new(alloc);
+    add_name(alloc, &mut names, b"a", NameKind::Closed)?;
+    add_name(alloc, &mut names, b"d", NameKind::Directory)?;
+    add_name(alloc, &mut names, b"w", NameKind::Unclosed)?;
+    says(
+        alloc,
+        Reply::Listed { place: 5, names },
+        b"at 5 list 3 a d/ w/?",
+    )
 }
 
 #[test]
 fn replies_of_the_name_tree(rt: HostRuntime) -> Result<(), Fail> {
     let alloc = rt.alloc();
-    let mut names = Listing::new(alloc);
-    names.push(name(alloc, b"a", NameKind::Closed)?)?;
-    names.push(name(alloc, b"d", NameKind::Directory)?)?;
-    names.push(name(alloc, b"w", NameKind::Unclosed)?)?;
-    let replies = vec![in alloc;
-        Reply::Done { place: 0 },
-        Reply::Listed { place: 5, names },
+    let names = Listing::new(alloc);
+    says(alloc, Reply::Done { place: 0 }, b"at 0 done")?;
+    says(
+        alloc,
         Reply::Listed {
             place: 4294967295,
-            names: Listing::new(alloc)
+            names,
         },
-    ]?;
-    let out = lines(alloc, replies)?;
-    let wanted = b"1 1 at 0 done\n1 2 at 5 list 3 a d/ w/?\n1 3 at 4294967295 list 0\n";
-    assert!(rt; out.as_slice() == wanted.as_slice());
-    Ok(())
+        b"at 4294967295 list 0",
+    )
+}
+
+fn refuses(alloc: Global, refusal: TreeRefusal, wanted: &[u8]) -> Result<(), Fail> {
+    says(alloc, Reply::Refused { place: 7, refusal }, wanted)
 }
 
 #[test]
 fn refusals_of_the_name_tree(rt: HostRuntime) -> Result<(), Fail> {
-    let known = [
-        (TreeRefusal::NoParent, b"1 1 at 7 noparent\n".as_slice()),
-        (TreeRefusal::NotDir, b"1 1 at 7 notdir\n".as_slice()),
-        (TreeRefusal::Exists, b"1 1 at 7 exists\n".as_slice()),
-        (TreeRefusal::Missing, b"1 1 at 7 missing\n".as_slice()),
-        (TreeRefusal::NotEmpty, b"1 1 at 7 notempty\n".as_slice()),
-        (TreeRefusal::IsDir, b"1 1 at 7 isdir\n".as_slice()),
-        (TreeRefusal::Unclosed, b"1 1 at 7 unclosed\n".as_slice()),
-        (TreeRefusal::IntoSelf, b"1 1 at 7 intoself\n".as_slice()),
-        (TreeRefusal::TooDeep, b"1 1 at 7 toodeep\n".as_slice()),
-    ];
-    for (refusal, wanted) in known {
-        let reply: Told = Reply::Refused { place: 7, refusal };
-        let out = lines(rt.alloc(), vec![in rt.alloc(); reply]?)?;
-        assert!(rt; out.as_slice() == wanted);
-    }
-    Ok(())
+    let alloc = rt.alloc();
+    refuses(alloc, TreeRefusal::NoParent, b"at 7 noparent")?;
+    refuses(alloc, TreeRefusal::NotDir, b"at 7 notdir")?;
+    refuses(alloc, TreeRefusal::Exists, b"at 7 exists")?;
+    refuses(alloc, TreeRefusal::Missing, b"at 7 missing")?;
+    refuses(alloc, TreeRefusal::NotEmpty, b"at 7 notempty")?;
+    refuses(alloc, TreeRefusal::IsDir, b"at 7 isdir")?;
+    refuses(alloc, TreeRefusal::Unclosed, b"at 7 unclosed")?;
+    refuses(alloc, TreeRefusal::IntoSelf, b"at 7 intoself")?;
+    refuses(alloc, TreeRefusal::TooDeep, b"at 7 toodeep")
+}
+
+#[test]
+fn replies_of_puts(rt: HostRuntime) -> Result<(), Fail> {
+    let alloc = rt.alloc();
+    let stored = Reply::Stored {
+        place: 1,
+        len: 268435456,
+    };
+    says(alloc, stored, b"at 1 stored 268435456")?;
+    let none = Reply::PutNoServer {
+        place: 1,
+        index: 0,
+        slot: 8,
+    };
+    says(alloc, none, b"at 1 noserver 0 8")
+}
+
+fn reads(alloc: Global, read: Excerpt, wanted: &[u8]) -> Result<(), Fail> {
+    says(alloc, Reply::Read { place: 2, read }, wanted)
 }
 
 // 33 bytes 01 have this digest by another program.
@@ -62,40 +89,21 @@ const DIGEST: [u8; 32] = [
 ];
 
 #[test]
-fn replies_of_puts_and_gets(rt: HostRuntime) -> Result<(), Fail> {
+fn bytes_are_shown_up_to_32(rt: HostRuntime) -> Result<(), Fail> {
     let alloc = rt.alloc();
-    let digest = Excerpt {
-        len: 33,
-        shown: Shown::Digest(Listing::from_slice(alloc, &DIGEST)?),
-    };
-    let replies = vec![in alloc;
-        Reply::Stored {
-            place: 1,
-            len: 268435456
-        },
-        Reply::PutNoServer {
-            place: 1,
-            index: 0,
-            slot: 8
-        },
-        Reply::Read {
-            place: 2,
-            read: whole(alloc, b"")?
-        },
-        Reply::Read {
-            place: 2,
-            read: whole(alloc, &[0x01, 0xab])?
-        },
-        Reply::Read {
-            place: 2,
-            read: digest
-        },
-    ]?;
-    let out = lines(alloc, replies)?;
-    let wanted =
-        b"1 1 at 1 stored 268435456\n1 2 at 1 noserver 0 8\n1 3 at 2 read 0\n1 4 at 2 read 2 hex 01ab\n1 5 at 2 read 33 sha256 ce041765675ad4d93378e20bd3a7d0d97ddcf3385fb6341581b21d4bc9e3e69e\n";
-    assert!(rt; out.as_slice() == wanted.as_slice());
-    Ok(())
+    reads(alloc, whole(alloc, b"")?, b"at 2 read 0")?;
+    reads(alloc, whole(alloc, &[0x01, 0xab])?, b"at 2 read 2 hex 01ab")?;
+    reads(
+        alloc,
+        whole(alloc, &[9; 32])?,
+        b"at 2 read 32 hex 0909090909090909090909090909090909090909090909090909090909090909",
+    )?;
+    let shown = Shown::Digest(Listing::from_slice(alloc, &DIGEST)?);
+    reads(
+        alloc,
+        Excerpt { len: 33, shown },
+        b"at 2 read 33 sha256 ce041765675ad4d93378e20bd3a7d0d97ddcf3385fb6341581b21d4bc9e3e69e",
+    )
 }
 
 #[test]
@@ -120,45 +128,53 @@ fn a_get_tells_why_slots_were_not_read(rt: HostRuntime) -> Result<(), Fail> {
         },
     ];
     let causes = Listing::from_slice(alloc, &causes)?;
-    let replies = vec![in alloc;
+    says(
+        alloc,
         Reply::ReadTooFew {
             place: 2,
             index: 65535,
-            causes
+            causes,
         },
-    ]?;
-    let out = lines(alloc, replies)?;
-    let wanted = b"1 1 at 2 toofew 65535 0:unlisted 3:down 7:lost:1:2 8:fault\n";
-    assert!(rt; out.as_slice() == wanted.as_slice());
-    Ok(())
+        b"at 2 toofew 65535 0:unlisted 3:down 7:lost:1:2 8:fault",
+    )
 }
 
 #[test]
 fn replies_of_the_system(rt: HostRuntime) -> Result<(), Fail> {
     let alloc = rt.alloc();
-    let replies = vec![in alloc;
+    says(
+        alloc,
         Reply::Clock {
-            now: 18446744073709551615
+            now: 18446744073709551615,
         },
-        Reply::DropDone,
-        Reply::Saved { turn: 11 },
-        Reply::Restarted { turn: 14 },
-        Reply::Dropped { turn: 12 },
-        Reply::LogFault,
-        Reply::NoMemory,
+        b"clock 18446744073709551615",
+    )?;
+    says(alloc, Reply::DropDone, b"done")?;
+    says(alloc, Reply::Saved { turn: 11 }, b"saved 11")?;
+    says(alloc, Reply::Restarted { turn: 14 }, b"restarted 14")
+}
+
+#[test]
+fn endings_that_every_command_may_have(rt: HostRuntime) -> Result<(), Fail> {
+    let alloc = rt.alloc();
+    says(alloc, Reply::Dropped { turn: 12 }, b"dropped 12")?;
+    says(alloc, Reply::LogFault, b"logfault")?;
+    says(alloc, Reply::NoMemory, b"nomemory")?;
+    says(
+        alloc,
         Reply::BadLog {
             right: false,
-            offset: 16
+            offset: 16,
         },
+        b"badlog left 16",
+    )?;
+    says(
+        alloc,
         Reply::BadLog {
             right: true,
-            offset: 0
+            offset: 0,
         },
-        Reply::Unnamed,
-    ]?;
-    let out = lines(alloc, replies)?;
-    let wanted =
-        b"1 1 clock 18446744073709551615\n1 2 done\n1 3 saved 11\n1 4 restarted 14\n1 5 dropped 12\n1 6 logfault\n1 7 nomemory\n1 8 badlog left 16\n1 9 badlog right 0\n1 10 unnamed\n";
-    assert!(rt; out.as_slice() == wanted.as_slice());
-    Ok(())
+        b"badlog right 0",
+    )?;
+    says(alloc, Reply::Unnamed, b"unnamed")
 }
