@@ -6,3 +6,4 @@ pub mod LeaseLaws
 pub mod TreeLaws
 pub mod RowLaws
 pub mod ImageLaws
+pub mod FitLaws

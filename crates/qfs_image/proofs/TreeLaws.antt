@@ -232,7 +232,7 @@ lies_at_top (row ∷ rows) rising some lie =
 
 -- ---- the tests of the tree
 
-directory_is : (kind : Option NameKind) → is_directory kind ≡ true → kind ≡ Some Is.Directory
+pub directory_is : (kind : Option NameKind) → is_directory kind ≡ true → kind ≡ Some Is.Directory
 unfolding is_directory
 directory_is None is = absurd cc
 directory_is (Some Is.Directory) is = refl

@@ -12,6 +12,17 @@ const OPENING: &str = "0000000000000000 0000000000000000 00000001
     00000001 01 00 00000001 0000000000000000
     00000000 00000000 00000000 00000000 00000000 00000000";
 
+/// The image of docs/DISKS.md.
+const EXAMPLE: &str = "0000000000000003 0000000000000000
+    00000002 0000000000000002 0000000000000002
+    00000001 01 00 00000001 0000000000000000
+    00000002 0002 2f64 00000000 00 0000 0000 00000000
+    0004 2f642f66 00000001 01 0001 0001 0000000a
+    00000001 00000001 00000000 00 00000002 01 0001 00000001 00000001 00 00000000
+    00000001 0000000000000001 0002 00000001 0000000000000000
+    00000001 0000000000000001 00000001 00000000 01 0001 00000001 00000001 00
+    00000001 0000000000000001 00000000 00000000";
+
 /// Parts in place of those of this number, with which it is an image too.
 const GOOD_PARTS: [(usize, &str); 6] = [
     // a file that stands in no directory
@@ -57,6 +68,14 @@ fn the_image_of_the_opening(rt: HostRuntime) -> Result<(), Fail> {
     assert_eq!(rt; read.image.next_lease, 1);
     assert_eq!(rt; read.image.servers.len(), 1);
     assert!(rt; read.image.tree.is_empty());
+    Ok(())
+}
+
+#[test]
+fn the_image_of_the_documents(rt: HostRuntime) -> Result<(), Fail> {
+    let bytes = bytes_of(rt.alloc(), EXAMPLE)?;
+    assert_eq!(rt; bytes.len(), 205);
+    assert_eq!(rt; length_of(rt.alloc(), &bytes)?, Some(205));
     Ok(())
 }
 
