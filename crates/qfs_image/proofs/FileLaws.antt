@@ -1,10 +1,11 @@
 -- The files of a tree by number: what is found there is what the rules of an image ask of the tree.
-use Rattle.std.proofs.Common.{◌≡◌, ◌∙◌, refl, sym, ap, subst, arith, ℕ, zero, suc, ◌<◌, Bool, true, false, cond, eqb, ltb, not, ◌&&◌, ◌||◌, ◌==◌, List, [], ◌∷◌, Option, Some, None}
+use Rattle.std.proofs.Common.{◌≡◌, ◌∙◌, refl, sym, ap, subst, arith, ℕ, zero, suc, ◌+◌, ◌<◌, ◌≤◌, Bool, true, false, cond, eqb, ltb, not, ◌&&◌, ◌||◌, ◌==◌, List, [], ◌∷◌, length, drop, get_or, Option, Some, None}
 use Rattle.std.specs.Prelude.{nat_eq, nat_lt, is_some, map, filter}
 use Rattle.std.specs.Cmp.{nat_cmp_total}
 use Rattle.std.specs.List.{list_all, list_any}
 use Rattle.std.specs.Ordering.{eq_by_cmp, is_eq, nat_cmp}
-use Rattle.std.proofs.lemmas.Bool.{eqb-true, eqb-false, lt-ltb, le-ltb}
+use Rattle.std.proofs.lemmas.Bool.{eqb-true, eqb-false, lt-ltb, ne_eqb}
+use Rattle.std.proofs.lemmas.List.{at_drop_all, at_drop_more}
 use Rattle.qfs_base.specs.KeyMap.{has_key, value_at, with_entry}
 use Rattle.qfs_base.specs.KeyMapLaws.{value_at-with_entry}
 use Rattle.qfs_base.specs.declared.image.TreeRow.{TreeRow}
@@ -190,3 +191,29 @@ unfolding is_closed_in
 files_found tree found is file =
     let tells = found_tells [] found tree file is in
     (tells.0 ∙ sym (stands-any file tree), tells.1 ∙ sym (closed-any file tree))
+
+-- ---- in the loop over the rows
+
+file_step : (files : Files) (tree : List TreeRow) (i : ℕ) (row : TreeRow) → i < length tree → row ≡ get_or tree i row
+    → with_files files (drop i tree) ≡ with_files files (row ∷ drop (i + 1) tree)
+file_step files tree i row inside at =
+    at_drop_more (with_files files) tree i row inside ∙ ap (λ (r : TreeRow). with_files files (r ∷ drop (i + 1) tree)) (sym at)
+
+pub step_over : (files : Files) (tree : List TreeRow) (i : ℕ) (row : TreeRow) → i < length tree → row ≡ get_or tree i row → row.file ≡ 0
+    → with_files files (drop (i + 1) tree) ≡ with_files files (drop i tree)
+unfolding with_files
+step_over files tree i row inside at none = sym (file_step files tree i row inside at ∙ (rw none refl))
+
+pub step_known : (files : Files) (tree : List TreeRow) (i : ℕ) (row : TreeRow) → i < length tree → row ≡ get_or tree i row → (row.file ≡ 0 → ⊥)
+    → true ≡ has_key nat_cmp files row.file → None ≡ with_files files (drop i tree)
+unfolding with_files
+step_known files tree i row inside at some has = sym (file_step files tree i row inside at ∙ (rw (ne_eqb row.file 0 some, sym has) refl))
+
+pub step_put : (files : Files) (tree : List TreeRow) (i : ℕ) (row : TreeRow) → i < length tree → row ≡ get_or tree i row → (row.file ≡ 0 → ⊥)
+    → false ≡ has_key nat_cmp files row.file → with_files (with_entry nat_cmp files row.file row.closed) (drop (i + 1) tree) ≡ with_files files (drop i tree)
+unfolding with_files
+step_put files tree i row inside at some has = sym (file_step files tree i row inside at ∙ (rw (ne_eqb row.file 0 some, sym has) refl))
+
+pub files_end : (files : Files) (tree : List TreeRow) (i : ℕ) → length tree ≤ i → Some files ≡ with_files files (drop i tree)
+unfolding with_files
+files_end files tree i past = sym (at_drop_all (with_files files) tree i past)

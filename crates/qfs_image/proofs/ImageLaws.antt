@@ -1,5 +1,5 @@
 -- Images: each is read back, none is the front of another's spelling, and what is read was written so.
-use Rattle.std.proofs.Common.{◌≡◌, ◌∙◌, refl, sym, ap, subst, arith, ℕ, zero, suc, ◌+◌, ◌-◌, ◌≤◌, Bool, true, false, cond, true≢false, List, [], ◌∷◌, ◌++◌, length, take, drop, Option, Some, None, slice_get, length-append, inl, inr}
+use Rattle.std.proofs.Common.{◌≡◌, ◌∙◌, refl, sym, ap, subst, arith, ℕ, zero, suc, ◌+◌, ◌-◌, ◌<◌, ◌≤◌, Bool, true, false, cond, true≢false, List, [], ◌∷◌, ◌++◌, length, take, drop, Option, Some, None, slice_get, length-append, inl, inr}
 use Rattle.std.specs.Prelude.{⊤, ◌⊎◌}
 use Rattle.std.specs.Int.{w32}
 use Rattle.std.specs.List.{AllByRecursion}
@@ -222,8 +222,8 @@ same_read input m rest are read =
     ap state.read t.parts ∙ state-is_part.again m rest (state_fits m t.fits)
 
 none_or : {A : Type 0} (o : Option A) → ((a : A) → o ≡ Some a → ⊥) → None ≡ o
-none_or None no = refl
-none_or (Some a) no = absurd (no a refl)
+none_or None never = refl
+none_or (Some a) never = absurd (never a refl)
 
 -- where no state was read, no image is
 pub no_state : (input : List ℕ) → AreBytes input → None ≡ set_state.read input → None ≡ image.read input

@@ -1,10 +1,11 @@
 -- The leases on each file, by number: those that are found on a file are the leases on it.
-use Rattle.std.proofs.Common.{◌≡◌, ◌∙◌, refl, sym, ap, subst, ℕ, Bool, true, false, cond, eqb, ◌&&◌, ◌==◌, List, [], ◌∷◌, ◌++◌, length, take, append_assoc, append-nil, Option, Some, None}
+use Rattle.std.proofs.Common.{◌≡◌, ◌∙◌, refl, sym, ap, subst, ℕ, ◌+◌, ◌<◌, ◌≤◌, Bool, true, false, cond, eqb, ◌&&◌, ◌==◌, List, [], ◌∷◌, ◌++◌, length, take, drop, get_or, append_assoc, append-nil, Option, Some, None}
 use Rattle.std.specs.Prelude.{nat_eq, map, filter}
 use Rattle.std.specs.Cmp.{nat_cmp_total}
 use Rattle.std.specs.List.{starts_with}
 use Rattle.std.specs.Ordering.{eq_by_cmp, nat_cmp}
 use Rattle.std.proofs.lemmas.Bool.{eqb-true}
+use Rattle.std.proofs.lemmas.List.{at_drop_all, at_drop_more}
 use Rattle.qfs_base.specs.KeyMap.{value_at, with_entry, without_key}
 use Rattle.qfs_base.specs.KeyMapLaws.{value_at-without_key}
 use Rattle.qfs_base.specs.declared.image.Lease.{Lease}
@@ -14,7 +15,7 @@ use Rattle.qfs_model_meta.specs.Leases.{leases_on}
 use Rattle.qfs_image.specs.Files.{Blocking, begin_leases, blocking_on, or_none, with_lease, with_leases}
 use Rattle.qfs_image.proofs.FileLaws.{at-with}
 
-one_if : Bool → ℕ → List ℕ
+abbrev one_if : Bool → ℕ → List ℕ
 one_if true n = n ∷ []
 one_if false n = []
 
@@ -60,3 +61,15 @@ unfolding begin_leases
 blockers_begin leases file blockers =
     ap (λ (on_file : List ℕ). starts_with nat_eq on_file blockers) (all_more [] leases file)
     ∙ (unfold or_none in sym (first_are blockers (leases_on file leases)))
+
+-- ---- in the loop over the leases
+
+pub lease_step : (blocking : Blocking) (leases : List Lease) (i : ℕ) (lease : Lease) → i < length leases → lease ≡ get_or leases i lease
+    → with_leases (with_lease blocking lease) (drop (i + 1) leases) ≡ with_leases blocking (drop i leases)
+unfolding with_leases
+lease_step blocking leases i lease inside at =
+    sym (at_drop_more (with_leases blocking) leases i lease inside ∙ ap (λ (l : Lease). with_leases blocking (l ∷ drop (i + 1) leases)) (sym at))
+
+pub leases_end : (blocking : Blocking) (leases : List Lease) (i : ℕ) → length leases ≤ i → blocking ≡ with_leases blocking (drop i leases)
+unfolding with_leases
+leases_end blocking leases i past = sym (at_drop_all (with_leases blocking) leases i past)

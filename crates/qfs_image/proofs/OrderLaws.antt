@@ -115,13 +115,16 @@ module _ {X : Type 0} (order : X → X → Ordering) (total : IsTotalOrder order
 
 -- ---- in the loop that looks at neighbours
 
-pub step_from : {X : Type 0} (before : X → X → Bool) (rows : List X) (k : ℕ) (x y : X) → k + 1 < length rows → x ≡ get_or rows k x → y ≡ get_or rows (k + 1) y
-    → follow before (drop k rows) ≡ (before x y && follow before (drop (k + 1) rows))
+pub step_from : {X : Type 0} (before : X → X → Bool) (rows : List X) (k j : ℕ) (x y : X) → j ≡ k + 1 → j < length rows → x ≡ get_or rows k x → y ≡ get_or rows j y
+    → follow before (drop k rows) ≡ (before x y && follow before (drop j rows))
 unfolding follow follow_from
-step_from before [] k x y inside at next = absurd (omega arith)
-step_from before (row ∷ []) k x y inside at next = absurd (omega arith)
-step_from before (row ∷ more ∷ rows) zero x y inside at next = rw (at, next) refl
-step_from before (row ∷ more ∷ rows) (suc k) x y inside at next = step_from before (more ∷ rows) k x y (omega arith) at next
+step_from before [] k j x y is inside at next = absurd (omega arith)
+step_from before (row ∷ []) k j x y is inside at next = absurd (omega arith)
+step_from before (row ∷ more ∷ rows) zero zero x y is inside at next = absurd (omega arith)
+step_from before (row ∷ more ∷ rows) zero (suc zero) x y is inside at next = rw (at, next) refl
+step_from before (row ∷ more ∷ rows) zero (suc (suc j)) x y is inside at next = absurd (omega arith)
+step_from before (row ∷ more ∷ rows) (suc k) zero x y is inside at next = absurd (omega arith)
+step_from before (row ∷ more ∷ rows) (suc k) (suc j) x y is inside at next = step_from before (more ∷ rows) k j x y (omega arith) (omega arith) at next
 
 -- fewer than two rows are in order
 pub few_follow : {X : Type 0} (before : X → X → Bool) (rows : List X) (k : ℕ) → length rows ≤ k + 1 → follow before (drop k rows) ≡ true

@@ -15,6 +15,7 @@ use Rattle.std.proofs.lemmas.List.{take-append-drop, take-take, take_all}
 use Rattle.std.proofs.lemmas.Map.Lookups.{exact_bytes}
 use Rattle.qfs_base.specs.EachLaws.{each_append, each_weaker}
 use Rattle.qfs_base.specs.NameTree.{PathNames, is_within, kind_at, parents_of, path_cmp, path_eq, row_cmp}
+use Rattle.qfs_base.specs.Sizes.{MOST_FILE_BYTES}
 use Rattle.qfs_base.specs.Table.{Each, IsRising}
 use Rattle.qfs_base.specs.declared.image.TreeRow.{TreeRow}
 use Rattle.qfs_base.specs.declared.lists.NameKind.{NameKind}
@@ -165,11 +166,11 @@ is_itself row some is =
 near_here : (tree done : List TreeRow) (last row : TreeRow) (rows : List TreeRow) → tree ≡ done ++ last ∷ row ∷ rows
     → Each (λ q. row_cmp row_path q last ≡ Less) done → row_cmp row_path last row ≡ Less → Each (λ later. row_cmp row_path row later ≡ Less) rows
     → 0 < length last.path → 0 < length row.path → Lies tree row.path → is_near last row ≡ true
+unfolding is_near
 near_here tree done last row rows whole before above behind first some lies =
     ⊎_elim (λ (deep : 1 < length row.path). below deep) (λ (top : length row.path ≤ 1). at_top top) (cases_lt 1 (length row.path))
   where
     at_top : length row.path ≤ 1 → is_near last row ≡ true
-    unfolding is_near
     at_top top =
         let none : length row.path - 1 ≡ 0 = omega arith in
         rw none (or_left _ _ (lt-ltb 0 (length last.path) first))
@@ -254,21 +255,32 @@ row_lies next tree row is =
 row_bears : (next : ℕ) (tree : List TreeRow) (row : TreeRow) → is_row next (standing tree) row ≡ true → bears_tree_row next row ≡ true
 unfolding is_row bears_tree_row
 row_bears next tree row is =
-    let p = and_parts _ _ is in
-    let q = and_parts _ _ p.0 in
-    let f = and_parts _ _ p.1 in
-    and_from _ _ (and_from _ _ (and_from _ _ (and_parts _ _ q.0).0 q.1) f.0) f.1
+    let some = nat_lt 0 (length row.path) in
+    let parents = has_parents (standing tree) row in
+    let short = nat_le row.len MOST_FILE_BYTES in
+    let below = nat_lt row.file next in
+    let made = has_maker (row.file == 0) row in
+    let p = and_parts ((some && parents) && short) (below && made) is in
+    let q = and_parts (some && parents) short p.0 in
+    let f = and_parts below made p.1 in
+    and_from ((some && short) && below) made
+    (and_from (some && short) below (and_from some short (and_parts some parents q.0).0 q.1) f.0) f.1
 
 row_is : (next : ℕ) (tree : List TreeRow) (row : TreeRow) → IsRising (row_cmp row_path) tree → (bears_tree_row next row ≡ true) × Lies tree row.path
     → is_row next (standing tree) row ≡ true
 unfolding is_row has_parents bears_tree_row
 row_is next tree row rising both =
-    let p = and_parts _ _ both.0 in
-    let q = and_parts _ _ p.0 in
-    let f = and_parts _ _ q.0 in
-    let parents = all_of_each _ (λ parent. is_directory (kind_at (standing tree) parent))
+    let some = nat_lt 0 (length row.path) in
+    let parents = has_parents (standing tree) row in
+    let short = nat_le row.len MOST_FILE_BYTES in
+    let below = nat_lt row.file next in
+    let made = has_maker (row.file == 0) row in
+    let p = and_parts ((some && short) && below) made both.0 in
+    let q = and_parts (some && short) below p.0 in
+    let f = and_parts some short q.0 in
+    let there : has_parents (standing tree) row ≡ true = all_of_each _ (λ parent. is_directory (kind_at (standing tree) parent))
     (λ parent at. directory_passes (kind_at (standing tree) parent) at) (parents_of row.path) (lie-parents tree row.path rising both.1) in
-    and_from _ _ (and_from _ _ (and_from _ _ f.0 parents) f.1) (and_from _ _ q.1 p.1)
+    and_from ((some && parents) && short) (below && made) (and_from (some && parents) short (and_from some parents f.0 there) f.1) (and_from below made q.1 p.1)
 
 has_some : (next : ℕ) (tree : List TreeRow) (row : TreeRow) → is_row next (standing tree) row ≡ true → 0 < length row.path
 unfolding is_row

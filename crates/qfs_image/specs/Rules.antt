@@ -112,11 +112,13 @@ bears_condemned servers next leases rows =
 
 -- ---- the whole
 
+-- what is tested without memory
+unfoldable pub keeps_alone : MetaImage → Bool
+keeps_alone m =
+    has_servers m && starts_from_one m && bears_tree m.next_file m.tree && bears_leases m.next_lease m.leases
+    && follow dropped_before m.dropped
+
 unfoldable pub keeps_rules : MetaImage → Bool
 keeps_rules m =
-    has_servers m && starts_from_one m
-    && bears_tree m.next_file m.tree
-    && bears_slots (length m.servers) m.next_lease (with_files [] m.tree) m.slots
-    && bears_leases m.next_lease m.leases
+    keeps_alone m && bears_slots (length m.servers) m.next_lease (with_files [] m.tree) m.slots
     && bears_condemned (length m.servers) m.next_condemned m.leases m.condemned
-    && follow dropped_before m.dropped

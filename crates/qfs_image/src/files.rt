@@ -43,6 +43,7 @@ pub(crate) fn blocking_of(alloc: Global, leases: &[Lease]) -> Result<Blocking, A
 }
 
 /// Puts a lease behind those on its file.
+#[tactic(auto, unfolding(crate::specs::Files::with_lease, crate::specs::Files::or_none))]
 fn put_lease(alloc: Global, lease: &Lease, blocking: &mut Blocking) -> Result<(), AllocError>
     ensures { OnOk result (blocking.new ≡ with_lease blocking.old lease.now) }
 {

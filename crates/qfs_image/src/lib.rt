@@ -8,5 +8,5 @@ mod reading;
 mod rules;
 mod writing;
 
-pub use reading::{ImageRead, images_are_apart, read_image};
+pub use reading::{ImageRead, images_are_apart, images_keep_rules, read_image};
 pub use writing::write_image;

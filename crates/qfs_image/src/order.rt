@@ -83,6 +83,7 @@ impl InOrder for TreeRow {
 
 /// Whether a row's directory is that of the row before, or one above that, or stands there itself.
 /// In the order of paths nothing else stands between a directory and what lies in it.
+#[tactic(auto, unfolding(crate::specs::Rules::is_near))]
 fn is_near(last: &TreeRow, row: &TreeRow) -> bool
     ensures { result ≡ is_near last.now row.now }
 {

@@ -4,6 +4,7 @@ ghost use Rattle.std.specs.Prelude.{IfSome};
 ghost use Rattle.std.specs.Option.{option_map};
 ghost use Rattle.qfs_image.specs.Kept.{later_lists, set_state};
 ghost use Rattle.qfs_model_disks.specs.Image.{counters, image};
+ghost use Rattle.qfs_model_meta.specs.Grammar.{IsImage};
 ghost use Rattle.qfs_spelling.specs.Fronts.{Finds};
 
 use crate::rules::keeps_rules;
@@ -38,7 +39,8 @@ pub fn read_image(alloc: Global, input: &[u8]) -> Result<Option<ImageRead>, Allo
     let Some((image, rest)) = state_at(alloc, input)? else {
         return Ok(None);
     };
-    if !keeps_rules(alloc, &image)? {
+    let sound = keeps_rules(alloc, &image)?;
+    if !sound {
         return Ok(None);
     }
     let length = input.len() - rest.len();
@@ -126,6 +128,12 @@ fn later_lists_at(alloc: Global, bytes: &[u8]) -> Result<Option<(LaterLists, &[u
     };
     Ok(Some(((leases, (condemned, (dropped, history))), rest)))
 }
+
+/// What is read as an image keeps the rules of a metaserver's state: its lists are in order, its
+/// numbers are below the counters, and what it names is there.
+pub fn images_keep_rules()
+    ensures { (state : MetaImage) → image.Fits state → IsImage state }
+{}
 
 /// No image is the front of another's spelling, so what was written is read again, whatever follows.
 pub fn images_are_apart()

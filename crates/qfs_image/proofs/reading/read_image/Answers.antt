@@ -4,6 +4,7 @@ use Rattle.qfs_model_disks.specs.Image.{image}
 use Rattle.qfs_model_disks.specs.Tests.{is_image}
 use Rattle.qfs_record.specs.Part.{AreBytes}
 use Rattle.qfs_record.proofs.ChunkLaws.{are_bytes}
+use Rattle.qfs_spelling.specs.Fronts.{front_of}
 use Rattle.qfs_image.specs.Kept.{set_state}
 use Rattle.qfs_image.specs.Rules.{keeps_rules}
 use Rattle.qfs_image.specs.declared.reading.ImageRead.{ImageRead}
@@ -22,3 +23,55 @@ breaks input m rest are read off = unsound input m rest are read (off ∙ sym (r
 keeps : (input : List ℕ) (m : MetaImage) (rest : List ℕ) → AreBytes input → Some (m, rest) ≡ set_state.read input → true ≡ keeps_rules m
     → (length rest ≤ length input) × (Some (m, drop (length input - length rest) input) ≡ image.read input)
 keeps input m rest are read sound = image_read input m rest are read (sound ∙ sym (rules_are m (read_fits input m rest are read)))
+
+pub returns-in_default-clause-read : goal.returns-in_default-clause-read
+returns-in_default-clause-read c =
+    let input = c.args.input.now in
+    no_state input (are_bytes input (λ i. omega (arith, c.type_inv.input i))) (ap front_of (sym c.in_default.is) ∙ c.in_ok-image.ensures)
+
+pub returns-in_default-clause-only : goal.returns-in_default-clause-only
+returns-in_default-clause-only c state rest is parts =
+    let input = c.args.input.now in
+    let none = no_state input (are_bytes input (λ i. omega (arith, c.type_inv.input i))) (ap front_of (sym c.in_default.is) ∙ c.in_ok-image.ensures) in
+    found_none input none state rest is parts
+
+pub returns-then-not-sound-clause-read : goal.returns-then-not-sound-clause-read
+returns-then-not-sound-clause-read c =
+    let input = c.args.input.now in
+    breaks input c.in-Some.image c.in-Some.rest.now (are_bytes input (λ i. omega (arith, c.type_inv.input i)))
+    (ap front_of (sym c.in-Some.is) ∙ c.in_ok-image.ensures) (sym c.if-not-sound.true ∙ c.in_ok-sound.ensures)
+
+pub returns-then-not-sound-clause-only : goal.returns-then-not-sound-clause-only
+returns-then-not-sound-clause-only c state rest is parts =
+    let input = c.args.input.now in
+    let none = breaks input c.in-Some.image c.in-Some.rest.now (are_bytes input (λ i. omega (arith, c.type_inv.input i)))
+    (ap front_of (sym c.in-Some.is) ∙ c.in_ok-image.ensures) (sym c.if-not-sound.true ∙ c.in_ok-sound.ensures) in
+    found_none input none state rest is parts
+
+pub overflow_sub-length : goal.overflow_sub-length
+overflow_sub-length c =
+    let input = c.args.input.now in
+    (keeps input c.in-Some.image c.in-Some.rest.now (are_bytes input (λ i. omega (arith, c.type_inv.input i)))
+    (ap front_of (sym c.in-Some.is) ∙ c.in_ok-image.ensures) (sym c.if-not-sound.false ∙ c.in_ok-sound.ensures)).0
+
+pub returns-clause-read : goal.returns-clause-read
+returns-clause-read c =
+    let input = c.args.input.now in
+    (keeps input c.in-Some.image c.in-Some.rest.now (are_bytes input (λ i. omega (arith, c.type_inv.input i)))
+    (ap front_of (sym c.in-Some.is) ∙ c.in_ok-image.ensures) (sym c.if-not-sound.false ∙ c.in_ok-sound.ensures)).1
+
+pub returns-clause-found : goal.returns-clause-found
+returns-clause-found c =
+    let input = c.args.input.now in
+    let are = are_bytes input (λ i. omega (arith, c.type_inv.input i)) in
+    let read = keeps input c.in-Some.image c.in-Some.rest.now are (ap front_of (sym c.in-Some.is) ∙ c.in_ok-image.ensures) (sym c.if-not-sound.false ∙ c.in_ok-sound.ensures) in
+    found_whole input c.in-Some.image (length input - length c.in-Some.rest.now) are (omega arith) read.1
+
+pub returns-clause-only : goal.returns-clause-only
+returns-clause-only c state rest is parts =
+    let input = c.args.input.now in
+    let are = are_bytes input (λ i. omega (arith, c.type_inv.input i)) in
+    let size = length input - length c.in-Some.rest.now in
+    let read = keeps input c.in-Some.image c.in-Some.rest.now are (ap front_of (sym c.in-Some.is) ∙ c.in_ok-image.ensures) (sym c.if-not-sound.false ∙ c.in_ok-sound.ensures) in
+    let same = found_only input c.in-Some.image size are (omega arith) read.1 state rest is parts in
+    ap (λ (it : MetaImage). some_read it size) same.0 ∙ ap (some_read state) same.1
