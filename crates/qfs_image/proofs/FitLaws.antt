@@ -61,7 +61,7 @@ plain row maker none =
     let p = and_parts _ _ is in
     let q = and_parts _ _ p.0 in
     let r = and_parts _ _ q.0 in
-    (not-true _ r.0, (eqb-true _ _ r.1, (eqb-true _ _ q.1, eqb-true _ _ p.1)))
+    (not-true _ r.0, eqb-true _ _ r.1, eqb-true _ _ q.1, eqb-true _ _ p.1)
 
 maker : (row : TreeRow) → row.actor < 65536 → row.command < 65536 → has_maker (row.file == 0) row ≡ true → HasMaker row
 unfolding has_maker
@@ -70,8 +70,8 @@ maker row actor command made some =
     ((leb-true 1 row.actor is, omega (arith, actor)), omega (arith, command))
 
 none_equal : (n : ℕ) (ns : List ℕ) → list_any (nat_eq n) ns ≡ false → AllByRecursion (λ m. nat_eq n m ≡ false) ns
-none_equal n [] no = tt
-none_equal n (m ∷ ms) no = let p = or_parts _ _ no in (p.0, none_equal n ms p.1)
+none_equal n [] none = tt
+none_equal n (m ∷ ms) none = let p = or_parts _ _ none in (p.0, none_equal n ms p.1)
 
 distinct : (ns : List ℕ) → are_distinct ns ≡ true → IsDistinct nat_eq ns
 unfolding are_distinct IsDistinct
@@ -239,18 +239,18 @@ none_below bound (n ∷ ns) each = rw (le-ltb n bound each.0) (none_below bound 
 first_bound : (least : ℕ) (blockers ns : List ℕ) → Each (λ n. least ≤ n) ns → IsRising nat_cmp ns → are_first blockers ns ≡ true
     → (bound : ℕ) × (least ≤ bound) × (blockers ≡ filter (λ n. nat_lt n bound) ns)
 unfolding are_first
-first_bound least [] [] each rising first = (least, (omega arith, refl))
+first_bound least [] [] each rising first = (least, omega arith, refl)
 first_bound least [] (n ∷ ns) each rising first =
     let later = each_weaker _ (λ m. n ≤ m) (λ m less. omega (arith, nat_less n m less)) ns rising.0 in
-    (n, (each.0, sym (none_below n (n ∷ ns) (omega arith, later))))
+    (n, each.0, sym (none_below n (n ∷ ns) (omega arith, later)))
 first_bound least (b ∷ blockers) [] each rising first = absurd cc
 first_bound least (b ∷ blockers) (n ∷ ns) each rising first =
     let p = and_parts _ _ first in
     let same : b ≡ n = eqb-true b n p.0 in
     let later = each_weaker _ (λ m. n + 1 ≤ m) (λ m less. omega (arith, nat_less n m less)) ns rising.0 in
     let rest = first_bound (n + 1) blockers ns later rising.1 p.1 in
-    let low : n < rest.0 = omega (arith, rest.1.0) in
-    (rest.0, (omega (arith, each.0, low), rw (lt-ltb n rest.0 low) (ap (λ (m : ℕ). m ∷ blockers) same ∙ ap (λ (ms : List ℕ). n ∷ ms) rest.1.1)))
+    let low : n < rest.0 = omega (arith, rest.1) in
+    (rest.0, omega (arith, each.0, low), rw (lt-ltb n rest.0 low) (ap (λ (m : ℕ). m ∷ blockers) same ∙ ap (λ (ms : List ℕ). n ∷ ms) rest.2))
 
 all_least : (ns : List ℕ) → Each (λ n. 0 ≤ n) ns
 all_least [] = tt
@@ -276,7 +276,7 @@ condemned_keeps servers next leases row rising is =
       number = ltb-true row.condemned.number next r.0;
       slot = ltb-true row.condemned.slot 9 r.1;
       server = server_is servers row.condemned.copy.server q.1;
-      blockers = (bound.0, bound.1.1);
+      blockers = (bound.0, bound.2);
     }
 
 condemned_list : (servers next : ℕ) (leases : List Lease) (rows : List CondemnedRow) → IsRising lease_cmp leases → is_condemned_list servers next leases rows ≡ true
@@ -309,7 +309,7 @@ entry_keeps (Wrote.Mkdir p) fits = fits
 entry_keeps (Wrote.Rmdir p) fits = fits
 entry_keeps (Wrote.Created file p) fits = (omega (arith, fits.0), fits.1)
 entry_keeps (Wrote.Closed file actor command) fits =
-    (omega (arith, fits.0), ((leb-true 1 actor fits.1.0.1, omega (arith, fits.1.0.0)), omega (arith, fits.1.1)))
+    (omega (arith, fits.0), (leb-true 1 actor fits.1.0.1, omega (arith, fits.1.0.0)), omega (arith, fits.1.1))
 entry_keeps (Wrote.Aborted file) fits = omega (arith, fits)
 entry_keeps (Wrote.Removed p) fits = fits
 entry_keeps (Wrote.Renamed from to) fits = fits
