@@ -1,9 +1,9 @@
 -- The files of a tree by number: what is found there is what the rules of an image ask of the tree.
-use Rattle.std.proofs.Common.{◌≡◌, ◌∙◌, refl, sym, ap, subst, arith, ℕ, zero, suc, ◌+◌, ◌<◌, ◌≤◌, Bool, true, false, cond, eqb, ltb, not, ◌&&◌, ◌||◌, ◌==◌, List, [], ◌∷◌, length, drop, get_or, Option, Some, None}
-use Rattle.std.specs.Prelude.{nat_eq, nat_lt, is_some, map, filter}
+use Rattle.std.proofs.Common.{◌≡◌, ◌∙◌, refl, sym, ap, subst, arith, ℕ, zero, suc, ◌+◌, ◌<◌, ◌≤◌, Bool, true, false, cond, not, ◌&&◌, ◌||◌, ◌==◌, List, [], ◌∷◌, length, drop, get_or, Option, Some, None}
+use Rattle.std.specs.Prelude.{nat_eq, nat_lt, is_some}
 use Rattle.std.specs.Cmp.{nat_cmp_total}
 use Rattle.std.specs.List.{list_all, list_any}
-use Rattle.std.specs.Ordering.{eq_by_cmp, is_eq, nat_cmp}
+use Rattle.std.specs.Ordering.{nat_cmp}
 use Rattle.std.proofs.lemmas.Bool.{eqb-true, eqb-false, lt-ltb, ne_eqb}
 use Rattle.std.proofs.lemmas.List.{at_drop_all, at_drop_more}
 use Rattle.qfs_base.specs.KeyMap.{has_key, value_at, with_entry}
@@ -107,14 +107,14 @@ found_distinct files (row ∷ rows) =
     ≡ (list_all (λ file. not (has_key nat_cmp files file)) (files_in (row ∷ rows)) && are_distinct (files_in (row ∷ rows)))) [
       | true ↦ λ none. rw (skipped row rows (eqb-true row.file 0 none)) (found_distinct files rows)
       | false ↦ λ some. rw (kept row rows some) (elim (has_key nat_cmp files row.file) as (λ h.
-        is_some (cond h None (with_files (with_entry nat_cmp files row.file row.closed) rows))
-        ≡ ((not h && list_all (λ file. not (has_key nat_cmp files file)) (files_in rows)) && (not (list_any (nat_eq row.file) (files_in rows)) && are_distinct (files_in rows)))) [
-          | true ↦ refl
-          | false ↦
-            found_distinct (with_entry nat_cmp files row.file row.closed) rows
-            ∙ ap (λ b. b && are_distinct (files_in rows)) (fresh_with files row.file row.closed (files_in rows))
-            ∙ assoc (list_all (λ file. not (has_key nat_cmp files file)) (files_in rows)) (not (list_any (nat_eq row.file) (files_in rows))) (are_distinct (files_in rows))
-        ])
+          is_some (cond h None (with_files (with_entry nat_cmp files row.file row.closed) rows))
+          ≡ ((not h && list_all (λ file. not (has_key nat_cmp files file)) (files_in rows)) && (not (list_any (nat_eq row.file) (files_in rows)) && are_distinct (files_in rows)))) [
+            | true ↦ refl
+            | false ↦
+                found_distinct (with_entry nat_cmp files row.file row.closed) rows
+                ∙ ap (λ b. b && are_distinct (files_in rows)) (fresh_with files row.file row.closed (files_in rows))
+                ∙ assoc (list_all (λ file. not (has_key nat_cmp files file)) (files_in rows)) (not (list_any (nat_eq row.file) (files_in rows))) (are_distinct (files_in rows))
+          ])
     ] refl
 
 pub once_each : (tree : List TreeRow) → is_some (with_files [] tree) ≡ are_distinct (files_in tree)
@@ -160,11 +160,11 @@ found_tells files found (row ∷ rows) file is =
     → Tells (value_at nat_cmp found file) (value_at nat_cmp files file) file (row ∷ rows)) [
       | true ↦ λ none is. directory (eqb-true row.file 0 none) (found_tells files found rows file is)
       | false ↦ λ some is. (elim (has_key nat_cmp files row.file) as (λ h. has_key nat_cmp files row.file ≡ h
-        → cond h None (with_files (with_entry nat_cmp files row.file row.closed) rows) ≡ Some found
-        → Tells (value_at nat_cmp found file) (value_at nat_cmp files file) file (row ∷ rows)) [
-          | true ↦ λ has is. absurd cc
-          | false ↦ λ has is. a_file some has (found_tells (with_entry nat_cmp files row.file row.closed) found rows file is)
-        ]) refl is
+          → cond h None (with_files (with_entry nat_cmp files row.file row.closed) rows) ≡ Some found
+          → Tells (value_at nat_cmp found file) (value_at nat_cmp files file) file (row ∷ rows)) [
+            | true ↦ λ has is. absurd cc
+            | false ↦ λ has is. a_file some has (found_tells (with_entry nat_cmp files row.file row.closed) found rows file is)
+          ]) refl is
     ]) refl is
   where
     directory : row.file ≡ 0 → Tells (value_at nat_cmp found file) (value_at nat_cmp files file) file rows → Tells (value_at nat_cmp found file) (value_at nat_cmp files file) file (row ∷ rows)
@@ -179,9 +179,9 @@ found_tells files found (row ∷ rows) file is =
         (λ e. has_none (value_at nat_cmp files file) (ap (has_key nat_cmp files) (sym (eqb-true row.file file e)) ∙ has)) in
         let here = told_here (row.file == file) row.closed (value_at nat_cmp files file) (list_any (stands_test file) rows) (list_any (closed_test file) rows) fresh in (
           tells.0 ∙ ap (λ (o : Option Bool). is_some o || list_any (stands_test file) rows) at ∙ here.0
-          ∙ ap (λ b. is_some (value_at nat_cmp files file) || (b || list_any (stands_test file) rows)) (sym (stands_row file row some)),
+              ∙ ap (λ b. is_some (value_at nat_cmp files file) || (b || list_any (stands_test file) rows)) (sym (stands_row file row some)),
           tells.1 ∙ ap (λ (o : Option Bool). is_closed_in o || list_any (closed_test file) rows) at ∙ here.1
-          ∙ ap (λ b. is_closed_in (value_at nat_cmp files file) || (b || list_any (closed_test file) rows)) (sym (closed_row file row some)),
+              ∙ ap (λ b. is_closed_in (value_at nat_cmp files file) || (b || list_any (closed_test file) rows)) (sym (closed_row file row some)),
         )
 
 -- the files of a tree are found, and whether they are closed

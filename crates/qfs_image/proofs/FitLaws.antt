@@ -1,7 +1,7 @@
 -- An image keeps the rules of a metaserver's state: its lists rise, its numbers are below the counters, and what it names is
 -- there.
-use Rattle.std.proofs.Common.{◌≡◌, ◌≢◌, ◌∙◌, refl, sym, ap, subst, arith, ℕ, zero, suc, ◌+◌, ◌<◌, ◌≤◌, ◌^◌, Bool, true, false, true≢false, cond, not, ◌&&◌, ◌==◌, List, [], ◌∷◌, length, Option, Some, None, ⊎_elim}
-use Rattle.std.specs.Prelude.{nat_eq, nat_le, nat_lt, is_some, IfSome, IsTrue, OnSome, map, filter}
+use Rattle.std.proofs.Common.{◌≡◌, ◌≢◌, ◌∙◌, refl, sym, ap, arith, ℕ, ◌+◌, ◌<◌, ◌≤◌, Bool, true, false, ◌==◌, List, [], ◌∷◌, length, Option, Some, None}
+use Rattle.std.specs.Prelude.{nat_eq, nat_lt, is_some, IfSome, IsTrue, OnSome, map, filter}
 use Rattle.std.specs.List.{AllByRecursion, IsDistinct, list_all, list_any}
 use Rattle.std.specs.Ordering.{is_lt, nat_cmp}
 use Rattle.std.specs.declared.cmp.Ordering.TheVariants.{Less}
@@ -9,7 +9,7 @@ use Rattle.std.proofs.lemmas.Bool.{and_parts, eq-eqb, eqb-true, le-ltb, leb-true
 use Rattle.qfs_base.specs.EachLaws.{each_filter, each_weaker}
 use Rattle.qfs_base.specs.NameTree.{kind_at, parents_of, row_cmp}
 use Rattle.qfs_base.specs.Path.{IsPath}
-use Rattle.qfs_base.specs.Sizes.{LAST_U16, LAST_U32, MOST_FILE_BYTES}
+use Rattle.qfs_base.specs.Sizes.{MOST_FILE_BYTES}
 use Rattle.qfs_base.specs.Table.{Each, IsRising}
 use Rattle.qfs_base.specs.declared.chunk.Copy.{Copy}
 use Rattle.qfs_base.specs.declared.history.Entry.{Entry}
@@ -21,18 +21,17 @@ use Rattle.qfs_base.specs.declared.image.Lease.{Lease}
 use Rattle.qfs_base.specs.declared.image.MetaImage.{MetaImage}
 use Rattle.qfs_base.specs.declared.image.SlotRow.{SlotRow}
 use Rattle.qfs_base.specs.declared.image.TreeRow.{TreeRow}
-use Rattle.qfs_base.specs.declared.lists.NameKind.TheVariants as Is
-use Rattle.qfs_laws_tables.specs.EachRow.{all-each, each_both, each_map}
+use Rattle.qfs_laws_tables.specs.EachRow.{all-each, each_map}
 use Rattle.qfs_laws_tables.specs.InOrder.{filter_rises}
 use Rattle.qfs_model_disks.specs.Image.{IsSpelledEntry, dropped_actor, grant, image, lease, slot_row, tree_row}
-use Rattle.qfs_model_disks.specs.Tests.{are_distinct, are_first, are_rising, has_maker, has_parents, has_servers, if_any, is_condemned_list, is_condemned_row, is_copy_on, is_directory, is_dropped_list, is_entry, is_grant_under, is_image, is_lease_list, is_lease_row, is_plain, is_row, is_server_of, is_slot_row, is_slot_table, is_tree, starts_from_one}
+use Rattle.qfs_model_disks.specs.Tests.{are_distinct, are_first, has_maker, has_parents, has_servers, if_any, is_condemned_list, is_condemned_row, is_copy_on, is_dropped_list, is_grant_under, is_image, is_lease_list, is_lease_row, is_plain, is_row, is_server_of, is_slot_row, is_slot_table, is_tree, starts_from_one}
 use Rattle.qfs_model_meta.specs.Condemned.{condemned_cmp}
 use Rattle.qfs_model_meta.specs.Dropped.{dropped_cmp}
-use Rattle.qfs_model_meta.specs.Grammar.{FitsImage, HasBlockers, HasMaker, HasParents, IsActor, IsCondemnedList, IsCurrentOfClosed, IsDroppedList, IsEntry, IsGrant, IsImage, IsLeaseList, IsPlain, IsServer, IsSlotTable, IsTree, NamesServers, files_in}
+use Rattle.qfs_model_meta.specs.Grammar.{HasBlockers, HasMaker, HasParents, IsActor, IsCondemnedList, IsCurrentOfClosed, IsDroppedList, IsEntry, IsGrant, IsImage, IsLeaseList, IsPlain, IsServer, IsSlotTable, IsTree, NamesServers, files_in}
 use Rattle.qfs_model_meta.specs.Leases.{lease_cmp, leases_on}
 use Rattle.qfs_model_meta.specs.Slots.{granted_copy, slot_cmp}
 use Rattle.qfs_model_meta.specs.TreeRows.{closed_file, file_stands, row_path, standing}
-use Rattle.qfs_image.proofs.OrderLaws.{lt_is, lt_test, rising_each}
+use Rattle.qfs_image.proofs.OrderLaws.{lt_test, rising_each}
 use Rattle.qfs_image.proofs.TreeLaws.{directory_is}
 
 each_of_fits : {X : Type 0} (P Q : X → Type 0) → ((x : X) → P x → Q x) → (xs : List X) → AllByRecursion P xs → Each Q xs

@@ -1,9 +1,9 @@
 -- Images: each is read back, none is the front of another's spelling, and what is read was written so.
-use Rattle.std.proofs.Common.{◌≡◌, ◌∙◌, refl, sym, ap, subst, arith, ℕ, zero, suc, ◌+◌, ◌-◌, ◌<◌, ◌≤◌, Bool, true, false, cond, true≢false, List, [], ◌∷◌, ◌++◌, length, take, drop, Option, Some, None, slice_get, length-append, inl, inr}
-use Rattle.std.specs.Prelude.{⊤, ◌⊎◌}
+use Rattle.std.proofs.Common.{◌≡◌, ◌∙◌, refl, sym, ap, subst, arith, ℕ, zero, suc, ◌+◌, ◌-◌, ◌<◌, ◌≤◌, true, false, List, [], ◌∷◌, ◌++◌, length, take, drop, Option, Some, None, slice_get, length-append}
+use Rattle.std.specs.Prelude.{⊤}
 use Rattle.std.specs.Int.{w32}
 use Rattle.std.specs.List.{AllByRecursion}
-use Rattle.std.specs.Option.{option_and_then, option_map}
+use Rattle.std.specs.Option.{option_map}
 use Rattle.std.proofs.lemmas.List.Elements.{All-tail}
 use Rattle.qfs_base.specs.declared.history.Entry.{Entry}
 use Rattle.qfs_base.specs.declared.history.Entry.TheVariants as Wrote
@@ -12,14 +12,14 @@ use Rattle.qfs_base.specs.declared.image.SlotRow.{SlotRow}
 use Rattle.qfs_model_disks.specs.Image.{IsSpelledEntry, ReadsEntry, closing, condemned, condemned_row, counters, creating, dropped_actor, entry, entry_at, entry_by, entry_reader, entry_readers, entry_text, grant, image, lease, reads_entry, server_view, slot_row, state, tree_row}
 use Rattle.qfs_model_disks.specs.Tests.{is_image}
 use Rattle.qfs_model_disks.specs.Values.{path}
-use Rattle.qfs_record.specs.Part.{AreBytes, Part, number, pair, such}
+use Rattle.qfs_record.specs.Part.{AreBytes, Part, number, pair}
 use Rattle.qfs_record.proofs.ChunkLaws.{block-is_part, slot-is_part}
 use Rattle.qfs_record.proofs.PartLaws.{IsPart, Takes, flag-is_part, listed-is_part, map_some, number16, number32, number64, optional-is_part, pair-is_part, shaped-is_part, such-is_part}
 use Rattle.qfs_spelling.specs.Sets.{is_set, server_set, set_row}
 use Rattle.qfs_spelling.proofs.Fronts.{are_apart, behind_front, read_front, read_none, read_only}
 use Rattle.qfs_spelling.proofs.PathLaws.{path-is_part}
 use Rattle.qfs_spelling.proofs.ValueLaws.{copy-is_part, from_one-is_part}
-use Rattle.qfs_image.specs.Kept.{later_lists, set_state, state_with}
+use Rattle.qfs_image.specs.Kept.{later_lists, set_state}
 use Rattle.qfs_image.proofs.KeptLaws.{set_state_fits}
 
 -- ---- rows

@@ -1,12 +1,12 @@
 -- The leases on each file, by number: those that are found on a file are the leases on it.
-use Rattle.std.proofs.Common.{◌≡◌, ◌∙◌, refl, sym, ap, subst, ℕ, ◌+◌, ◌<◌, ◌≤◌, Bool, true, false, cond, eqb, ◌&&◌, ◌==◌, List, [], ◌∷◌, ◌++◌, length, take, drop, get_or, append_assoc, append-nil, Option, Some, None}
+use Rattle.std.proofs.Common.{◌≡◌, ◌∙◌, refl, sym, ap, ℕ, ◌+◌, ◌<◌, ◌≤◌, Bool, true, false, cond, ◌&&◌, ◌==◌, List, [], ◌∷◌, ◌++◌, length, drop, get_or, append_assoc, append-nil, Option, Some, None}
 use Rattle.std.specs.Prelude.{nat_eq, map, filter}
 use Rattle.std.specs.Cmp.{nat_cmp_total}
 use Rattle.std.specs.List.{starts_with}
-use Rattle.std.specs.Ordering.{eq_by_cmp, nat_cmp}
+use Rattle.std.specs.Ordering.{nat_cmp}
 use Rattle.std.proofs.lemmas.Bool.{eqb-true}
 use Rattle.std.proofs.lemmas.List.{at_drop_all, at_drop_more}
-use Rattle.qfs_base.specs.KeyMap.{value_at, with_entry, without_key}
+use Rattle.qfs_base.specs.KeyMap.{value_at, without_key}
 use Rattle.qfs_base.specs.KeyMapLaws.{value_at-without_key}
 use Rattle.qfs_base.specs.declared.image.Lease.{Lease}
 use Rattle.qfs_laws_tables.specs.Keys.{key-is}
@@ -29,10 +29,10 @@ one_more blocking lease file =
     ap or_none (at-with (without_key nat_cmp blocking lease.file) lease.file new file)
     ∙ ap (λ (o : Option (List ℕ)). or_none (cond (lease.file == file) (Some new) o)) without
     ∙ (elim (lease.file == file) as (λ b. (lease.file == file) ≡ b
-      → or_none (cond b (Some new) (cond b None (value_at nat_cmp blocking file))) ≡ blocking_on blocking file ++ one_if b lease.lease) [
-        | true ↦ λ e. ap (λ (n : ℕ). blocking_on blocking n ++ lease.lease ∷ []) (eqb-true lease.file file e)
-        | false ↦ λ e. sym (append-nil (blocking_on blocking file))
-      ]) refl
+    → or_none (cond b (Some new) (cond b None (value_at nat_cmp blocking file))) ≡ blocking_on blocking file ++ one_if b lease.lease) [
+      | true ↦ λ e. ap (λ (n : ℕ). blocking_on blocking n ++ lease.lease ∷ []) (eqb-true lease.file file e)
+      | false ↦ λ e. sym (append-nil (blocking_on blocking file))
+    ]) refl
 
 on_one : (lease : Lease) (leases : List Lease) (file : ℕ) → leases_on file (lease ∷ leases) ≡ one_if (lease.file == file) lease.lease ++ leases_on file leases
 unfolding leases_on

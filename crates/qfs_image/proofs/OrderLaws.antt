@@ -7,7 +7,7 @@ use Rattle.std.specs.Ordering.{is_lt, nat_cmp}
 use Rattle.std.specs.declared.cmp.Ordering.{Ordering}
 use Rattle.std.specs.declared.cmp.Ordering.TheVariants.{Less, Equal, Greater}
 use Rattle.std.proofs.lemmas.Bool.{and_from, and_parts}
-use Rattle.qfs_base.specs.Table.{Each, IsRising}
+use Rattle.qfs_base.specs.Table.{IsRising}
 use Rattle.qfs_laws_tables.specs.EachRow.{all-each}
 use Rattle.qfs_base.specs.EachLaws.{each_weaker}
 use Rattle.qfs_model_disks.specs.Tests.{are_rising}

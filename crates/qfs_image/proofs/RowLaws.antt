@@ -1,9 +1,9 @@
 -- The rules of an image, as the program tests them, are those of the grammar, for a value that was read.
-use Rattle.std.proofs.Common.{◌≡◌, ◌∙◌, refl, sym, ap, subst, arith, ℕ, ◌<◌, ◌≤◌, ◌^◌, Bool, true, false, true≢false, cond, ◌&&◌, ◌==◌, List, [], ◌∷◌, length, Option, Some, None}
+use Rattle.std.proofs.Common.{◌≡◌, ◌∙◌, refl, sym, ap, arith, ℕ, ◌<◌, Bool, true, false, ◌&&◌, List, [], length, Option, Some, None}
 use Rattle.std.specs.Prelude.{nat_le, nat_lt, is_some, IfSome}
 use Rattle.std.specs.Cmp.{IsTotalOrder, both_ways, nat_cmp_total, on_total, then_total}
 use Rattle.std.specs.List.{AllByRecursion, list_all}
-use Rattle.std.specs.Ordering.{is_lt, nat_cmp}
+use Rattle.std.specs.Ordering.{nat_cmp}
 use Rattle.std.proofs.lemmas.Bool.{and_from, and_parts, lt-ltb}
 use Rattle.qfs_base.specs.KeyMap.{has_key, value_at}
 use Rattle.qfs_base.specs.KeyLaws.{block_cmp_total}
@@ -28,14 +28,14 @@ use Rattle.qfs_model_meta.specs.Grammar.{files_in}
 use Rattle.qfs_model_meta.specs.Leases.{lease_cmp, leases_on}
 use Rattle.qfs_model_meta.specs.Slots.{granted_copy, slot_cmp}
 use Rattle.qfs_model_meta.specs.TreeRows.{closed_file, file_stands, row_path, standing}
-use Rattle.qfs_spelling.specs.Sets.{is_set, server_set, set_row}
-use Rattle.qfs_image.specs.Files.{Blocking, Files, begin_leases, is_closed_in, with_files, with_leases}
+use Rattle.qfs_spelling.specs.Sets.{set_row}
+use Rattle.qfs_image.specs.Files.{Files, is_closed_in, with_files, with_leases}
 use Rattle.qfs_image.specs.Kept.{set_state}
 use Rattle.qfs_image.specs.Rules.{bears_condemned, bears_condemned_row, bears_leases, bears_slot, bears_slots, bears_tree, condemned_before, dropped_before, follow, is_current_of, is_grant_below, keeps_alone, keeps_rules, lease_before, on_servers, slot_before}
 use Rattle.qfs_image.proofs.FileLaws.{files_found, once_each}
 use Rattle.qfs_image.proofs.LeaseLaws.{blockers_begin}
 use Rattle.qfs_image.proofs.OrderLaws.{in_order, lt_test}
-use Rattle.qfs_image.proofs.TestLaws.{all_fit, all_given, all_weaker}
+use Rattle.qfs_image.proofs.TestLaws.{all_fit, all_given}
 use Rattle.qfs_image.proofs.TreeLaws.{tree_is}
 
 -- ---- slots
@@ -109,10 +109,10 @@ slot_is servers next tree files found row fits =
     (if_any (is_grant_under next) row.state.grant) (if_any (λ (copy : Copy). is_some (closed_file row.block.file tree)) row.state.current)
     fits.1.0.1 (and_parts _ _ fits.1.1.1.1.1.1).0
     ∙ same_four (file_stands row.block.file tree) (has_key nat_cmp files row.block.file)
-      (if_any (is_copy_on servers) row.state.current && if_any (λ (copy : Copy). closed) row.state.current) (if_any (is_current_of servers known) row.state.current)
-      (if_any (is_copy_on servers) (granted_copy row.state.grant) && if_any (is_grant_under next) row.state.grant) (if_any (is_grant_below servers next) row.state.grant)
-      (list_all (is_server_of servers) row.state.failed) (on_servers servers row.state.failed)
-      (sym f.0) current granted failed
+    (if_any (is_copy_on servers) row.state.current && if_any (λ (copy : Copy). closed) row.state.current) (if_any (is_current_of servers known) row.state.current)
+    (if_any (is_copy_on servers) (granted_copy row.state.grant) && if_any (is_grant_under next) row.state.grant) (if_any (is_grant_below servers next) row.state.grant)
+    (list_all (is_server_of servers) row.state.failed) (on_servers servers row.state.failed)
+    (sym f.0) current granted failed
 
 slots_total : IsTotalOrder slot_cmp
 slots_total = unfold slot_cmp in then_total (on_total (λ (r : SlotRow). r.block) block_cmp_total) (on_total (λ (r : SlotRow). r.slot) nat_cmp_total)
@@ -122,8 +122,10 @@ slots_are : (servers next : ℕ) (tree : List TreeRow) (slots : List SlotRow) �
 unfolding is_slot_table bears_slots
 slots_are servers next tree slots fits None found = refl
 slots_are servers next tree slots fits (Some files) found =
-    rw (in_order slot_cmp slots_total slot_before (λ a b. refl) slots,
-    all_given set_row.Fits (is_slot_row servers next tree) (bears_slot servers next files) (λ row fit. slot_is servers next tree files found row fit) slots fits) refl
+    rw (
+      in_order slot_cmp slots_total slot_before (λ a b. refl) slots,
+      all_given set_row.Fits (is_slot_row servers next tree) (bears_slot servers next files) (λ row fit. slot_is servers next tree files found row fit) slots fits,
+    ) refl
 
 -- ---- leases, condemned copies, dropped actors and entries
 
@@ -137,8 +139,10 @@ lease_is next l fit = rw fit.1.0.1 (and_true (nat_lt l.lease next))
 leases_are : (next : ℕ) (leases : List Lease) → AllByRecursion lease.Fits leases → is_lease_list next leases ≡ bears_leases next leases
 unfolding is_lease_list bears_leases
 leases_are next leases fits =
-    rw (in_order lease_cmp leases_total lease_before (λ a b. lt_test a.lease b.lease) leases,
-    all_given lease.Fits (is_lease_row next) (λ (l : Lease). nat_lt l.lease next) (λ l fit. lease_is next l fit) leases fits) refl
+    rw (
+      in_order lease_cmp leases_total lease_before (λ a b. lt_test a.lease b.lease) leases,
+      all_given lease.Fits (is_lease_row next) (λ (l : Lease). nat_lt l.lease next) (λ l fit. lease_is next l fit) leases fits,
+    ) refl
 
 condemned_total : IsTotalOrder condemned_cmp
 condemned_total = on_total (λ (r : CondemnedRow). r.condemned.number) nat_cmp_total
@@ -160,8 +164,10 @@ condemned_are : (servers next : ℕ) (leases : List Lease) (rows : List Condemne
     → is_condemned_list servers next leases rows ≡ bears_condemned servers next leases rows
 unfolding is_condemned_list bears_condemned
 condemned_are servers next leases rows fits =
-    rw (in_order condemned_cmp condemned_total condemned_before (λ a b. lt_test a.condemned.number b.condemned.number) rows,
-    all_given condemned_row.Fits (is_condemned_row servers next leases) (bears_condemned_row servers next (with_leases [] leases)) (λ row fit. condemned_is servers next leases row fit) rows fits) refl
+    rw (
+      in_order condemned_cmp condemned_total condemned_before (λ a b. lt_test a.condemned.number b.condemned.number) rows,
+      all_given condemned_row.Fits (is_condemned_row servers next leases) (bears_condemned_row servers next (with_leases [] leases)) (λ row fit. condemned_is servers next leases row fit) rows fits,
+    ) refl
 
 dropped_total : IsTotalOrder dropped_cmp
 dropped_total = unfold dropped_cmp in on_total (λ (d : DroppedActor). d.actor) nat_cmp_total
@@ -169,8 +175,10 @@ dropped_total = unfold dropped_cmp in on_total (λ (d : DroppedActor). d.actor) 
 dropped_are : (dropped : List DroppedActor) → AllByRecursion dropped_actor.Fits dropped → is_dropped_list dropped ≡ follow dropped_before dropped
 unfolding is_dropped_list
 dropped_are dropped fits =
-    rw (in_order dropped_cmp dropped_total dropped_before (λ a b. unfold dropped_cmp in lt_test a.actor b.actor) dropped,
-    all_fit dropped_actor.Fits (λ (d : DroppedActor). nat_le 1 d.actor) (λ d fit. fit.0.1) dropped fits) (and_true (follow dropped_before dropped))
+    rw (
+      in_order dropped_cmp dropped_total dropped_before (λ a b. unfold dropped_cmp in lt_test a.actor b.actor) dropped,
+      all_fit dropped_actor.Fits (λ (d : DroppedActor). nat_le 1 d.actor) (λ d fit. fit.0.1) dropped fits,
+    ) (and_true (follow dropped_before dropped))
 
 entry_fits : (e : Entry) → IsSpelledEntry e → is_entry e ≡ true
 unfolding is_entry

@@ -1,20 +1,20 @@
 -- A name tree in the order of its paths: every directory that a row lies in is there exactly where each row lies in the
 -- directory of the row before it, in one above that, or in that row itself.
-use Rattle.std.proofs.Common.{◌≡◌, ◌∙◌, refl, sym, ap, subst, arith, ℕ, zero, suc, ◌+◌, ◌-◌, ◌<◌, ◌≤◌, Bool, true, false, cond, ◌&&◌, ◌||◌, ◌==◌, List, [], ◌∷◌, ◌++◌, Option, Some, None, length, take, drop, append_assoc, length-append, length-take, ⊎_elim}
-use Rattle.std.specs.Prelude.{nat_eq, nat_le, nat_lt, IsTrue}
-use Rattle.std.specs.Cmp.{IsTotalOrder, both_ways}
-use Rattle.std.specs.Cmp.Lexicographic.{lists_total, nat_list_cmp_total, slice_cmp, texts_ties}
-use Rattle.std.specs.List.{list_all, list_any, starts_with}
-use Rattle.std.specs.Ordering.{is_eq, is_lt, nat_cmp, ordering_reverse, ordering_then}
+use Rattle.std.proofs.Common.{◌≡◌, ◌∙◌, refl, sym, ap, subst, arith, ℕ, ◌-◌, ◌<◌, ◌≤◌, Bool, true, ◌&&◌, ◌==◌, List, [], ◌∷◌, ◌++◌, Option, Some, None, length, take, drop, append_assoc, length-append, length-take, ⊎_elim}
+use Rattle.std.specs.Prelude.{nat_le, nat_lt}
+use Rattle.std.specs.Cmp.{both_ways}
+use Rattle.std.specs.Cmp.Lexicographic.{lists_total, nat_list_cmp_total, slice_cmp}
+use Rattle.std.specs.List.{list_all, list_any}
+use Rattle.std.specs.Ordering.{is_lt, nat_cmp, ordering_reverse, ordering_then}
 use Rattle.std.specs.declared.cmp.Ordering.{Ordering}
 use Rattle.std.specs.declared.cmp.Ordering.TheVariants.{Less, Equal, Greater}
 use Rattle.std.proofs.Math.Seq.{take-length}
-use Rattle.std.proofs.lemmas.Bool.{and_from, and_parts, cases_lt, eq-eqb, eqb-true, le-leb, leb-true, lt-ltb, ltb-true, or_cases, or_left, or_right}
+use Rattle.std.proofs.lemmas.Bool.{and_from, and_parts, cases_lt, le-leb, leb-true, lt-ltb, ltb-true, or_cases, or_left, or_right}
 use Rattle.std.proofs.lemmas.Cmp.{tied_itself}
 use Rattle.std.proofs.lemmas.List.{take-append-drop, take-take, take_all}
 use Rattle.std.proofs.lemmas.Map.Lookups.{exact_bytes}
 use Rattle.qfs_base.specs.EachLaws.{each_append, each_weaker}
-use Rattle.qfs_base.specs.NameTree.{PathNames, is_within, kind_at, parents_of, path_cmp, path_eq, row_cmp}
+use Rattle.qfs_base.specs.NameTree.{PathNames, kind_at, parents_of, path_cmp, row_cmp}
 use Rattle.qfs_base.specs.Sizes.{MOST_FILE_BYTES}
 use Rattle.qfs_base.specs.Table.{Each, IsRising}
 use Rattle.qfs_base.specs.declared.image.TreeRow.{TreeRow}
@@ -27,7 +27,7 @@ use Rattle.qfs_laws_tree.specs.TreeFacts.{is-within, path-is, path-self, tree_to
 use Rattle.qfs_model_disks.specs.Tests.{are_rising, has_maker, has_parents, is_directory, is_row}
 use Rattle.qfs_model_meta.specs.TreeRows.{row_path, standing}
 use Rattle.qfs_image.specs.Rules.{bears_tree, bears_tree_row, begins_at_top, directory_of, follow, follow_from, is_near, tree_before}
-use Rattle.qfs_image.proofs.OrderLaws.{each_rising, follow_both, follow_rising, follow_weaker, rising_each, rising_follow}
+use Rattle.qfs_image.proofs.OrderLaws.{follow_both, follow_rising, follow_weaker, rising_each, rising_follow}
 use Rattle.qfs_image.proofs.TestLaws.{all_of_each, all_weaker}
 
 -- ---- paths in their order (these belong to qfs_laws_tree)
@@ -49,14 +49,14 @@ between (a ∷ p) [] r low high = absurd cc
 between (a ∷ p) (b ∷ x) r low high =
     (elim (slice_cmp nat_cmp a b) as (λ o. slice_cmp nat_cmp a b ≡ o → ordering_then o (path_cmp p x) ≡ Less → (a ∷ p) ≡ b ∷ take (length p) x) [
       | Less ↦ λ is low.
-        let turned : slice_cmp nat_cmp b a ≡ Greater = nat_list_cmp_total.antisymm b a ∙ ap ordering_reverse is in
-        let above = sym (ap (λ o. ordering_then o (path_cmp x (p ++ r))) turned) ∙ high in
-        absurd cc
+          let turned : slice_cmp nat_cmp b a ≡ Greater = nat_list_cmp_total.antisymm b a ∙ ap ordering_reverse is in
+          let above = sym (ap (λ o. ordering_then o (path_cmp x (p ++ r))) turned) ∙ high in
+          absurd cc
       | Equal ↦ λ is low.
-        let same : a ≡ b = exact_bytes a b is in
-        let turned : slice_cmp nat_cmp b a ≡ Equal = nat_list_cmp_total.antisymm b a ∙ ap ordering_reverse is in
-        let below = sym (ap (λ o. ordering_then o (path_cmp x (p ++ r))) turned) ∙ high in
-        ap (λ (n : List ℕ). n ∷ p) same ∙ ap (λ (q : PathNames). b ∷ q) (between p x r low below)
+          let same : a ≡ b = exact_bytes a b is in
+          let turned : slice_cmp nat_cmp b a ≡ Equal = nat_list_cmp_total.antisymm b a ∙ ap ordering_reverse is in
+          let below = sym (ap (λ o. ordering_then o (path_cmp x (p ++ r))) turned) ∙ high in
+          ap (λ (n : List ℕ). n ∷ p) same ∙ ap (λ (q : PathNames). b ∷ q) (between p x r low below)
       | Greater ↦ λ is low. absurd cc
     ]) refl low
 

@@ -60,9 +60,9 @@ type LaterLists = (
 fn state_at(alloc: Global, bytes: &[u8]) -> Result<Option<(MetaImage, &[u8])>, AllocError>
     ensures { IfOk result (Finds set_state bytes.now) }
 {
-    let Some(((turn, (clock, (next_file, (next_lease, next_condemned)))), rest)) =
-        counters_at(bytes)
-    else {
+    let Some(((turn, (clock, (next_file, (next_lease, next_condemned)))), rest)) = counters_at(
+        bytes,
+    ) else {
         return Ok(None);
     };
     let Some((servers, rest)) = Listing::read_at(alloc, rest)? else {

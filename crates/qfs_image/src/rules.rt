@@ -94,10 +94,7 @@ fn are_tree_rows(next_file: FileId, tree: &[TreeRow]) -> bool
 fn is_tree_row(next_file: FileId, row: &TreeRow) -> bool
     ensures { result ≡ bears_tree_row next_file row.now }
 {
-    0 < row.path.names.len()
-        && row.len <= MOST_FILE_BYTES
-        && row.file < next_file
-        && has_maker(row)
+    0 < row.path.names.len() && row.len <= MOST_FILE_BYTES && row.file < next_file && has_maker(row)
 }
 
 /// Whether a directory was made by no command, and a file by an actor.
@@ -173,9 +170,7 @@ fn is_grant(servers: usize, next_lease: LeaseId, grant: &Option<Grant>) -> bool
 {
     match grant {
         None => true,
-        Some(grant) => {
-            usize::from(grant.copy.server) <= servers && grant.lease < next_lease
-        }
+        Some(grant) => { usize::from(grant.copy.server) <= servers && grant.lease < next_lease }
     }
 }
 

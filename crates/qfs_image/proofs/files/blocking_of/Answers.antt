@@ -1,4 +1,4 @@
-use Rattle.std.proofs.Common.{◌∙◌, ◌+◌, ap, drop, refl, sym}
+use Rattle.std.proofs.Common.{◌∙◌, ◌+◌, ap, drop}
 use Rattle.std.proofs.lemmas.List.{get_or_default}
 use Rattle.qfs_image.specs.Files.{Blocking, with_leases}
 use Rattle.qfs_image.proofs.LeaseLaws.{lease_step, leases_end}

@@ -18,7 +18,7 @@ pub loop-row-preserved : goal.loop-row-preserved
 loop-row-preserved c =
     ap (λ (files : Files). with_files files (drop (c.loop-row.row-index + 1) c.args.tree.now)) c.in_ok-insert.ensures.ok
     ∙ step_put c.loop-row.files c.args.tree.now c.loop-row.row-index c.row-item.result c.loop-row-test.true c.row-item.is c.if-row-eq0.false
-      (sym c.if-contains.false ∙ c.contains.ensures)
+    (sym c.if-contains.false ∙ c.contains.ensures)
     ∙ c.loop-row.invariant
 
 pub returns : goal.returns

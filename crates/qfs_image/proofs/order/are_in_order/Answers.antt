@@ -1,4 +1,4 @@
-use Rattle.std.proofs.Common.{◌≡◌, ◌∙◌, ◌+◌, ◌-◌, ◌&&◌, ℕ, Bool, ap, arith, drop, false, length, sym, true}
+use Rattle.std.proofs.Common.{◌≡◌, ◌∙◌, ◌+◌, ◌-◌, ◌&&◌, ℕ, Bool, ap, arith, drop, false, sym, true}
 use Rattle.qfs_image.specs.Rules.{follow}
 use Rattle.qfs_image.proofs.OrderLaws.{few_follow, step_from}
 use Rattle.qfs_image.proofs.order.are_in_order.Goals as goal

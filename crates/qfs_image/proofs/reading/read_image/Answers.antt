@@ -1,7 +1,6 @@
-use Rattle.std.proofs.Common.{◌≡◌, ◌∙◌, ◌≤◌, ℕ, List, Option, Some, None, ap, arith, drop, false, length, not, sym, true, ◌-◌}
+use Rattle.std.proofs.Common.{◌≡◌, ◌∙◌, ◌≤◌, ℕ, List, Option, Some, None, ap, arith, drop, false, length, sym, true, ◌-◌}
 use Rattle.qfs_base.specs.declared.image.MetaImage.{MetaImage}
 use Rattle.qfs_model_disks.specs.Image.{image}
-use Rattle.qfs_model_disks.specs.Tests.{is_image}
 use Rattle.qfs_record.specs.Part.{AreBytes}
 use Rattle.qfs_record.proofs.ChunkLaws.{are_bytes}
 use Rattle.qfs_spelling.specs.Fronts.{front_of}
