@@ -1,5 +1,5 @@
--- Condemned copies: what a change of their list leaves of each, and how many copies of a slot
--- have a version. Cited by the laws of the tree and of the metaserver.
+-- Condemned copies: what a change of their list leaves of each, and how many copies of a slot have
+-- a version. Cited by the laws of the metaserver, and for the metaserver in memory.
 use Rattle.qfs_base.specs.Table.{Each, change_row}
 use Rattle.qfs_base.specs.declared.chunk.BlockId.{BlockId}
 use Rattle.qfs_base.specs.declared.chunk.Copy.{Copy}

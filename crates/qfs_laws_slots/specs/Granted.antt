@@ -1,5 +1,5 @@
--- The copies that were granted: each version of a slot is one copy. Cited by the laws of the tree
--- and of the metaserver.
+-- The copies that were granted: each version of a slot is one copy. Cited by the laws of the
+-- metaserver.
 use Rattle.qfs_base.specs.Table.{Each}
 use Rattle.qfs_base.specs.declared.chunk.BlockId.{BlockId}
 use Rattle.qfs_base.specs.declared.chunk.Copy.{Copy}

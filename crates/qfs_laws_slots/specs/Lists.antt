@@ -1,5 +1,5 @@
 -- The lists of leases and of condemned copies: every change keeps their order, and how they fit
--- together. Cited by the laws of the tree and of the metaserver.
+-- together. Cited by the laws of the metaserver.
 use Rattle.qfs_base.specs.Table.{Each, without}
 use Rattle.qfs_base.specs.declared.chunk.BlockId.{BlockId}
 use Rattle.qfs_base.specs.declared.chunk.Copy.{Copy}

@@ -1,5 +1,5 @@
 -- The changes by which slots lose copies: what they leave alone, and what they do to the table of
--- slots. Cited by the laws of the tree and of the metaserver.
+-- slots. Cited by the laws of the metaserver, and for the metaserver in memory.
 use Rattle.qfs_base.specs.declared.change.Change.{Change}
 use Rattle.qfs_base.specs.declared.change.Change.TheVariants.{ConfirmSlot, EmptySlot, FailGrant}
 use Rattle.qfs_base.specs.declared.change.Change.TheVariants.{GiveUp}

@@ -1,5 +1,4 @@
--- Changes of a slot's record that give it no copy. Cited by the laws of the tree and of the
--- metaserver.
+-- Changes of a slot's record that give it no copy. Cited by the laws of the metaserver.
 use Rattle.qfs_base.specs.Table.{Each}
 use Rattle.qfs_base.specs.declared.chunk.BlockId.{BlockId}
 use Rattle.qfs_base.specs.declared.chunk.Copy.{Copy}

@@ -1,5 +1,5 @@
--- The tests of leases, condemned copies and files by their key, as equalities of numbers. Cited
--- by the laws of the tree and of the metaserver.
+-- The tests of leases, condemned copies and files by their key, as equalities of numbers. Cited by
+-- the laws of the tree, of the metaserver and of puts and gets.
 use Rattle.qfs_base.specs.declared.image.CondemnedRow.{CondemnedRow}
 use Rattle.qfs_base.specs.declared.image.Lease.{Lease}
 use Rattle.qfs_base.specs.declared.image.TreeRow.{TreeRow}

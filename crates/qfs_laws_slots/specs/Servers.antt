@@ -1,5 +1,4 @@
--- The list of servers after one of them changed. Cited by the laws of the tree and of the
--- metaserver.
+-- The list of servers after one of them changed. Cited by the laws of the metaserver.
 use Rattle.qfs_base.specs.declared.image.ServerView.{ServerView}
 use Rattle.qfs_model_meta.specs.Grammar.{IsServer}
 use Rattle.qfs_model_meta.specs.Servers.{change_server, no_server, server_at}

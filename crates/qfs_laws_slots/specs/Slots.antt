@@ -1,5 +1,6 @@
 -- The table of slots: what is known of each slot after one was placed, changed, sealed or
--- forgotten. Cited by the laws of the tree and of the metaserver.
+-- forgotten. Cited by the laws of the metaserver and of puts and gets, and for the metaserver in
+-- memory.
 use Rattle.qfs_base.specs.Key.{block_cmp}
 use Rattle.qfs_base.specs.KeyLaws.{block_cmp-Equal, block_cmp_total}
 use Rattle.qfs_base.specs.Table.{Each, IsRising, change_row, change_where, place, place_before}
@@ -8,9 +9,11 @@ use Rattle.qfs_base.specs.declared.chunk.Copy.{Copy}
 use Rattle.qfs_base.specs.declared.image.MetaImage.{MetaImage}
 use Rattle.qfs_base.specs.declared.image.SlotRecord.{SlotRecord}
 use Rattle.qfs_base.specs.declared.image.SlotRow.{SlotRow}
-use Rattle.qfs_model_meta.specs.Slots.{change_slot, change_state, forget_file, is_of_block}
-use Rattle.qfs_model_meta.specs.Slots.{is_of_file, is_slot, never_granted, same_block, same_copy}
-use Rattle.qfs_model_meta.specs.Slots.{seal_file, sealed_slot, slot_at, slot_cmp, with_slot}
+use Rattle.qfs_base.specs.declared.image.Grant.{Grant}
+use Rattle.qfs_model_meta.specs.Slots.{change_slot, change_state, failed_slot, forget_file}
+use Rattle.qfs_model_meta.specs.Slots.{is_of_block, is_of_file, is_slot, never_granted, same_block}
+use Rattle.qfs_model_meta.specs.Slots.{same_copy, seal_file, sealed_slot, slot_at, slot_cmp}
+use Rattle.qfs_model_meta.specs.Slots.{ungranted_slot, with_slot}
 use Rattle.std.proofs.Common.{Bool, List, None, Option, Some, [], ap, arith, cond, false, filter}
 use Rattle.std.proofs.Common.{find, not, refl, subst, sym, true, unwrap_or, ℕ, ◌+◌, ◌==◌, ◌∙◌, ◌∷◌}
 use Rattle.std.proofs.Common.{◌≡◌}
@@ -26,7 +29,7 @@ use Rattle.qfs_base.specs.EachLaws.{each_weaker}
 use Rattle.qfs_laws_tables.specs.EachRow.{each_both, each_of_all, find_none}
 use Rattle.qfs_laws_tables.specs.Keys.{equal-is, greater-not, key-is, less-not}
 use Rattle.qfs_laws_tables.specs.Sums.{total}
-use Rattle.qfs_laws_tables.specs.Placed.{find-placed, find-apart}
+use Rattle.qfs_laws_tables.specs.Placed.{find-placed, find-apart, found_changed}
 use Rattle.qfs_model_meta.specs.FreedLaws.{key_kept}
 
 -- ---- keys
@@ -126,7 +129,7 @@ slot_cases Y block slot row same apart =
 
 -- ---- what is known of a slot
 
-abbrev record_in : Option SlotRow → SlotRecord
+abbrev pub record_in : Option SlotRow → SlotRecord
 record_in found = unwrap_or (option_map (λ (row : SlotRow). row.state) found) never_granted
 
 pub slot_at-here : (block : BlockId) (slot : ℕ) (row : SlotRow) (rows : List SlotRow)
@@ -498,3 +501,26 @@ rows-found (row ∷ rows) rising = (
 abbrev pub Bare : MetaImage → ℕ → Type 0
 Bare m file =
     (block : BlockId) (slot : ℕ) → block.file ≡ file → (slot_at m.slots block slot).current ≡ None
+
+-- the record of a slot whose pending grant's server failed the put
+pub failed_change : (server : ℕ) (block : BlockId) (slot : ℕ) (slots : List SlotRow)
+    (grant : Grant)
+    → (slot_at slots block slot).grant ≡ Some grant
+    → slot_at (change_slot block slot (failed_slot server) (change_slot block slot ungranted_slot
+    slots)) block slot ≡ failed_slot server (ungranted_slot (slot_at slots block slot))
+unfolding change_slot slot_at change_state never_granted
+failed_change server block slot slots grant pending =
+    let test : SlotRow → Bool = is_slot block slot in
+    let first : SlotRow → SlotRow = change_state ungranted_slot in
+    let then : SlotRow → SlotRow = change_state (failed_slot server) in
+    ap record_in
+    (found_changed test then (λ row. key_kept block slot (failed_slot server) row true)
+    (change_where test first slots)
+    ∙ ap (option_map then)
+    (found_changed test first (λ row. key_kept block slot ungranted_slot row true) slots))
+    ∙ (elim (find test slots) as (λ found. (record_in found).grant ≡ Some grant
+    → record_in (option_map then (option_map first found)) ≡ failed_slot server
+    (ungranted_slot (record_in found))) [
+      | None ↦ λ none. absurd (cc)
+      | Some row ↦ λ _. refl
+    ]) pending

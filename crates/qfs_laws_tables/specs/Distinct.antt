@@ -1,5 +1,5 @@
--- Lists without repeats. Of numbers: each of them counts at most once. Cited by the laws of slots,
--- of the tree, of the metaserver and of puts and gets.
+-- Lists without repeats. Of numbers: each of them counts at most once. Cited by the other laws, and
+-- for the name tree over tables.
 use Rattle.qfs_base.specs.Table.{Each}
 use Rattle.std.proofs.Common.{Bool, List, [], arith, false, nat_eq, refl, subst, sym, true, ℕ, ◌++◌}
 use Rattle.std.proofs.Common.{◌+◌, ◌||◌, ◌∙◌, ◌∷◌, ◌≡◌, ◌≤◌}

@@ -1,12 +1,14 @@
 -- What holds of each row of a table, after rows are appended, mapped, kept by a test, changed or
--- placed. Cited by the laws of slots, of the tree, of the metaserver and of puts and gets.
+-- placed. Cited by the other laws, and for tables, leases, names and the metaserver in memory.
 use Rattle.qfs_base.specs.EachLaws.{each_append, each_weaker}
-use Rattle.qfs_base.specs.Table.{Each, change_row, change_where, place, place_before}
+use Rattle.qfs_base.specs.Table.{Each, change_row, change_where, place, place_before, without}
 use Rattle.std.proofs.Common.{Bool, List, None, Option, Some, [], ap, arith, cond, false, filter}
-use Rattle.std.proofs.Common.{find, map, refl, subst, suc, sym, true, zero, ℕ, ⊎_elim, ◌++◌, ◌+◌}
-use Rattle.std.proofs.Common.{◌<◌, ◌||◌, ◌∷◌, ◌≡◌, ◌≤◌, ◌⊎◌}
+use Rattle.std.proofs.Common.{find, length, map, not, refl, slice_range, subst, suc, sym, true}
+use Rattle.std.proofs.Common.{zero, ℕ, ⊎_elim, ◌++◌, ◌+◌, ◌<◌, ◌||◌, ◌∙◌, ◌∷◌, ◌≡◌, ◌≤◌, ◌⊎◌}
 use Rattle.std.proofs.lemmas.Bool.{and_parts, or_right, true≢false}
-use Rattle.std.specs.List.{list_all, list_any, range_with_len}
+use Rattle.std.proofs.lemmas.List.Edits.{get_or-between, length-between}
+use Rattle.std.proofs.lemmas.List.Elements.{All-head, All-tail}
+use Rattle.std.specs.List.{All, AllWithin, list_all, list_any, range_with_len}
 use Rattle.std.specs.Prelude.{flat_map, is_none}
 use Rattle.std.specs.declared.cmp.Ordering.{Ordering}
 use Rattle.std.specs.declared.cmp.Ordering.TheVariants.{Equal, Greater, Less}
@@ -160,3 +162,36 @@ each-range P from (suc n) h = (
 pub is-none : {X : Type 0} (o : Option X) → o ≡ None → is_none o ≡ true
 is-none None e = refl
 is-none (Some x) e = absurd (cc)
+
+-- what holds of the row at each place holds of each row
+pub each_of : {X : Type 0} (P : X → Type 0) (rows : List X) → All P rows → Each P rows
+each_of P [] all = tt
+each_of P (row ∷ rows) all = (All-head P row rows all, each_of P rows (All-tail P row rows all))
+
+pub each_part : {X : Type 0} (P : X → Type 0) (rows : List X) (from to : ℕ) → from ≤ to
+    → to ≤ length rows → AllWithin P rows from to → Each P (slice_range rows from to)
+each_part P rows from to rises within all =
+    each_of P (slice_range rows from to)
+    (λ k d inside.
+    let below : from + k < to = omega (arith, inside, length-between rows from to within) in
+    subst P (sym (get_or-between rows from to k d below)) (all (from + k) d (omega arith) below))
+
+-- where no row passes a test, and where each does
+pub filter_none : {X : Type 0} (test : X → Bool) (rows : List X)
+    → Each (λ row. test row ≡ false) rows → filter test rows ≡ []
+filter_none test [] each = refl
+filter_none test (row ∷ rows) each =
+    ap (λ b. cond b (row ∷ filter test rows) (filter test rows)) each.0
+    ∙ filter_none test rows each.1
+
+pub filter_all : {X : Type 0} (test : X → Bool) (rows : List X)
+    → Each (λ row. test row ≡ true) rows → filter test rows ≡ rows
+filter_all test [] each = refl
+filter_all test (row ∷ rows) each =
+    ap (λ b. cond b (row ∷ filter test rows) (filter test rows)) each.0
+    ∙ ap (λ rest. row ∷ rest) (filter_all test rows each.1)
+
+pub without_none : {X : Type 0} (test : X → Bool) (rows : List X)
+    → Each (λ row. test row ≡ false) rows → without test rows ≡ rows
+without_none test rows each =
+    filter_all (λ row. not (test row)) rows (each_weaker _ _ (λ row off. ap not off) rows each)

@@ -1,5 +1,5 @@
--- Tables in order, without repeats: what keeps them so. Cited by the laws of slots, of the tree, of
--- the metaserver and of puts and gets.
+-- Tables in order, without repeats: what keeps them so. Cited by the other laws, and for tables,
+-- leases, names and the metaserver in memory.
 use Rattle.qfs_base.specs.Table.{Each, IsRising, change_row, change_where, place, place_all}
 use Rattle.qfs_base.specs.Table.{place_before}
 use Rattle.std.proofs.Common.{Bool, List, [], ap, cond, false, filter, map, refl, true, ℕ, ◌++◌}

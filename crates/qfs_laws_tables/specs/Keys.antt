@@ -1,5 +1,5 @@
--- What keys that compare as equal, or don't, say of numbers and orderings. Cited by the laws of
--- slots, of the tree, of the metaserver and of puts and gets.
+-- What keys that compare as equal, or don't, say of numbers and orderings. Cited by the other laws,
+-- and for tables, leases, names and the metaserver in memory.
 use Rattle.std.proofs.Common.{arith, refl, sym, true, ℕ, ◌<◌, ◌==◌, ◌≡◌}
 use Rattle.std.proofs.lemmas.Bool.{true≢false}
 use Rattle.std.proofs.lemmas.Bool.Decides.{nat_tests}

@@ -1,16 +1,17 @@
 -- Rows that are placed: what is found then, what rows weigh that are placed where none has their
--- key, and maps of tables that are placed, kept by a test or changed. Cited by the laws of slots,
--- of the tree, of the metaserver and of puts and gets.
+-- key, and maps of tables that are placed, kept by a test or changed. Cited by the other laws, and
+-- for tables, leases, names and the metaserver in memory.
 use Rattle.qfs_base.specs.Table.{Each, IsRising, change_row, change_where, place, place_all}
 use Rattle.qfs_base.specs.Table.{place_before}
 use Rattle.std.proofs.Common.{Bool, List, None, Some, [], ap, arith, cond, false, filter, find, map}
-use Rattle.std.proofs.Common.{refl, subst, sym, true, ℕ, ◌+◌, ◌||◌, ◌∙◌, ◌∷◌, ◌≡◌, ◌≤◌}
+use Rattle.std.proofs.Common.{refl, subst, sym, true, ℕ, ◌++◌, ◌+◌, ◌||◌, ◌∙◌, ◌∷◌, ◌≡◌, ◌≤◌}
 use Rattle.std.specs.Cmp.{IsTotalOrder}
 use Rattle.std.specs.List.{list_any}
+use Rattle.std.specs.Option.{option_map}
 use Rattle.std.specs.Ordering.{ordering_reverse}
 use Rattle.std.specs.declared.cmp.Ordering.{Ordering}
 use Rattle.std.specs.declared.cmp.Ordering.TheVariants.{Equal, Greater, Less}
-use Rattle.qfs_laws_tables.specs.EachRow.{each_place}
+use Rattle.qfs_laws_tables.specs.EachRow.{each_of_all, each_place}
 use Rattle.qfs_laws_tables.specs.InOrder.{place_rises}
 use Rattle.qfs_laws_tables.specs.Keys.{less-not}
 use Rattle.qfs_laws_tables.specs.Sums.{total}
@@ -129,20 +130,28 @@ find-placed order test new (row ∷ rows) own others =
       | Greater ↦ λ above. rw (others.0 above) (find-placed order test new rows own others.1)
     ] refl
 
-pub find-apart : {X : Type 0} (order : X → X → Ordering) (test : X → Bool) (new : X)
+pub find_beside : {X : Type 0} (order : X → X → Ordering) (test : X → Bool) (new : X)
     (rows : List X)
-    → test new ≡ false → ((row : X) → order new row ≡ Equal → test row ≡ false)
+    → test new ≡ false → Each (λ row. order new row ≡ Equal → test row ≡ false) rows
     → find test (place order new rows) ≡ find test rows
-find-apart order test new [] off apart = ap (λ b. cond b (Some new) None) off
-find-apart order test new (row ∷ rows) off apart =
+find_beside order test new [] off apart = ap (λ b. cond b (Some new) None) off
+find_beside order test new (row ∷ rows) off apart =
     elim (order new row) as (λ o. order new row ≡ o → find test
     (place_before new row rows (place order new rows) o) ≡ cond (test row) (Some row)
     (find test rows)) [
       | Less ↦ λ _. ap (λ b. cond b (Some new) (cond (test row) (Some row) (find test rows))) off
       | Equal ↦ λ tie. ap (λ b. cond b (Some new) (find test rows)) off ∙ sym
-          (ap (λ b. cond b (Some row) (find test rows)) (apart row tie))
-      | Greater ↦ λ _. ap (cond (test row) (Some row)) (find-apart order test new rows off apart)
+          (ap (λ b. cond b (Some row) (find test rows)) (apart.0 tie))
+      | Greater ↦ λ _. ap (cond (test row) (Some row))
+          (find_beside order test new rows off apart.1)
     ] refl
+
+pub find-apart : {X : Type 0} (order : X → X → Ordering) (test : X → Bool) (new : X)
+    (rows : List X)
+    → test new ≡ false → ((row : X) → order new row ≡ Equal → test row ≡ false)
+    → find test (place order new rows) ≡ find test rows
+find-apart order test new rows off apart =
+    find_beside order test new rows off (each_of_all _ apart rows)
 
 pub map-placed : {X Y : Type 0} (f : X → Y) (order : X → X → Ordering) (other : Y → Y → Ordering)
     → ((a b : X) → other (f a) (f b) ≡ order a b) → (new : X) (rows : List X)
@@ -198,3 +207,32 @@ map-changed f test other change make (row ∷ rows) same =
       | true ↦ λ is. (λ i. same.0.1 is i ∷ rest i)
       | false ↦ λ _. (λ i. f row ∷ rest i)
     ]) refl)
+
+-- what is found of rows that change where they pass, and pass still
+pub found_changed : {X : Type 0} (test : X → Bool) (change : X → X)
+    → ((row : X) → test (change row) ≡ test row) → (rows : List X)
+    → find test (change_where test change rows) ≡ option_map change (find test rows)
+found_changed test change same [] = refl
+found_changed test change same (row ∷ rows) =
+    let rest = change_where test change rows in
+    elim (test row) as (λ b. test row ≡ b → cond (test (change_row change row b))
+    (Some (change_row change row b)) (find test rest) ≡ option_map change
+    (cond b (Some row) (find test rows))) [
+      | true ↦ λ is. ap (λ b. cond b (Some (change row)) (find test rest)) (same row ∙ is)
+      | false ↦ λ off. ap (λ b. cond b (Some row) (find test rest)) off
+          ∙ found_changed test change same rows
+    ] refl
+
+-- rows none of which passes don't change
+pub change_none : {X : Type 0} (test : X → Bool) (change : X → X) (rows : List X)
+    → Each (λ row. test row ≡ false) rows → change_where test change rows ≡ rows
+change_none test change [] each = refl
+change_none test change (row ∷ rows) each =
+    λ i. change_row change row (each.0 i) ∷ change_none test change rows each.1 i
+
+pub change_append : {X : Type 0} (test : X → Bool) (change : X → X) (xs ys : List X)
+    → change_where test change (xs ++ ys)
+    ≡ change_where test change xs ++ change_where test change ys
+change_append test change [] ys = refl
+change_append test change (x ∷ xs) ys =
+    ap (λ rest. change_row change x (test x) ∷ rest) (change_append test change xs ys)

@@ -1,5 +1,5 @@
 -- Whether some row of a table passes a test, after rows are appended, mapped, kept by a test or
--- changed. Cited by the laws of slots, of the tree, of the metaserver and of puts and gets.
+-- changed. Cited by the other laws, and for leases and names.
 use Rattle.qfs_base.specs.Table.{Each, change_row, change_where}
 use Rattle.qfs_base.specs.declared.image.TreeRow.{TreeRow}
 use Rattle.std.proofs.Common.{Bool, List, None, Some, [], ap, cond, false, filter, find, map, refl}
@@ -210,3 +210,13 @@ none-there test (row ∷ rows) none any =
       | true ↦ λ none any. cc
       | false ↦ λ none any. none-there test rows none any
     ]) none any
+
+pub any_none : {X : Type 0} (test : X → Bool) (rows : List X) → Each (λ row. test row ≡ false) rows
+    → list_any test rows ≡ false
+any_none test [] each = refl
+any_none test (row ∷ rows) each = rw each.0 (any_none test rows each.1)
+
+pub any_mapped : {X Y : Type 0} (f : X → Y) (test : Y → Bool) (rows : List X)
+    → list_any test (map f rows) ≡ list_any (λ row. test (f row)) rows
+any_mapped f test [] = refl
+any_mapped f test (row ∷ rows) = ap (λ b. test (f row) || b) (any_mapped f test rows)

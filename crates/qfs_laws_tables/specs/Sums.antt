@@ -1,5 +1,5 @@
--- The sum of a weight over the rows of a table. Cited by the laws of slots, of the tree, of the
--- metaserver and of puts and gets.
+-- The sum of a weight over the rows of a table. Cited by the other laws, and for the name tree over
+-- tables.
 use Rattle.qfs_base.specs.Table.{Each, change_row, change_where}
 use Rattle.qfs_base.specs.declared.image.SlotRow.{SlotRow}
 use Rattle.std.proofs.Common.{Bool, List, Some, [], ap, arith, cond, false, filter, find, map, refl}

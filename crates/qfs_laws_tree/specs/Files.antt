@@ -1,5 +1,5 @@
 -- Files that are closed or given up, and the paths at which they stand. Cited by the laws of the
--- metaserver.
+-- metaserver and of puts and gets, and for names.
 use Rattle.qfs_base.specs.NameTree.{PathNames, is_filled, is_within, kind_at, look_refusal}
 use Rattle.qfs_base.specs.NameTree.{rename_refusal, rmdir_refusal, source_refusal, stands_at}
 use Rattle.qfs_base.specs.Path.{IsPath}

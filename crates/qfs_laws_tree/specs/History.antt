@@ -1,5 +1,5 @@
 -- The file history: after each change its entry may follow, and the files are the tree. Cited by
--- the laws of the metaserver.
+-- the laws of the metaserver and of puts and gets.
 use Rattle.qfs_base.specs.Files.{FileEntry, FollowFrom, IsClosed, Puts, close_entry, created_count}
 use Rattle.qfs_base.specs.Files.{creates, entry_at, entry_path, files_after, files_of}
 use Rattle.qfs_base.specs.Files.{files_standing, is_unclosed_content, is_unclosed_entry}

@@ -1,5 +1,5 @@
 -- The name tree after everything within a path moved to another. Cited by the laws of the
--- metaserver.
+-- metaserver, and for names.
 use Rattle.qfs_base.specs.NameTree.{PathNames, grows_too_deep, is_within, kind_at, most_names}
 use Rattle.qfs_base.specs.NameTree.{moved, path_cmp, path_eq, refused_if, rename_refusal, renamed}
 use Rattle.qfs_base.specs.NameTree.{row_cmp}

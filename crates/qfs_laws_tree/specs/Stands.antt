@@ -1,5 +1,5 @@
 -- What stands in the tree after a change stood before it, and the other way round. Cited by the
--- laws of the metaserver.
+-- laws of the metaserver, and for names.
 use Rattle.qfs_base.specs.NameTree.{PathNames, add_refusal, kind_at, look_refusal, path_eq}
 use Rattle.qfs_base.specs.NameTree.{rmdir_refusal, row_cmp, stands_at, taken}
 use Rattle.qfs_base.specs.Table.{Each, IsRising, change_where}

@@ -1,5 +1,5 @@
 -- The name tree: what its rows are, in a form that each change keeps. Cited by the laws of the
--- metaserver.
+-- metaserver, and for names.
 use Rattle.qfs_base.specs.NameTree.{PathNames, kind_at, parents_of, path_eq, row_cmp, stands_at}
 use Rattle.qfs_base.specs.Path.{IsPath}
 use Rattle.qfs_base.specs.Sizes.{MOST_FILE_BYTES}

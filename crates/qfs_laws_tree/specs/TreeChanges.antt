@@ -1,5 +1,5 @@
 -- The name tree: every change but the move keeps it, and what stands in it. Cited by the laws of
--- the metaserver.
+-- the metaserver, and for names.
 use Rattle.qfs_base.specs.NameTree.{PathNames, add_refusal, added, is_below, is_filled, kind_at}
 use Rattle.qfs_base.specs.NameTree.{look_refusal, path_eq, rmdir_refusal, row_cmp, taken}
 use Rattle.qfs_base.specs.Table.{Each, change_row, change_where, place}

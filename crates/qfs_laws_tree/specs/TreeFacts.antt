@@ -1,4 +1,5 @@
--- Paths, refusals of the name tree, and what stands in it. Cited by the laws of the metaserver.
+-- Paths, refusals of the name tree, and what stands in it. Cited by the laws of the metaserver and
+-- of puts and gets, and for names and the metaserver in memory.
 use Rattle.qfs_base.specs.NameTree.{PathNames, Standing, add_refusal, directory_refusal}
 use Rattle.qfs_base.specs.NameTree.{file_refusal, is_filled, is_within, kind_at, look_refusal}
 use Rattle.qfs_base.specs.NameTree.{new_refusal, parents_of, parents_refusal, path_eq}
@@ -8,22 +9,24 @@ use Rattle.qfs_base.specs.declared.image.TreeRow.{TreeRow}
 use Rattle.qfs_base.specs.declared.lists.NameKind.{NameKind}
 use Rattle.qfs_base.specs.declared.reply.TreeRefusal.{TreeRefusal}
 use Rattle.qfs_model_meta.specs.TreeRows.{kind_of, row_path, standing}
-use Rattle.std.proofs.Common.{Bool, List, None, Option, Some, [], ap, cond, false, find, length}
-use Rattle.std.proofs.Common.{map, nat_eq, refl, sym, take, true, ℕ, ◌∙◌, ◌∷◌, ◌≡◌, ◌≢◌}
+use Rattle.std.proofs.Common.{Bool, List, None, Option, Some, [], ap, arith, cond, false, find}
+use Rattle.std.proofs.Common.{length, map, nat_eq, refl, suc, sym, take, true, ℕ, ◌+◌, ◌-◌, ◌<◌}
+use Rattle.std.proofs.Common.{◌∙◌, ◌∷◌, ◌≡◌, ◌≢◌}
 use Rattle.std.proofs.lemmas.Bool.Decides.{Decides-eqb}
 use Rattle.std.proofs.lemmas.Slice.Eq.{slice_eq-Decides}
 use Rattle.std.specs.Bool.{Decides, then_some}
 use Rattle.std.specs.Cmp.{IsTotalOrder, on_total}
 use Rattle.std.specs.Cmp.Lexicographic.{lists_ties, lists_total, nat_list_cmp_total, pointwise}
 use Rattle.std.specs.Cmp.Lexicographic.{slice_cmp, texts_ties}
+use Rattle.std.specs.List.{range_with_len}
 use Rattle.std.specs.Option.{option_map, option_or}
 use Rattle.std.specs.Ordering.{is_eq, nat_cmp}
-use Rattle.std.specs.declared.cmp.Ordering.{Ordering}
-use Rattle.std.specs.declared.cmp.Ordering.TheVariants.{Equal, Greater, Less}
+use Rattle.std.specs.declared.cmp.Ordering.TheVariants.{Equal}
 use Rattle.qfs_base.specs.declared.lists.NameKind.TheVariants as Is
 use Rattle.qfs_base.specs.declared.reply.TreeRefusal.TheVariants as Not
 use Rattle.qfs_base.specs.EachLaws.{each_weaker}
 use Rattle.qfs_laws_tables.specs.EachRow.{each_of_all, found_has, none_found}
+use Rattle.qfs_laws_tables.specs.Keys.{equal-is}
 
 -- ---- paths
 
@@ -53,13 +56,8 @@ row-ties a b is =
 
 pub row-tied : (a b : TreeRow) → a.path ≡ b.path → row_cmp row_path a b ≡ Equal
 row-tied a b same =
-    equal_is _ (sym (lists_ties (slice_cmp nat_cmp) texts_ties a.path b.path) ∙ ap (path_eq a.path)
+    equal-is _ (sym (lists_ties (slice_cmp nat_cmp) texts_ties a.path b.path) ∙ ap (path_eq a.path)
     (sym same) ∙ path-self a.path)
-  where
-    equal_is : (o : Ordering) → is_eq o ≡ true → o ≡ Equal
-    equal_is Less e = absurd (cc)
-    equal_is Equal e = refl
-    equal_is Greater e = absurd (cc)
 
 -- ---- refusals
 
@@ -181,3 +179,17 @@ none-at tree (name ∷ names) none = (
     one : (o : Option TreeRow) → option_map kind_in o ≡ None → o ≡ None
     one None e = refl
     one (Some row) e = absurd (cc)
+
+-- a parent that may be led through leaves the choice to those below it
+pub parents_next : (refusal_at : PathNames → Option TreeRefusal) (names : PathNames) (depth : ℕ)
+    → depth < length names → refusal_at (take depth names) ≡ None
+    → first_of refusal_at (map (λ n. take n names)
+    (range_with_len depth (length names - depth)))
+    ≡ first_of refusal_at (map (λ n. take n names)
+    (range_with_len (depth + 1) (length names - (depth + 1))))
+parents_next refusal_at names depth within passed =
+    let count = length names - (depth + 1) in
+    let next : length names - depth ≡ suc count = omega arith in
+    ap (λ k. first_of refusal_at (map (λ n. take n names) (range_with_len depth k))) next
+    ∙ ap (λ o. option_or o (first_of refusal_at (map (λ n. take n names)
+    (range_with_len (depth + 1) count)))) passed
