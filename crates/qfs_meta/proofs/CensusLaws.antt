@@ -1,5 +1,6 @@
 -- What the loops of the choice of a server keep.
-use Rattle.std.proofs.Common.{◌≡◌, ℕ, ◌+◌, nat_lt, true, false, cond, not, ◌&&◌, List, [], ◌∷◌, ◌++◌, map, filter, fold, Option, Some, None, refl, sym, ap, ◌∙◌}
+use Rattle.std.proofs.Common.{◌≡◌, ℕ, ◌+◌, nat_lt, true, false, cond, not, ◌&&◌, List, [], ◌∷◌, map, filter, fold, Option, Some, None, refl, sym, ap, ◌∙◌}
+use Rattle.std.proofs.lemmas.List.Sums.{fold-append}
 use Rattle.std.specs.Option.{option_map}
 use Rattle.std.specs.List.{reduce, enumerate_from, flat_map}
 use Rattle.qfs_base.specs.declared.image.ServerView.{ServerView}
@@ -13,10 +14,6 @@ use Rattle.qfs_meta.specs.Candidates.{lighter_of, after_server, best_from}
 use Rattle.qfs_meta.specs.Granting.{granted_elsewhere, IsLeftOut}
 use Rattle.qfs_meta.specs.Loads.{loads_of}
 use Rattle.qfs_meta.proofs.LoadLaws.{loads_from}
-
-fold-append : {A B : Type 0} (f : B → A → B) (start : B) (xs ys : List A) → fold f start (xs ++ ys) ≡ fold f (fold f start xs) ys
-fold-append f start [] ys = refl
-fold-append f start (x ∷ xs) ys = fold-append f (f start x) xs ys
 
 -- the copies that the grants of these rows allow, but for those of a slot
 abbrev pub grants_of : ℕ → List SlotRow → List Copy

@@ -1,13 +1,11 @@
 -- Copies that are condemned one after another, and what giving a file up changes.
-use Rattle.std.proofs.Common.{◌≡◌, ℕ, ◌+◌, Bool, true, false, cond, not, List, [], ◌∷◌, ◌++◌, length, map, Option, Some, None, refl, sym, ap, subst, ◌∙◌, append_assoc, length-append, arith}
+use Rattle.std.proofs.Common.{◌≡◌, ℕ, ◌+◌, ◌==◌, Bool, true, false, cond, not, List, [], ◌∷◌, ◌++◌, length, map, Option, Some, None, refl, sym, ap, ◌∙◌, append_assoc, length-append, arith}
 use Rattle.std.specs.Bool.{then_some}
 use Rattle.std.specs.List.{cons_option}
 use Rattle.std.specs.Option.{option_to_list}
 use Rattle.std.proofs.lemmas.List.{append-nil}
-use Rattle.std.specs.Cmp.{ranked}
-use Rattle.std.specs.Ordering.{nat_cmp, is_eq, ordering_then}
-use Rattle.std.specs.declared.cmp.Ordering.{Ordering}
-use Rattle.std.specs.declared.cmp.Ordering.TheVariants.{Less, Equal, Greater}
+use Rattle.std.specs.Ordering.{nat_cmp, is_eq}
+use Rattle.std.specs.declared.cmp.Ordering.TheVariants.{Less}
 use Rattle.qfs_base.specs.declared.chunk.BlockId.{BlockId}
 use Rattle.qfs_base.specs.declared.chunk.Copy.{Copy}
 use Rattle.qfs_base.specs.declared.history.Entry.TheVariants as Wrote
@@ -18,18 +16,22 @@ use Rattle.qfs_base.specs.declared.image.SlotRecord.{SlotRecord}
 use Rattle.qfs_base.specs.declared.image.SlotRow.{SlotRow}
 use Rattle.qfs_base.specs.declared.request.SlotId.{SlotId}
 use Rattle.qfs_base.specs.Table.{Each, IsRising, change_row, change_where}
-use Rattle.qfs_model_meta.specs.Apply.{apply, apply_all, write_entry, with_slots, change_record, give_up, fail_grant}
+use Rattle.qfs_model_meta.specs.Apply.{apply, apply_all, write_entry, with_slots, change_record, give_up}
 use Rattle.qfs_base.specs.declared.change.Change.{Change}
-use Rattle.qfs_base.specs.declared.change.Change.TheVariants.{GiveUp, AbortFile, FailGrant}
+use Rattle.qfs_base.specs.declared.change.Change.TheVariants.{GiveUp, AbortFile}
 use Rattle.qfs_model_meta.specs.Condemned.{condemn, condemned_row, list_if_live}
 use Rattle.qfs_model_meta.specs.PutRequests.{abort_changes}
 use Rattle.qfs_model_meta.specs.Servers.{is_live}
-use Rattle.qfs_model_meta.specs.Slots.{is_slot, is_of_file, slot_at, slot_cmp, slots_of, change_slot, change_state, forget_file, ungranted_slot, failed_slot}
+use Rattle.qfs_model_meta.specs.Slots.{is_slot, is_of_file, slot_at, slot_cmp, slots_of, change_slot, change_state, forget_file, never_granted, ungranted_slot}
 use Rattle.qfs_model_meta.specs.TreeRows.{take_file}
 use Rattle.qfs_meta.specs.Condemning.{condemned_rows, condemning, live_granted, live_grants, aborting}
 use Rattle.qfs_meta.specs.declared.condemning.SlotCopy.{SlotCopy}
 use Rattle.qfs_meta.proofs.StepLaws.{last_change}
-use Rattle.qfs_meta.proofs.RisingLaws.{each_weaker, each_both, each_filtered, each_passes, each_found, filter_rises, eq_is, same_key, slot_at-other}
+use Rattle.qfs_base.specs.EachLaws.{each_filter, each_weaker}
+use Rattle.qfs_laws_tables.specs.EachRow.{each_both, each_passes}
+use Rattle.qfs_laws_tables.specs.InOrder.{filter_rises}
+use Rattle.qfs_laws_tables.specs.Keys.{less-not}
+use Rattle.qfs_laws_slots.specs.Slots.{changed-other, is_slot-is, not_slot, of_file-is, rows-found}
 
 -- ---- one after another
 
@@ -80,69 +82,12 @@ unfolding give_up change_record with_slots
 give_up-is id grant m =
     ap (λ (n : MetaImage). record n { slots = change_slot id.block id.slot ungranted_slot n.slots }) (condemn-is id grant m)
 
--- ---- a failed grant
-
-key_kept : (id : SlotId) (change : SlotRecord → SlotRecord) (row : SlotRow) (b : Bool) →
-    is_slot id.block id.slot (change_row (change_state change) row b) ≡ is_slot id.block id.slot row
-key_kept id change row true = same_key change row id.block id.slot
-key_kept id change row false = refl
-
-changed_at : (first then : SlotRecord → SlotRecord) (row : SlotRow) (b : Bool) →
-    change_row (change_state then) (change_row (change_state first) row b) b ≡ change_row (change_state (λ state. then (first state))) row b
-unfolding change_state
-changed_at first then row true = refl
-changed_at first then row false = refl
-
--- a slot's record changes, and then again
-change_twice : (id : SlotId) (first then : SlotRecord → SlotRecord) (slots : List SlotRow) →
-    change_slot id.block id.slot then (change_slot id.block id.slot first slots) ≡ change_slot id.block id.slot (λ state. then (first state)) slots
-unfolding change_slot
-change_twice id first then [] = refl
-change_twice id first then (row ∷ rows) =
-    let here = is_slot id.block id.slot row in
-    let once : SlotRow = change_row (change_state first) row here in
-    let head : change_row (change_state then) once (is_slot id.block id.slot once) ≡ change_row (change_state (λ state. then (first state))) row here =
-    ap (change_row (change_state then) once) (key_kept id first row here) ∙ changed_at first then row here in
-    λ i. head i ∷ change_twice id first then rows i
-
-pub condemn-slots : (block : BlockId) (slot : ℕ) (copy : Copy) (m : MetaImage) → (condemn block slot copy m).slots ≡ m.slots
-unfolding condemn list_if_live
-condemn-slots block slot copy m =
-    elim (is_live m.servers copy) as (λ b. (list_if_live (condemned_row m.next_condemned block slot copy m.leases) m b).slots ≡ m.slots) [ true ↦ refl | false ↦ refl ]
-
--- a slot's record once its server failed the put
-abbrev pub without_failed : ℕ → SlotRecord → SlotRecord
-without_failed server state = failed_slot server (ungranted_slot state)
-
--- what is left once the server of a slot's pending grant failed the put
-pub failed-is : (id : SlotId) (grant : Grant) (m : MetaImage) → (slot_at m.slots id.block id.slot).grant ≡ Some grant →
-    apply m (FailGrant id.block id.slot)
-    ≡ record (condemn id.block id.slot grant.copy m) { slots = change_slot id.block id.slot (without_failed grant.copy.server) m.slots }
-unfolding apply fail_grant give_up change_record with_slots
-failed-is id grant m pending =
-    let slots = ap (λ slots. change_slot id.block id.slot (failed_slot grant.copy.server) (change_slot id.block id.slot ungranted_slot slots)) (condemn-slots id.block id.slot grant.copy m)
-    ∙ change_twice id ungranted_slot (failed_slot grant.copy.server) m.slots in
-    ap (fail_grant id.block id.slot m) pending
-    ∙ (λ i. record (condemn id.block id.slot grant.copy m) { slots = slots i })
-
-pub condemn-servers : (block : BlockId) (slot : ℕ) (copy : Copy) (m : MetaImage) → (condemn block slot copy m).servers ≡ m.servers
-unfolding condemn list_if_live
-condemn-servers block slot copy m =
-    elim (is_live m.servers copy) as (λ b. (list_if_live (condemned_row m.next_condemned block slot copy m.leases) m b).servers ≡ m.servers) [ true ↦ refl | false ↦ refl ]
-
 -- ---- the grants of a file
-
-first_eq : (o p : Ordering) → is_eq (ordering_then o p) ≡ true → is_eq o ≡ true
-first_eq Less p e = e
-first_eq Equal p e = refl
-first_eq Greater p e = e
 
 -- a row under the key of another one is of its file
 same_file : (file : ℕ) (row other : SlotRow) → is_of_file file row ≡ true → is_slot row.block row.slot other ≡ true → is_of_file file other ≡ true
-unfolding is_of_file is_slot
 same_file file row other of is =
-    let same : row.block.file ≡ other.block.file = ranked row.block.file other.block.file Equal (sym (eq_is _ (first_eq _ _ (first_eq _ _ is)))) in
-    subst (λ n. is_eq (nat_cmp file n) ≡ true) same of
+    of_file-is file other ∙ ap (λ (block : BlockId). block.file == file) (is_slot-is row.block row.slot other is).0 ∙ sym (of_file-is file row) ∙ of
 
 forget_at : (file : ℕ) (row other : SlotRow) (b : Bool) (xs ys : List SlotRow) → is_of_file file row ≡ true → (is_slot row.block row.slot other ≡ b) →
     forget_file file xs ≡ forget_file file ys →
@@ -162,6 +107,14 @@ unfolding change_slot
 forget_changed file row [] of = refl
 forget_changed file row (other ∷ slots) of =
     forget_at file row other (is_slot row.block row.slot other) (change_where (is_slot row.block row.slot) (change_state ungranted_slot) slots) slots of refl (forget_changed file row slots of)
+
+-- and leaves what is known of a slot above it
+still_known : (slots : List SlotRow) (row later : SlotRow) → slot_cmp row later ≡ Less →
+    slot_at (change_slot row.block row.slot ungranted_slot slots) later.block later.slot ≡ slot_at slots later.block later.slot
+unfolding slot_cmp
+still_known slots row later above =
+    changed-other row.block later.block row.slot later.slot ungranted_slot slots
+    (not_slot row (record { block = later.block; slot = later.slot; state = never_granted }) Less above less-not)
 
 -- grants of slots of a file are given up one after another: the live ones are condemned, and the slots of other files
 -- stay
@@ -196,7 +149,7 @@ gives_up file (row ∷ rows) m rising found of =
           let between : List SlotRow = change_slot row.block row.slot ungranted_slot m.slots in
           let first : List SlotCopy = option_to_list (live_granted m.servers id (Some grant)) in
           let now : MetaImage = record (condemning first m) { slots = between } in
-          let still = each_weaker _ _ (λ later both. slot_at-other m.slots ungranted_slot row later both.0 ∙ both.1) rows
+          let still = each_weaker _ _ (λ later both. still_known m.slots row later both.0 ∙ both.1) rows
           (each_both (λ later. slot_cmp row later ≡ Less) (λ later. slot_at m.slots later.block later.slot ≡ later.state) rows rising.0 found.1) in
           let rest = gives_up file rows now rising.1 still of.1 in
           record {
@@ -217,7 +170,7 @@ pub abort-is : (file : ℕ) (m : MetaImage) → IsRising slot_cmp m.slots → ap
 unfolding abort_changes apply_all apply write_entry with_slots slots_of
 abort-is file m rising =
     let rows : List SlotRow = slots_of file m.slots in
-    let done = gives_up file rows m (filter_rises slot_cmp (is_of_file file) m.slots rising) (each_filtered _ (is_of_file file) m.slots (each_found m.slots rising)) (each_passes (is_of_file file) m.slots) in
+    let done = gives_up file rows m (filter_rises slot_cmp (is_of_file file) m.slots rising) (each_filter _ (is_of_file file) m.slots (rows-found m.slots rising)) (each_passes (is_of_file file) m.slots) in
     last_change m (map (λ (row : SlotRow). GiveUp row.block row.slot) rows) (AbortFile file)
     ∙ ap (λ (n : MetaImage). apply n (AbortFile file)) done.is
     ∙ (λ i. record (condemning (live_grants m.servers rows) m) {

@@ -14,12 +14,10 @@ use Rattle.qfs_base.specs.Table.{Each, IsRising, place, place_before, change_row
 use Rattle.qfs_model_meta.specs.Slots.{is_on, count_on, is_slot, is_of_block, slot_cmp, slot_at, never_granted, grants_of_block, granted_copy, ungranted_slot, change_state, change_slot, without_grant}
 use Rattle.qfs_meta.specs.Granting.{granted_elsewhere, granted_beside, IsLeftOut}
 use Rattle.qfs_meta.proofs.LoadLaws.{copies_of_row, count_on-next}
-use Rattle.qfs_meta.proofs.RisingLaws.{each_weaker, above_too, in_its_place, slot_cmp_total, eq_is, slot_at-here, slot_at-behind, none_above, each_known, same_key}
-use Rattle.qfs_meta.proofs.RunLaws.{change_none}
-use Rattle.qfs_meta.proofs.SlotLaws.{numbers_agree}
-
-none_some : {X : Type 0} (x : X) → None ≡ Some x → ⊥
-none_some x e = cc
+use Rattle.qfs_base.specs.EachLaws.{each_weaker}
+use Rattle.qfs_laws_tables.specs.Keys.{equal-is, key-is, less-not}
+use Rattle.qfs_laws_tables.specs.Placed.{change_none}
+use Rattle.qfs_laws_slots.specs.Slots.{is_slot-is, not_slot, rows-found, slot_at-behind, slot_at-here, slot_cmp_total}
 
 -- ---- the grants of a block's other slots
 
@@ -27,8 +25,8 @@ none_some x e = cc
 slot_in_block : (id : SlotId) (row : SlotRow) → is_of_block id.block row ≡ true → is_slot id.block id.slot row ≡ (row.slot == id.slot)
 unfolding is_of_block is_slot
 slot_in_block id row of =
-    ap (λ o. is_eq (ordering_then o (nat_cmp id.slot row.slot))) (eq_is (block_cmp id.block row.block) of)
-    ∙ sym (numbers_agree row.slot id.slot)
+    ap (λ o. is_eq (ordering_then o (nat_cmp id.slot row.slot))) (equal-is (block_cmp id.block row.block) of)
+    ∙ key-is id.slot row.slot
 
 block_kept : (id : SlotId) (row : SlotRow) (b : Bool) → is_of_block id.block (change_row (change_state ungranted_slot) row b) ≡ is_of_block id.block row
 unfolding is_of_block change_state
@@ -79,9 +77,13 @@ beside_first id (row ∷ rows) none =
 
 -- ---- the copies of the slots with a grant left out
 
-not_slots : (id : SlotId) (change : SlotRecord → SlotRecord) (row : SlotRow) (rows : List SlotRow) → is_slot id.block id.slot row ≡ true → Each (λ later. slot_cmp row later ≡ Less) rows →
-    change_where (is_slot id.block id.slot) (change_state change) rows ≡ rows
-not_slots id change row rows here above = change_none (is_slot id.block id.slot) (change_state change) rows (none_above id row rows here above)
+-- no row above a slot's own is of the slot
+none_above : (id : SlotId) (row : SlotRow) (rows : List SlotRow) → is_slot id.block id.slot row ≡ true → Each (λ later. slot_cmp row later ≡ Less) rows →
+    Each (λ later. is_slot id.block id.slot later ≡ false) rows
+none_above id row rows here above =
+    let own = is_slot-is id.block id.slot row here in
+    each_weaker _ _ (λ later below.
+    (λ i. is_slot (sym own.0 i) (sym own.1 i) later) ∙ not_slot row later Less below less-not) rows above
 
 freed_row : (server life : ℕ) (row : SlotRow) (grant : Grant) → row.state.grant ≡ Some grant →
     copies_of_row server life row ≡ copies_of_row server life (change_state ungranted_slot row) + count_by (is_on server life) (grant.copy ∷ [])
@@ -95,7 +97,7 @@ freed_row server life row grant pending =
 freed_count : (id : SlotId) (grant : Grant) (slots : List SlotRow) → IsRising slot_cmp slots → (slot_at slots id.block id.slot).grant ≡ Some grant → (server life : ℕ) →
     count_on server life slots ≡ count_on server life (change_slot id.block id.slot ungranted_slot slots) + count_by (is_on server life) (grant.copy ∷ [])
 unfolding change_slot slot_at never_granted
-freed_count id grant [] rising pending server life = absurd (none_some grant pending)
+freed_count id grant [] rising pending server life = absurd (cc)
 freed_count id grant (row ∷ rows) rising pending server life =
     let rest : List SlotRow = change_where (is_slot id.block id.slot) (change_state ungranted_slot) rows in
     let copies : ℕ = count_by (is_on server life) (grant.copy ∷ []) in
@@ -104,13 +106,13 @@ freed_count id grant (row ∷ rows) rising pending server life =
       | true ↦ λ here.
           let whole = count_on-next server life row rows in
           let freed = count_on-next server life (change_state ungranted_slot row) rest in
-          let same : count_on server life rest ≡ count_on server life rows = ap (count_on server life) (not_slots id ungranted_slot row rows here rising.0) in
-          let left = freed_row server life row grant (ap (λ (state : SlotRecord). state.grant) (sym (slot_at-here row rows id.block id.slot here)) ∙ pending) in
+          let same : count_on server life rest ≡ count_on server life rows = ap (count_on server life) (change_none (is_slot id.block id.slot) (change_state ungranted_slot) rows (none_above id row rows here rising.0)) in
+          let left = freed_row server life row grant (ap (λ (state : SlotRecord). state.grant) (sym (slot_at-here id.block id.slot row rows here)) ∙ pending) in
           omega (arith, whole, freed, same, left)
       | false ↦ λ other.
           let whole = count_on-next server life row rows in
           let freed = count_on-next server life row rest in
-          let left = freed_count id grant rows rising.1 (ap (λ (state : SlotRecord). state.grant) (sym (slot_at-behind row rows id.block id.slot other)) ∙ pending) server life in
+          let left = freed_count id grant rows rising.1 (ap (λ (state : SlotRecord). state.grant) (sym (slot_at-behind id.block id.slot row rows other)) ∙ pending) server life in
           omega (arith, whole, freed, left)
     ] refl
 
@@ -131,32 +133,12 @@ pub others_granted : (id : SlotId) (slots : List SlotRow) (pending : Option Gran
 unfolding without_grant
 others_granted id slots None rising is =
     beside_first id slots
-    (each_weaker _ _ (λ row known here. ap (λ (state : SlotRecord). state.grant) (sym (known here)) ∙ is) slots (each_known id slots rising))
+    (each_weaker _ _ (λ row known here.
+    let own = is_slot-is id.block id.slot row here in
+    ap (λ (state : SlotRecord). state.grant) (sym known ∙ (λ i. slot_at slots (own.0 i) (own.1 i))) ∙ is) slots (rows-found slots rising))
 others_granted id slots (Some grant) rising is = beside_freed id slots
 
--- ---- a slot's record after a change, and one that is put in its place
-
-changed_state : (change : SlotRecord → SlotRecord) (row : SlotRow) → (change_state change row).state ≡ change row.state
-unfolding change_state
-changed_state change row = refl
-
-pub known_changed : (id : SlotId) (change : SlotRecord → SlotRecord) (slots : List SlotRow) (grant : Grant) → (slot_at slots id.block id.slot).grant ≡ Some grant →
-    slot_at (change_slot id.block id.slot change slots) id.block id.slot ≡ change (slot_at slots id.block id.slot)
-unfolding change_slot slot_at never_granted
-known_changed id change [] grant pending = absurd (none_some grant pending)
-known_changed id change (row ∷ rows) grant pending =
-    let rest : List SlotRow = change_where (is_slot id.block id.slot) (change_state change) rows in
-    elim (is_slot id.block id.slot row) as (λ b. is_slot id.block id.slot row ≡ b →
-    slot_at (change_row (change_state change) row b ∷ rest) id.block id.slot ≡ change (slot_at (row ∷ rows) id.block id.slot)) [
-      | true ↦ λ here.
-          slot_at-here (change_state change row) rest id.block id.slot (same_key change row id.block id.slot ∙ here)
-          ∙ changed_state change row
-          ∙ ap change (sym (slot_at-here row rows id.block id.slot here))
-      | false ↦ λ other.
-          slot_at-behind row rest id.block id.slot other
-          ∙ known_changed id change rows grant (ap (λ (state : SlotRecord). state.grant) (sym (slot_at-behind row rows id.block id.slot other)) ∙ pending)
-          ∙ ap change (sym (slot_at-behind row rows id.block id.slot other))
-    ] refl
+-- ---- a row that is put in its place
 
 abbrev row_of : SlotId → SlotRecord → SlotRow
 row_of id state = record { block = id.block; slot = id.slot; state = state }
@@ -185,7 +167,7 @@ placed_again id change state (row ∷ rows) rising =
     ap (place_before new changed rest (place slot_cmp new rest)) (cmp_kept new change row (test row))
     ∙ elim (slot_cmp new row) as (λ o. slot_cmp new row ≡ o → place_before new changed rest (place slot_cmp new rest) o ≡ place_before new row rows (place slot_cmp new rows) o) [
       | Less ↦ λ below i.
-          new ∷ change_row (change_state change) row ((is_slot-cmp id state row ∙ ap is_eq below) i) ∷ apart (above_too slot_cmp_total new row rows below rising.0) i
-      | Equal ↦ λ same i. new ∷ apart (in_its_place slot_cmp_total new row rows same rising.0) i
+          new ∷ change_row (change_state change) row ((is_slot-cmp id state row ∙ ap is_eq below) i) ∷ apart (each_weaker _ _ (λ later above. slot_cmp_total.trans new row later below above) rows rising.0) i
+      | Equal ↦ λ same i. new ∷ apart (each_weaker _ _ (λ later above. slot_cmp_total.congr new row later same ∙ above) rows rising.0) i
       | Greater ↦ λ above i. change_row (change_state change) row ((is_slot-cmp id state row ∙ ap is_eq above) i) ∷ placed_again id change state rows rising.1 i
     ] refl

@@ -14,19 +14,22 @@ use Rattle.qfs_base.specs.declared.request.SlotId.{SlotId}
 use Rattle.qfs_base.specs.Outcome.{meta_outcome}
 use Rattle.qfs_base.specs.Shape.{Shape}
 use Rattle.qfs_base.specs.Table.{IsRising}
-use Rattle.qfs_model_meta.specs.Apply.{apply, apply_all, grant_slot, with_slots}
+use Rattle.qfs_model_meta.specs.Apply.{apply, apply_all, change_record, fail_grant, give_up, grant_slot, with_slots}
 use Rattle.qfs_model_meta.specs.Condemned.{condemn, condemn_any}
 use Rattle.qfs_model_meta.specs.Lists.{block_count, no_sources, new_grant}
 use Rattle.qfs_model_meta.specs.PutRequests.{decide_grant, grant_in, grant_for_put, chosen_for_put, put_granted, taken_refusal, failed_grant}
 use Rattle.qfs_model_meta.specs.Servers.{server_at}
-use Rattle.qfs_model_meta.specs.Slots.{slot_at, slot_cmp, with_slot, change_slot, granted_copy, granted_slot}
+use Rattle.qfs_model_meta.specs.Slots.{is_slot, slot_at, slot_cmp, with_slot, change_slot, failed_slot, granted_copy, granted_slot, ungranted_slot}
 use Rattle.qfs_model_meta.specs.Step.{next_turn}
 use Rattle.qfs_model_meta.specs.TreeRows.{unclosed_file}
 use Rattle.qfs_meta.specs.Granting.{freed, granted_in, granting, grant_chosen}
 use Rattle.qfs_meta.specs.Kept.{IsKept}
 use Rattle.qfs_meta.specs.Serving.{Serves}
-use Rattle.qfs_meta.proofs.CondemnLaws.{condemn-servers, failed-is, without_failed}
-use Rattle.qfs_meta.proofs.FreedLaws.{known_changed, placed_again}
+use Rattle.qfs_laws_slots.specs.Condemning.{condemn_any-frame}
+use Rattle.qfs_laws_slots.specs.Losing.{condemned-slots}
+use Rattle.qfs_laws_slots.specs.Slots.{failed_change}
+use Rattle.qfs_meta.proofs.FreedLaws.{placed_again}
+use Rattle.qfs_meta.proofs.SlotLaws.{changed_rises}
 use Rattle.qfs_meta.proofs.StepLaws.{tells, makes, served_as, refuse_some, refuse_none, unless_true, unless_false, need_some, need_none}
 
 -- the slot gets its grant
@@ -36,20 +39,34 @@ grant-is : (m : MetaImage) (id : SlotId) (server actor : ℕ) →
 unfolding apply grant_slot with_slots
 grant-is m id server actor = refl
 
+-- what is left once the server of a slot's pending grant failed the put
+failed-is : (id : SlotId) (grant : Grant) (m : MetaImage) → (slot_at m.slots id.block id.slot).grant ≡ Some grant →
+    apply m (FailGrant id.block id.slot)
+    ≡ record (condemn id.block id.slot grant.copy m) { slots = change_slot id.block id.slot (failed_slot grant.copy.server) (change_slot id.block id.slot ungranted_slot m.slots) }
+unfolding apply fail_grant give_up change_record with_slots condemn_any
+failed-is id grant m pending =
+    ap (fail_grant id.block id.slot m) pending
+    ∙ (λ i. record (condemn id.block id.slot grant.copy m) {
+      slots = change_slot id.block id.slot (failed_slot grant.copy.server)
+          (change_slot id.block id.slot ungranted_slot (condemned-slots id.block id.slot m (Some grant.copy) i));
+    })
+
 -- in place of a pending one, which is condemned
 granted-again : (id : SlotId) (server actor : ℕ) (m : MetaImage) (grant : Grant) → IsRising slot_cmp m.slots → (slot_at m.slots id.block id.slot).grant ≡ Some grant →
     apply (apply m (FailGrant id.block id.slot)) (GrantSlot id.block id.slot server actor 0)
     ≡ record (condemn id.block id.slot grant.copy m) {
       slots = with_slot id.block id.slot
-          (granted_slot server (server_at m.servers server).life actor 0 (without_failed grant.copy.server (slot_at m.slots id.block id.slot))) m.slots;
+          (granted_slot server (server_at m.servers server).life actor 0 (freed (Some grant) (slot_at m.slots id.block id.slot))) m.slots;
     }
-unfolding with_slot
+unfolding with_slot change_slot condemn_any
 granted-again id server actor m grant rising pending =
-    let slots : List SlotRow = change_slot id.block id.slot (without_failed grant.copy.server) m.slots in
-    let state = known_changed id (without_failed grant.copy.server) m.slots grant pending in
-    let granted : SlotRecord = granted_slot server (server_at m.servers server).life actor 0 (without_failed grant.copy.server (slot_at m.slots id.block id.slot)) in
-    let placed = placed_again id (without_failed grant.copy.server) granted m.slots rising in
-    let servers = condemn-servers id.block id.slot grant.copy m in
+    let ungranted : List SlotRow = change_slot id.block id.slot ungranted_slot m.slots in
+    let slots : List SlotRow = change_slot id.block id.slot (failed_slot grant.copy.server) ungranted in
+    let state = failed_change grant.copy.server id.block id.slot m.slots grant pending in
+    let granted : SlotRecord = granted_slot server (server_at m.servers server).life actor 0 (freed (Some grant) (slot_at m.slots id.block id.slot)) in
+    let placed = placed_again id (failed_slot grant.copy.server) granted ungranted (changed_rises ungranted_slot (is_slot id.block id.slot) m.slots rising)
+    ∙ placed_again id ungranted_slot granted m.slots rising in
+    let servers = ap (λ (n : MetaImage). n.servers) (condemn_any-frame id.block id.slot m (Some grant.copy)).is in
     ap (λ n. apply n (GrantSlot id.block id.slot server actor 0)) (failed-is id grant m pending)
     ∙ grant-is (record (condemn id.block id.slot grant.copy m) { slots = slots }) id server actor
     ∙ (λ i. record (condemn id.block id.slot grant.copy m) { slots = with_slot id.block id.slot (granted_slot server (server_at (servers i) server).life actor 0 (state i)) slots })

@@ -11,7 +11,6 @@ pub mod ServerLaws
 pub mod StepLaws
 pub mod TableLaws
 pub mod TreeLaws
-pub mod RisingLaws
 pub mod RunLaws
 pub mod SlotLaws
 pub mod CondemnLaws

@@ -1,6 +1,7 @@
 -- Lists that are walked, or built for one number after another.
-use Rattle.std.proofs.Common.{◌≡◌, ℕ, suc, ◌+◌, ◌-◌, ◌<◌, ◌≤◌, Bool, true, false, cond, find, Some, None, List, [], ◌∷◌, ◌++◌, length, drop, slice_index_or, map, refl, sym, ap, ◌∙◌, append_assoc, arith}
+use Rattle.std.proofs.Common.{◌≡◌, ℕ, suc, ◌+◌, ◌-◌, ◌<◌, ◌≤◌, Bool, true, false, cond, find, Some, None, List, [], ◌∷◌, ◌++◌, length, drop, slice_index_or, map, sym, ap, ◌∙◌, append_assoc, arith}
 use Rattle.std.proofs.lemmas.List.{drop_more}
+use Rattle.std.proofs.lemmas.List.Folds.{find-append}
 use Rattle.std.specs.List.{range_with_len, flat_map}
 use Rattle.std.specs.Option.{option_or}
 
@@ -49,20 +50,13 @@ find-next test f at count within fails =
     ap (λ numbers. find test (map f numbers)) (range-next at count within)
     ∙ ap (λ b. cond b (Some (f at)) (find test (map f (range_with_len (at + 1) (count - (at + 1)))))) fails
 
--- what is found in two lists is found in the first or else in the second
-pub find_append : {X : Type 0} (test : X → Bool) (xs ys : List X) → find test (xs ++ ys) ≡ option_or (find test xs) (find test ys)
-find_append test [] ys = refl
-find_append test (x ∷ xs) ys =
-    elim (test x) as (λ b. cond b (Some x) (find test (xs ++ ys)) ≡ option_or (cond b (Some x) (find test xs)) (find test ys))
-    [ true ↦ refl | false ↦ find_append test xs ys ]
-
 -- what is found among the lists of numbers is in this one's list, or it is further on
 pub find_flat : {X : Type 0} (test : X → Bool) (f : ℕ → List X) (at count : ℕ) → at < count →
     find test (flat_map f (range_with_len at (count - at)))
     ≡ option_or (find test (f at)) (find test (flat_map f (range_with_len (at + 1) (count - (at + 1)))))
 find_flat test f at count within =
     ap (λ numbers. find test (flat_map f numbers)) (range-next at count within)
-    ∙ find_append test (f at) (flat_map f (range_with_len (at + 1) (count - (at + 1))))
+    ∙ find-append test (f at) (flat_map f (range_with_len (at + 1) (count - (at + 1))))
 
 pub find_flat-here : {X : Type 0} (test : X → Bool) (f : ℕ → List X) (at count : ℕ) (x : X) → at < count → find test (f at) ≡ Some x →
     find test (flat_map f (range_with_len at (count - at))) ≡ Some x
@@ -95,6 +89,8 @@ pub find_flat-start : {X : Type 0} (test : X → Bool) (f : ℕ → List X) (cou
 find_flat-start test f count =
     let all : count - 0 ≡ count = omega arith in
     ap (λ n. find test (flat_map f (range_with_len 0 n))) all
+
+pub ruleset find_both = (find-append)
 
 pub ruleset find_steps = (find-here, find-next, find-end)
 

@@ -1,6 +1,6 @@
 -- How the loads of the servers change with the rows of the table of slots.
 use Rattle.std.proofs.Common.{◌≡◌, ℕ, zero, suc, ◌+◌, ◌*◌, ◌<◌, ◌≤◌, Bool, false, List, [], ◌∷◌, ◌++◌, length, take, drop, map, replicate, slice_range, slice_set, slice_index_or, count_by, Option, Some, None, refl, ap, sym, ◌∙◌, append_assoc, length-append, arith}
-use Rattle.std.proofs.lemmas.List.{take_more, take_all, drop_more, set_at, get_or_at, append-nil, length-take-le, length-drop}
+use Rattle.std.proofs.lemmas.List.{take_more, take_all, drop_more, set_at, get_or_at, append-nil, length-drop, length-map, length-take-le}
 use Rattle.std.proofs.Math.ListN.{drop_of_length-le}
 use Rattle.std.proofs.lemmas.List.Sums.{sum_by-append, count_by-le-length}
 use Rattle.std.specs.Option.{option_to_list}
@@ -17,6 +17,7 @@ use Rattle.qfs_model_meta.specs.Leases.{give_lease}
 use Rattle.qfs_model_meta.specs.Placing.{load_of, census}
 use Rattle.qfs_model_meta.specs.Step.{next_turn}
 use Rattle.qfs_model_meta.specs.Slots.{is_on, count_on, granted_copy}
+use Rattle.qfs_laws_slots.specs.Choice.{census-length}
 use Rattle.qfs_meta.specs.Loads.{loads_of}
 use Rattle.qfs_meta.proofs.RunLaws.{three_parts}
 
@@ -88,10 +89,6 @@ past_end = record { up = false; leaving = false; life = 0; until = 0 }
 abbrev pub loads_from : ℕ → List ServerView → List SlotRow → List ℕ
 loads_from number servers slots = map (λ (load : Load). load.count) (map (λ (s : ℕ × ServerView). load_of slots s.0 s.1) (enumerate_from number servers))
 
-length-loads_from : (number : ℕ) (servers : List ServerView) (slots : List SlotRow) → length (loads_from number servers slots) ≡ length servers
-length-loads_from number [] slots = refl
-length-loads_from number (server ∷ servers) slots = ap suc (length-loads_from (number + 1) servers slots)
-
 loads_from-at : (number : ℕ) (servers : List ServerView) (slots : List SlotRow) (at : ℕ) (d : ℕ) (e : ServerView) → at < length servers →
     slice_index_or (loads_from number servers slots) at d ≡ count_on (number + at) (slice_index_or servers at e).life slots
 unfolding load_of
@@ -105,7 +102,7 @@ loads_from-at number (server ∷ servers) slots (suc at) d e within =
 
 pub length-loads : (servers : List ServerView) (slots : List SlotRow) → length (loads_of servers slots) ≡ length servers
 unfolding census
-length-loads servers slots = length-loads_from 1 servers slots
+length-loads servers slots = length-map _ _ ∙ census-length slots 1 servers
 
 -- the load of one server is what the rows of a run add to the load without them
 pub load-parts : (servers : List ServerView) (slots : List SlotRow) (from to at d : ℕ) (e : ServerView) → from ≤ to → at < length servers →

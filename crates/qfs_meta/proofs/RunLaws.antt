@@ -1,13 +1,13 @@
 -- The rows of a table that have a key stand next to each other, and a binary search finds them.
 use Rattle.std.proofs.Common.{◌≡◌, ℕ, zero, suc, ◌+◌, ◌-◌, ◌≤◌, ◌<◌, nat_lt, Bool, true, false, cond, not, List, [], ◌∷◌, ◌++◌, length, take, drop, map, filter, find, slice_range, slice_get, slice_set, slice_index_or, insert, Some, true≢false, refl, sym, ap, ◌∙◌, subst, add-one, append_assoc, length-append, arith}
 use Rattle.std.proofs.lemmas.Bool.Decides.{nat_tests}
-use Rattle.std.proofs.lemmas.List.{append-nil, take-append-drop, drop-drop, set_split, length-take-le, take_at, drop_at}
-use Rattle.std.proofs.lemmas.List.Edits.{get_or-between, length-between}
-use Rattle.std.proofs.lemmas.List.Elements.{All-head, All-tail, filter-append}
+use Rattle.std.proofs.lemmas.List.{append-nil, nil_from_length, take-append-drop, drop-drop, set_split, length-take-le, take_at, drop_at}
+use Rattle.std.proofs.lemmas.List.Edits.{length-between}
+use Rattle.std.proofs.lemmas.List.Elements.{filter-append}
 use Rattle.std.proofs.lemmas.List.Folds.{drop_split}
 use Rattle.std.proofs.lemmas.Slice.{between_from_start, between_to_end}
 use Rattle.std.specs.Cmp.{IsTotalOrder}
-use Rattle.std.specs.List.{All, AllWithin}
+use Rattle.std.specs.List.{AllWithin}
 use Rattle.std.specs.List.Sorted.{IsPartitionPoint}
 use Rattle.std.specs.Ordering.{is_eq, is_gt, is_ge, is_le, ordering_reverse, ordering_then}
 use Rattle.std.specs.declared.cmp.Ordering.{Ordering}
@@ -15,7 +15,9 @@ use Rattle.std.specs.declared.cmp.Ordering.TheVariants.{Less, Equal, Greater}
 use Rattle.qfs_base.specs.Table.{Each, IsRising, place, place_before, change_row, change_where, without}
 use Rattle.qfs_meta.specs.declared.rows.Run.{Run}
 use Rattle.qfs_meta.specs.Runs.{IsInOrder, IsRun}
-use Rattle.qfs_meta.proofs.RisingLaws.{each_weaker}
+use Rattle.qfs_base.specs.EachLaws.{each_all, each_weaker}
+use Rattle.qfs_laws_tables.specs.EachRow.{each_part, filter_all, filter_none}
+use Rattle.qfs_laws_tables.specs.Placed.{change_append, change_none}
 
 -- ---- what a comparison was
 
@@ -41,16 +43,11 @@ first_le Greater p e = e
 
 -- ---- a table in the order of its keys
 
-each_at : {X : Type 0} (P : X → Type 0) (rows : List X) (at : ℕ) (d : X) → Each P rows → at < length rows → P (slice_index_or rows at d)
-each_at P [] at d each within = absurd (omega arith)
-each_at P (row ∷ rows) zero d each within = each.0
-each_at P (row ∷ rows) (suc at) d each within = each_at P rows at d each.1 (omega arith)
-
 rising_at : {X : Type 0} (order : X → X → Ordering) (rows : List X) (i j : ℕ) (d : X) → IsRising order rows → i < j → j < length rows →
     order (slice_index_or rows i d) (slice_index_or rows j d) ≡ Less
 rising_at order [] i j d rising below within = absurd (omega arith)
 rising_at order (row ∷ rows) i zero d rising below within = absurd (omega arith)
-rising_at order (row ∷ rows) zero (suc j) d rising below within = each_at (λ later. order row later ≡ Less) rows j d rising.0 (omega arith)
+rising_at order (row ∷ rows) zero (suc j) d rising below within = each_all (λ later. order row later ≡ Less) rows rising.0 j d (omega arith)
 rising_at order (row ∷ rows) (suc i) (suc j) d rising below within = rising_at order rows i j d rising.1 (omega arith) (omega arith)
 
 -- a key that is above a row is above those before it, and one that isn't below it isn't below them
@@ -114,17 +111,6 @@ by_row {order = order} total row = in_order order (order row) (λ a b below. key
 
 -- ---- what the searches find
 
-each_of : {X : Type 0} (P : X → Type 0) (rows : List X) → All P rows → Each P rows
-each_of P [] all = tt
-each_of P (row ∷ rows) all = (All-head P row rows all, each_of P rows (All-tail P row rows all))
-
-each_part : {X : Type 0} (P : X → Type 0) (rows : List X) (from to : ℕ) → from ≤ to → to ≤ length rows → AllWithin P rows from to → Each P (slice_range rows from to)
-each_part P rows from to rises within all =
-    each_of P (slice_range rows from to)
-    (λ k d inside.
-    let below : from + k < to = omega (arith, inside, length-between rows from to within) in
-    subst P (sym (get_or-between rows from to k d below)) (all (from + k) d (omega arith) below))
-
 run_rises : {X : Type 0} (order : X → Ordering) (rows : List X) (from to : ℕ) → from ≤ length rows →
     AllWithin (λ row. is_gt (order row) ≡ true) rows 0 from → AllWithin (λ row. is_ge (order row) ≡ false) rows to (length rows) → from ≤ to
 run_rises order [] from to within above behind = omega arith
@@ -174,15 +160,6 @@ part_of test order rows run same is = record {
 pub three_parts : {X : Type 0} (rows : List X) (from to : ℕ) → from ≤ to → rows ≡ take from rows ++ (slice_range rows from to ++ drop to rows)
 three_parts rows from to rises = sym (take-append-drop from rows) ∙ ap (λ rest. take from rows ++ rest) (drop_split rows from to rises)
 
-filter_none : {X : Type 0} (test : X → Bool) (rows : List X) → Each (λ row. test row ≡ false) rows → filter test rows ≡ []
-filter_none test [] each = refl
-filter_none test (row ∷ rows) each = ap (λ b. cond b (row ∷ filter test rows) (filter test rows)) each.0 ∙ filter_none test rows each.1
-
-filter_all : {X : Type 0} (test : X → Bool) (rows : List X) → Each (λ row. test row ≡ true) rows → filter test rows ≡ rows
-filter_all test [] each = refl
-filter_all test (row ∷ rows) each =
-    ap (λ b. cond b (row ∷ filter test rows) (filter test rows)) each.0 ∙ ap (λ rest. row ∷ rest) (filter_all test rows each.1)
-
 -- the rows that pass are those of the run
 pub filter_part : {X : Type 0} (test : X → Bool) (rows : List X) (run : Run) → IsPart test rows run → filter test rows ≡ slice_range rows run.start run.end
 filter_part {X = X} test rows run part =
@@ -196,15 +173,11 @@ filter_part {X = X} test rows run part =
     ∙ (λ i. filter_all test inside part.inside i ++ filter_none test behind part.behind i)
     ∙ append-nil inside
 
-no_items : {X : Type 0} (xs : List X) → length xs ≡ 0 → xs ≡ []
-no_items [] none = refl
-no_items (x ∷ xs) none = absurd (omega arith)
-
 -- none passes where the run is empty
 pub filter_empty : {X : Type 0} (test : X → Bool) (rows : List X) (run : Run) → IsPart test rows run → run.end ≤ length rows → run.end ≤ run.start → filter test rows ≡ []
 filter_empty test rows run part within empty =
     filter_part test rows run part
-    ∙ no_items (slice_range rows run.start run.end) (omega (arith, length-between rows run.start run.end within, empty))
+    ∙ nil_from_length (slice_range rows run.start run.end) (omega (arith, length-between rows run.start run.end within, empty))
 
 -- those that don't are the others
 pub without_part : {X : Type 0} (test : X → Bool) (rows : List X) (run : Run) → IsPart test rows run → without test rows ≡ take run.start rows ++ drop run.end rows
@@ -219,17 +192,9 @@ without_part {X = X} test rows run part =
     ∙ (λ i. before ++ (filter_none other inside (each_weaker _ _ (λ row e. ap not e) inside part.inside) i
     ++ filter_all other behind (each_weaker _ _ (λ row e. ap not e) behind part.behind) i))
 
-pub change_none : {X : Type 0} (test : X → Bool) (change : X → X) (rows : List X) → Each (λ row. test row ≡ false) rows → change_where test change rows ≡ rows
-change_none test change [] each = refl
-change_none test change (row ∷ rows) each = λ i. change_row change row (each.0 i) ∷ change_none test change rows each.1 i
-
 change_all : {X : Type 0} (test : X → Bool) (change : X → X) (rows : List X) → Each (λ row. test row ≡ true) rows → change_where test change rows ≡ map change rows
 change_all test change [] each = refl
 change_all test change (row ∷ rows) each = λ i. change_row change row (each.0 i) ∷ change_all test change rows each.1 i
-
-change_append : {X : Type 0} (test : X → Bool) (change : X → X) (xs ys : List X) → change_where test change (xs ++ ys) ≡ change_where test change xs ++ change_where test change ys
-change_append test change [] ys = refl
-change_append test change (x ∷ xs) ys = ap (λ rest. change_row change x (test x) ∷ rest) (change_append test change xs ys)
 
 -- a change of the rows that pass changes those of the run
 pub change_part : {X : Type 0} (test : X → Bool) (change : X → X) (rows : List X) (run : Run) → IsPart test rows run →

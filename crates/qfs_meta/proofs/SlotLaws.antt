@@ -1,20 +1,21 @@
 -- The keys of the table of slots: a slot, its block and its file.
-use Rattle.std.proofs.Common.{◌≡◌, ℕ, ◌<◌, ◌==◌, true, List, [], filter, slice_get, Option, None, refl, sym, ap, ◌∙◌, arith}
-use Rattle.std.proofs.lemmas.Bool.Decides.{nat_tests}
+use Rattle.std.proofs.Common.{◌≡◌, ℕ, Bool, true, List, [], filter, slice_get, Option, None, refl, sym, ap, ◌∙◌}
 use Rattle.std.specs.Prelude.{unwrap_or}
 use Rattle.std.specs.Option.{option_map}
-use Rattle.std.specs.Cmp.{nat_cmp_total, ranked}
-use Rattle.std.specs.Ordering.{nat_cmp, is_eq, is_le}
-use Rattle.std.specs.declared.cmp.Ordering.TheVariants.{Less, Equal, Greater}
+use Rattle.std.specs.Cmp.{nat_cmp_total}
+use Rattle.std.specs.Ordering.{nat_cmp, is_le}
+use Rattle.std.specs.declared.cmp.Ordering.TheVariants.{Less}
 use Rattle.qfs_base.specs.declared.chunk.BlockId.{BlockId}
+use Rattle.qfs_base.specs.declared.image.SlotRecord.{SlotRecord}
 use Rattle.qfs_base.specs.declared.image.SlotRow.{SlotRow}
 use Rattle.qfs_base.specs.declared.request.SlotId.{SlotId}
 use Rattle.qfs_base.specs.Key.{block_cmp}
 use Rattle.qfs_base.specs.KeyLaws.{block_cmp_total}
-use Rattle.qfs_base.specs.Table.{has_key, IsRising}
-use Rattle.qfs_model_meta.specs.Slots.{slot_order, block_order, file_order, is_slot, slot_cmp, slot_at, never_granted}
+use Rattle.qfs_base.specs.Table.{change_where, has_key, IsRising}
+use Rattle.qfs_model_meta.specs.Slots.{slot_order, block_order, file_order, change_state, is_slot, slot_cmp, slot_at, never_granted}
 use Rattle.qfs_meta.specs.Runs.{IsInOrder}
-use Rattle.qfs_meta.proofs.RisingLaws.{slot_cmp_total}
+use Rattle.qfs_laws_tables.specs.InOrder.{change_rises}
+use Rattle.qfs_laws_slots.specs.Slots.{slot_cmp_total}
 use Rattle.qfs_meta.proofs.RunLaws.{by_row, in_order, key_falls, first_le, find_first}
 
 -- ---- the table is in order by each key
@@ -34,16 +35,13 @@ pub by_file : (file : ℕ) (rows : List SlotRow) → IsRising slot_cmp rows → 
 by_file file =
     in_order slot_cmp _ (λ a b below. key_falls nat_cmp_total file a.block.file b.block.file (first_le _ (nat_cmp a.block.index b.block.index) (block_le a b below)))
 
--- ---- its rows with each key
+-- a change of the records of some rows leaves their order
+pub changed_rises : (change : SlotRecord → SlotRecord) (test : SlotRow → Bool) (rows : List SlotRow) → IsRising slot_cmp rows →
+    IsRising slot_cmp (change_where test (change_state change) rows)
+unfolding slot_cmp change_state
+changed_rises change test = change_rises slot_cmp test (change_state change) (λ a b. refl) (λ a b. refl)
 
--- two numbers are the same where they compare as equal
-pub numbers_agree : (m n : ℕ) → (m == n) ≡ is_eq (nat_cmp n m)
-numbers_agree m n =
-    elim (nat_cmp n m) as (λ o. nat_cmp n m ≡ o → (m == n) ≡ is_eq o) [
-      | Less ↦ λ e. let below : n < m = ranked n m Less (sym e) in grind (arith, nat_tests)
-      | Equal ↦ λ e. let same : n ≡ m = ranked n m Equal (sym e) in grind (arith, nat_tests)
-      | Greater ↦ λ e. let above : m < n = ranked n m Greater (sym e) in grind (arith, nat_tests)
-    ] refl
+-- ---- its rows with each key
 
 -- a slot without a row has no grant pending
 pub unknown_slot : (row : SlotRow) (rows : List SlotRow) → filter (has_key (slot_cmp row)) rows ≡ [] → (slot_at rows row.block row.slot).grant ≡ None

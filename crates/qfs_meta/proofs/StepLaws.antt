@@ -1,9 +1,7 @@
 -- How a step ends, by what was decided.
-use Rattle.std.proofs.Common.{◌≡◌, ℕ, ◌<◌, ◌≤◌, nat_lt, nat_le, Result, Ok, Err, ◌&&◌, Bool, true, false, List, [], ◌∷◌, ◌++◌, fold, Option, Some, None, refl, sym, ap, ◌∙◌, arith}
-use Rattle.std.proofs.lemmas.Bool.Decides.{nat_tests}
-use Rattle.std.proofs.lemmas.Grind.{common_steps}
-use Rattle.std.specs.Prelude.{OnOk}
-use Rattle.std.specs.Result.{IfOk}
+use Rattle.std.proofs.Common.{◌≡◌, ℕ, ◌&&◌, Bool, true, false, List, [], ◌∷◌, ◌++◌, Option, Some, None, refl, sym, ap, ◌∙◌}
+use Rattle.std.proofs.lemmas.Bool.{lt-ltb}
+use Rattle.std.proofs.lemmas.List.Sums.{fold-append}
 use Rattle.qfs_base.specs.declared.history.Outcome.TheVariants as Ended
 use Rattle.qfs_base.specs.declared.image.MetaImage.{MetaImage}
 use Rattle.qfs_base.specs.declared.reply.MetaReply.{MetaReply}
@@ -37,13 +35,10 @@ pub runs_out : (m : MetaImage) (decision : Decision) → Serves m decision m Tol
 unfolding end_step stays meta_outcome
 runs_out m decision = record { step = refl; never_fails = memory_is_no_failure }
 
-pub is_below : (n bound : ℕ) → n < bound → nat_lt n bound ≡ true
-is_below n bound h = grind (arith, common_steps)
-
 fits : (m : MetaImage) → IsKept m → counters_fit m ≡ true
 unfolding counters_fit
 fits m kept =
-    λ i. is_below _ _ kept.files i && is_below _ _ kept.leases i && is_below _ _ kept.condemned i && is_below _ _ kept.places i
+    λ i. lt-ltb _ _ kept.files i && lt-ltb _ _ kept.leases i && lt-ltb _ _ kept.condemned i && lt-ltb _ _ kept.places i
 
 -- changes are made, and the turn rises
 pub makes : (old : MetaImage) (changes : List Change) (reply : MetaReply) (new : MetaImage) → meta_outcome reply ≡ Ended.Done →
@@ -100,29 +95,7 @@ pub need_none : {X : Type 0} (refusal : MetaReply) (further : X → Decision) (t
 unfolding need
 need_none refusal further thing e = ap (need refusal further) e
 
--- a call that went well
-pub IfOk-weaker : {T E : Type 0} (P Q : T → Type 0) → ((x : T) → P x → Q x) → (result : Result T E) → IfOk result P → IfOk result Q
-IfOk-weaker P Q weaker (Ok x) holds = weaker x holds
-IfOk-weaker P Q weaker (Err e) holds = tt
-
-pub OnOk-weaker : {T E : Type 0} (P Q : Type 0) → (P → Q) → (result : Result T E) → OnOk result P → OnOk result Q
-OnOk-weaker P Q weaker (Ok x) holds = weaker holds
-OnOk-weaker P Q weaker (Err e) holds = tt
-
-pub not_below : (n bound : ℕ) → bound ≤ n → nat_lt n bound ≡ false
-not_below n bound h = grind (arith, common_steps)
-
-pub is_at_most : (n bound : ℕ) → n ≤ bound → nat_le n bound ≡ true
-is_at_most n bound h = grind (arith, nat_tests)
-
-pub not_at_most : (n bound : ℕ) → bound < n → nat_le n bound ≡ false
-not_at_most n bound h = grind (arith, nat_tests)
-
 -- the last of some changes
-fold-append : {A B : Type 0} (f : B → A → B) (start : B) (xs ys : List A) → fold f start (xs ++ ys) ≡ fold f (fold f start xs) ys
-fold-append f start [] ys = refl
-fold-append f start (x ∷ xs) ys = fold-append f (f start x) xs ys
-
 pub last_change : (m : MetaImage) (changes : List Change) (last : Change) → apply_all (changes ++ last ∷ []) m ≡ apply (apply_all changes m) last
 unfolding apply_all
 last_change m changes last = fold-append apply m changes (last ∷ [])

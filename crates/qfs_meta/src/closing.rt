@@ -83,7 +83,7 @@ fn ungranted_in_table(slots: &[SlotRow], file: FileId) -> Option<SlotId>
 
 /// The first slot of a file without a pending grant: one of its blocks, or else one that the
 /// table holds beyond them.
-#[tactic(auto, using(crate::proofs::ListedLaws::find_append), unfolding(qfs_model_meta::specs::PutRequests::first_ungranted))]
+#[tactic(auto, using(crate::proofs::ListedLaws::find_both), unfolding(qfs_model_meta::specs::PutRequests::first_ungranted))]
 pub fn first_ungranted(slots: &[SlotRow], file: FileId, count: u32) -> Option<SlotId>
     requires { IsRising slot_cmp slots.now }
     ensures { result ≡ first_ungranted file count slots.now }

@@ -3,7 +3,7 @@ use Rattle.qfs_base.specs.declared.history.Entry.TheVariants as Wrote
 use Rattle.qfs_base.specs.NameTree.{added}
 use Rattle.qfs_model_meta.specs.Apply.{apply, add_file, write_entry}
 use Rattle.qfs_model_meta.specs.TreeRows.{add_row, file_row}
-use Rattle.qfs_meta.proofs.RisingLaws.{tree_order_total}
+use Rattle.qfs_laws_tree.specs.TreeFacts.{tree_total}
 use Rattle.qfs_meta.proofs.RunLaws.{by_row}
 use Rattle.qfs_meta.proofs.creating.add_file.Goals as goal
 
@@ -18,4 +18,4 @@ returns-clause-ok c =
     λ i. record m { next_file = m.next_file + 1; tree = tree i; history = history i }
 
 pub place-requires : goal.place-requires
-place-requires c = by_row tree_order_total (record { path = _; file = 0; closed = false; actor = 0; command = 0; len = 0 }) c.args.image.now.tree c.requires.order
+place-requires c = by_row tree_total (record { path = _; file = 0; closed = false; actor = 0; command = 0; len = 0 }) c.args.image.now.tree c.requires.order

@@ -2,7 +2,7 @@ use Rattle.std.proofs.Common.{◌≤◌, ◌∙◌, ◌++◌, length, take, drop
 use Rattle.qfs_model_meta.specs.Slots.{slot_cmp}
 use Rattle.qfs_meta.specs.Loads.{loads_of}
 use Rattle.qfs_meta.specs.Runs.{IsInOrder}
-use Rattle.qfs_meta.proofs.RisingLaws.{slot_cmp_total}
+use Rattle.qfs_laws_slots.specs.Slots.{slot_cmp_total}
 use Rattle.qfs_meta.proofs.RunLaws.{by_row, insert_apart}
 use Rattle.qfs_meta.proofs.loads.place_slot.Goals as goal
 

@@ -2,7 +2,7 @@ use Rattle.std.proofs.Common.{◌∙◌, is_some, true≢false, filter, ap, sym,
 use Rattle.qfs_base.specs.Table.{has_key}
 use Rattle.qfs_model_meta.specs.Slots.{slot_cmp}
 use Rattle.qfs_meta.specs.Runs.{IsInOrder}
-use Rattle.qfs_meta.proofs.RisingLaws.{slot_cmp_total}
+use Rattle.qfs_laws_slots.specs.Slots.{slot_cmp_total}
 use Rattle.qfs_meta.proofs.RunLaws.{by_row}
 use Rattle.qfs_meta.proofs.SlotLaws.{unknown_slot}
 use Rattle.qfs_meta.proofs.loads.replace_slot.Goals as goal

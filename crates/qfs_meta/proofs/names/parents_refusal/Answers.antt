@@ -1,7 +1,7 @@
 use Rattle.std.proofs.Common.{◌≡◌, refl, sym, ap, ◌∙◌, take, None}
 use Rattle.qfs_base.specs.NameTree.{parents_refusal, kind_at, through_refusal}
 use Rattle.qfs_model_meta.specs.TreeRows.{standing}
-use Rattle.qfs_meta.proofs.TreeLaws.{parents_next}
+use Rattle.qfs_laws_tree.specs.TreeFacts.{parents_next}
 use Rattle.qfs_meta.proofs.names.parents_refusal.Goals as goal
 
 pub loop-depth-init : goal.loop-depth-init
