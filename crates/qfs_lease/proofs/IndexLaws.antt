@@ -2,6 +2,7 @@
 use Rattle.std.proofs.Common.{◌≡◌, ◌<◌, ◌∙◌, ap, sym, refl, arith, ℕ, nat_le}
 use Rattle.std.proofs.Common.{Bool, true, false, true≢false, not, ◌&&◌, ◌||◌, List, [], ◌∷◌, ◌++◌}
 use Rattle.std.proofs.Common.{find, Some}
+use Rattle.std.proofs.Math.Bool.{and-false}
 use Rattle.std.proofs.lemmas.Bool.{and_parts}
 use Rattle.std.proofs.lemmas.Bool.Decides.{nat_tests}
 use Rattle.std.proofs.lemmas.Cmp.{ranked, tied_itself, nat_cmp_total}
@@ -15,12 +16,12 @@ use Rattle.qfs_base.specs.EachLaws.{each_weaker}
 use Rattle.qfs_base.specs.Table.{Each, IsRising, has_key, place, without}
 use Rattle.qfs_model_meta.specs.Leases.{is_lease, lease_cmp}
 use Rattle.qfs_laws_tables.specs.Placed.{Apart, any-placed}
-use Rattle.qfs_laws_tables.specs.SomeRow.{any_of_append, none_any}
+use Rattle.qfs_laws_tables.specs.SomeRow.{any_none, any_of_append, none_any}
 use Rattle.qfs_lease.specs.declared.index.IndexRow.{IndexRow}
 use Rattle.qfs_lease.specs.Indexes.{IsIndex, has_row, row_by}
 use Rattle.qfs_lease.specs.IndexKeys.{index_cmp}
 use Rattle.qfs_lease.proofs.LeaseLaws.{alone}
-use Rattle.qfs_lease.proofs.RowLaws.{and_never, and_swap, any_alike, any_kept, any_none}
+use Rattle.qfs_lease.proofs.RowLaws.{and_swap, any_alike, any_kept}
 
 -- the key of a lease's row tells leases apart as their numbers do
 tied_as : (by : Lease → ℕ) (number : ℕ) (found lease : Lease) → found.lease ≡ number
@@ -38,7 +39,7 @@ tied_as by number found lease own alone =
           let front = is_eq (nat_cmp (by found) (by lease)) in
           sym (tied_then (nat_cmp (by found) (by lease)) (nat_cmp found.lease lease.lease))
           ∙ ap (λ b. front && b) (ap (λ n. is_eq (nat_cmp n lease.lease)) own ∙ is)
-          ∙ and_never front
+          ∙ and-false front
     ] refl
 
 module _ (has : Lease → Bool) (by : Lease → ℕ) where

@@ -15,8 +15,7 @@ use Rattle.qfs_base.specs.Table.{Each, IsRising, has_key}
 use Rattle.qfs_model_meta.specs.Leases.{holds_lease, is_lease, lease_cmp, lease_order}
 use Rattle.qfs_laws_tables.specs.EachRow.{each_of_all, found_has, none_found}
 use Rattle.qfs_laws_tables.specs.Keys.{equal-is}
-use Rattle.qfs_laws_tables.specs.SomeRow.{any_each, found-any}
-use Rattle.qfs_lease.proofs.RowLaws.{any_none}
+use Rattle.qfs_laws_tables.specs.SomeRow.{any_each, any_none, found-any}
 
 -- what is found has the number that was sought
 pub found_number : (number : ℕ) (found : Lease) (leases : List Lease)

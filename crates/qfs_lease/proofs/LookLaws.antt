@@ -11,15 +11,15 @@ use Rattle.std.specs.declared.cmp.Ordering.TheVariants.{Less, Equal}
 use Rattle.qfs_base.specs.declared.image.Lease.{Lease}
 use Rattle.qfs_base.specs.Table.{IsRising, has_key, without}
 use Rattle.qfs_model_meta.specs.Leases.{has_run_out, is_lease, is_live_lease, lease_cmp, leases_on}
-use Rattle.qfs_laws_tables.specs.EachRow.{each_of_all, found_has}
+use Rattle.qfs_laws_tables.specs.EachRow.{each_of_all, found_has, without_none}
 use Rattle.qfs_laws_tables.specs.Keys.{key-is}
-use Rattle.qfs_laws_tables.specs.SomeRow.{found-any, none_any, some-any}
+use Rattle.qfs_laws_tables.specs.SomeRow.{any_mapped, found-any, none_any, some-any}
 use Rattle.qfs_lease.specs.declared.index.IndexRow.{IndexRow}
 use Rattle.qfs_lease.specs.Indexes.{IsIndex, end_of, file_of, has_end, is_any, row_by}
 use Rattle.qfs_lease.specs.IndexKeys.{below_order, up_to_order}
 use Rattle.qfs_lease.specs.LiveLeases.{AllRunOut, is_held_below}
 use Rattle.qfs_lease.proofs.LeaseLaws.{one_live, one_number}
-use Rattle.qfs_lease.proofs.RowLaws.{and_swap, any_alike, any_kept, any_of_map, without_none}
+use Rattle.qfs_lease.proofs.RowLaws.{and_swap, any_alike, any_kept}
 
 -- a look for the leases on a file below a number
 pub held_below : (file below : ℕ) (rows : List IndexRow) (leases : List Lease)
@@ -33,7 +33,7 @@ held_below file below rows leases is =
     ∙ any_alike _ (λ lease. on lease && nat_lt lease.lease below) leases
     (each_of_all _ alike leases)
     ∙ sym (any_kept (λ lease. nat_lt lease.lease below) on leases)
-    ∙ sym (any_of_map (λ lease. nat_lt lease below) (λ (lease : Lease). lease.lease)
+    ∙ sym (any_mapped (λ (lease : Lease). lease.lease) (λ lease. nat_lt lease below)
     (filter on leases))
   where
     answer : (b : Bool) → is_eq (cond b Equal Less) ≡ b

@@ -11,11 +11,11 @@ use Rattle.qfs_base.specs.declared.image.Lease.{Lease}
 use Rattle.qfs_base.specs.EachLaws.{each_filter, each_weaker}
 use Rattle.qfs_base.specs.Table.{Each, IsRising, has_key, without}
 use Rattle.qfs_model_meta.specs.Leases.{end_lease, is_lease, lease_cmp}
-use Rattle.qfs_laws_tables.specs.EachRow.{each_both, each_passes, none_found}
+use Rattle.qfs_laws_tables.specs.EachRow.{each_both, each_passes, none_found, without_none}
 use Rattle.qfs_laws_tables.specs.Keys.{equal-is}
 use Rattle.qfs_lease.specs.IndexKeys.{from_order}
 use Rattle.qfs_lease.specs.LiveLeases.{HasPassed, is_of_actor}
-use Rattle.qfs_lease.proofs.RowLaws.{without_after, without_none}
+use Rattle.qfs_lease.proofs.RowLaws.{without_after}
 
 -- where a lease stands beside the first one from a number on
 abbrev pub IsBeside : ℕ → Lease → Lease → Type 0

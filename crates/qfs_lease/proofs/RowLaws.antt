@@ -2,7 +2,7 @@
 -- their indexes share.
 use Rattle.std.proofs.Common.{◌≡◌, ◌<◌, ◌≤◌, ◌∙◌, ap, sym, refl, arith, suc}
 use Rattle.std.proofs.Common.{Bool, true, false, true≢false, not, ◌&&◌, ◌||◌, cond, Bor}
-use Rattle.std.proofs.Common.{List, [], ◌∷◌, ◌++◌, length, map, filter, Option, Some, None}
+use Rattle.std.proofs.Common.{List, [], ◌∷◌, ◌++◌, length, filter, Option, Some, None}
 use Rattle.std.specs.Cmp.{IsTotalOrder}
 use Rattle.std.specs.List.{list_any}
 use Rattle.std.specs.Option.{is_some, option_copied}
@@ -16,20 +16,11 @@ and_swap true b c = refl
 and_swap false true c = refl
 and_swap false false c = refl
 
-pub and_never : (b : Bool) → (b && false) ≡ false
-and_never true = refl
-and_never false = refl
-
 -- a look that gives a reference finds what is there
 pub some_copied : {X : Type 0} (found : Option (Bor X))
     → is_some found ≡ is_some (option_copied found)
 some_copied None = refl
 some_copied (Some row) = refl
-
-pub any_of_map : {X Y : Type 0} (test : Y → Bool) (f : X → Y) (xs : List X)
-    → list_any test (map f xs) ≡ list_any (λ x. test (f x)) xs
-any_of_map test f [] = refl
-any_of_map test f (x ∷ xs) = ap (λ rest. test (f x) || rest) (any_of_map test f xs)
 
 module _ {X : Type 0} where
   -- some row that is kept passes a test
@@ -50,19 +41,6 @@ module _ {X : Type 0} where
   any_alike one other (row ∷ rows) alike =
       ap (λ b. b || list_any one rows) alike.0
       ∙ ap (λ rest. other row || rest) (any_alike one other rows alike.1)
-
-  -- a test that no row passes
-  pub any_none : (test : X → Bool) (rows : List X) → Each (λ row. test row ≡ false) rows
-      → list_any test rows ≡ false
-  any_none test [] none = refl
-  any_none test (row ∷ rows) none = rw none.0 (any_none test rows none.1)
-
-  -- nothing is dropped where nothing passes
-  pub without_none : (test : X → Bool) (rows : List X) → Each (λ row. test row ≡ false) rows
-      → without test rows ≡ rows
-  without_none test [] none = refl
-  without_none test (row ∷ rows) none =
-      rw none.0 (ap (λ rest. row ∷ rest) (without_none test rows none.1))
 
   -- what is dropped anyway may go before
   pub without_after : (first test : X → Bool) (rows : List X)

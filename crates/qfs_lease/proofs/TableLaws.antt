@@ -9,7 +9,7 @@ use Rattle.qfs_base.specs.EachLaws.{each_filter, each_weaker}
 use Rattle.qfs_base.specs.Sizes.{LAST_U64}
 use Rattle.qfs_base.specs.Table.{Each, IsRising, has_key, place, without}
 use Rattle.qfs_model_meta.specs.Leases.{is_lease, lease_cmp, lease_order}
-use Rattle.qfs_laws_tables.specs.EachRow.{each_push, none_found}
+use Rattle.qfs_laws_tables.specs.EachRow.{each_push, none_found, without_none}
 use Rattle.qfs_laws_tables.specs.InOrder.{filter_rises, push_rises}
 use Rattle.qfs_table.specs.Tables.{Contents}
 use Rattle.qfs_lease.specs.declared.index.IndexRow.{IndexRow}
@@ -18,7 +18,7 @@ use Rattle.qfs_lease.specs.IndexKeys.{index_cmp}
 use Rattle.qfs_lease.specs.LiveLeases.{AreLeases}
 use Rattle.qfs_lease.proofs.IndexLaws.{index_ended, index_given, index_passed}
 use Rattle.qfs_lease.proofs.LeaseLaws.{found_number}
-use Rattle.qfs_lease.proofs.RowLaws.{placed_last, without_none}
+use Rattle.qfs_lease.proofs.RowLaws.{placed_last}
 
 -- an index of equal rows and leases
 same_index : (has : Lease → Bool) (by : Lease → ℕ) (rows new_rows : List IndexRow)

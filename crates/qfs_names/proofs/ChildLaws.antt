@@ -15,8 +15,8 @@ use Rattle.qfs_base.specs.NameTree.{PathNames, Standing, is_below, is_filled, is
 use Rattle.qfs_base.specs.Table.{Each, IsRising}
 use Rattle.qfs_base.specs.declared.lists.Name.{Name}
 use Rattle.qfs_laws_tables.specs.Keys.{equal-is, less-not}
+use Rattle.qfs_laws_tables.specs.SomeRow.{any_mapped, any_none}
 use Rattle.qfs_laws_tree.specs.TreeFacts.{within-is}
-use Rattle.qfs_names.proofs.MoveLaws.{any-mapped}
 use Rattle.qfs_names.proofs.NameLaws.{within-is_eq}
 use Rattle.qfs_names.specs.declared.row.NameRow.{NameRow}
 use Rattle.qfs_names.specs.Names.{child_at, row_kind, row_path, standing_of, within_order}
@@ -95,11 +95,6 @@ not-below top path apart = one (is_below top path) refl
 
 -- ---- whether something lies below a directory
 
-any-none : {X : Type 0} (test : X → Bool) (xs : List X) → Each (λ x. test x ≡ false) xs
-    → list_any test xs ≡ false
-any-none test [] each = refl
-any-none test (x ∷ xs) each = rw each.0 (any-none test xs each.1)
-
 abbrev pub first_within : PathNames → Option NameRow → Bool
 first_within top None = false
 first_within top (Some row) = is_within top row.path
@@ -129,7 +124,7 @@ filled-is top (row ∷ rows) rising =
     here less false off =
         (λ i. (off i && nat_lt (length top) (length row.path))
         || list_any (λ (row : NameRow). is_below top row.path) rows)
-        ∙ any-none (λ (row : NameRow). is_below top row.path) rows
+        ∙ any_none (λ (row : NameRow). is_below top row.path) rows
         (each_weaker _ _ (λ (later : NameRow) more. one later (is_within top later.path) refl more) rows rising.0)
         ∙ sym off
       where
@@ -147,7 +142,7 @@ unfolding is_filled
 filled_below rows [] some rising = absurd (omega arith)
 filled_below rows (name ∷ names) some rising =
     let standing : NameRow → Standing = λ row. record { path = row.path; kind = row_kind row } in
-    any-mapped standing (λ (row : Standing). is_below (name ∷ names) row.path) rows
+    any_mapped standing (λ (row : Standing). is_below (name ∷ names) row.path) rows
     ∙ filled-is (name ∷ names) rows rising
 
 -- ---- from the first row that passes a test

@@ -1,47 +1,26 @@
 -- What is found in a table after rows are placed, taken or changed. For the tables of the tree.
 use Rattle.std.proofs.Common.{Bool, List, Some, [], ap, cond, false, filter, find, map, refl, sym, true, true≢false, ◌||◌, ◌∙◌, ◌∷◌, ◌≡◌}
+use Rattle.std.proofs.lemmas.Bool.{false_from_ne_true}
 use Rattle.std.specs.Cmp.{IsTotalOrder}
 use Rattle.std.specs.List.{list_any}
 use Rattle.std.specs.Option.{option_map}
 use Rattle.std.specs.Ordering.{ordering_reverse}
 use Rattle.std.specs.declared.cmp.Ordering.{Ordering}
-use Rattle.std.specs.declared.cmp.Ordering.TheVariants.{Equal, Greater, Less}
-use Rattle.qfs_base.specs.Table.{Each, IsRising, change_row, change_where, place, place_all, place_before}
+use Rattle.std.specs.declared.cmp.Ordering.TheVariants.{Equal, Less}
+use Rattle.qfs_base.specs.Table.{Each, IsRising, change_row, change_where, place, place_all}
 use Rattle.qfs_base.specs.EachLaws.{each_weaker}
 use Rattle.qfs_laws_tables.specs.EachRow.{found_has}
-use Rattle.qfs_laws_tables.specs.Keys.{less-not}
+use Rattle.qfs_laws_tables.specs.Keys.{greater-not, less-not}
+use Rattle.qfs_laws_tables.specs.Placed.{find_beside, find-placed}
 
 module _ {X : Type 0} where
-  -- a new row that fails the test, and replaces none that passes it
-  pub find-placed_off : (order : X → X → Ordering) (test : X → Bool) (new : X) (rows : List X)
-      → test new ≡ false → Each (λ row. order new row ≡ Equal → test row ≡ false) rows
-      → find test (place order new rows) ≡ find test rows
-  find-placed_off order test new [] off each = rw off refl
-  find-placed_off order test new (row ∷ rows) off each =
-      (elim (order new row) as (λ o. order new row ≡ o → find test
-      (place_before new row rows (place order new rows) o) ≡ find test (row ∷ rows)) [
-        | Less ↦ λ _. rw off refl
-        | Equal ↦ λ tie. rw (off, each.0 tie) refl
-        | Greater ↦ λ _. ap (cond (test row) (Some row))
-            (find-placed_off order test new rows off each.1)
-      ]) refl
-
   -- a new row that passes the test, which none passes that it doesn't tie with
   pub find-placed_on : (order : X → X → Ordering) (test : X → Bool) (new : X) (rows : List X)
       → test new ≡ true → Each (λ row. test row ≡ true → order new row ≡ Equal) rows
       → find test (place order new rows) ≡ Some new
-  find-placed_on order test new [] on each = rw on refl
-  find-placed_on order test new (row ∷ rows) on each =
-      (elim (order new row) as (λ o. order new row ≡ o → find test
-      (place_before new row rows (place order new rows) o) ≡ Some new) [
-        | Less ↦ λ _. rw on refl
-        | Equal ↦ λ _. rw on refl
-        | Greater ↦ λ above. (elim (test row) as (λ b. test row ≡ b → cond b (Some row)
-            (find test (place order new rows)) ≡ Some new) [
-              | true ↦ λ is. absurd (let e : Greater ≡ Equal = sym above ∙ each.0 is in cc)
-              | false ↦ λ _. find-placed_on order test new rows on each.1
-            ]) refl
-      ]) refl
+  find-placed_on order test new rows on each =
+      find-placed order test new rows on (each_weaker _ _ (λ row only above.
+      false_from_ne_true (test row) (λ is. greater-not (sym above ∙ only is))) rows each)
 
   -- rows that are kept: those that pass the test are
   pub find-kept : (test keep : X → Bool) (rows : List X)
@@ -139,7 +118,7 @@ module _ {X : Type 0} where
   find-placed_all_off order test [] rows each = refl
   find-placed_all_off order test (new ∷ news) rows each =
       find-placed_all_off order test news (place order new rows) each.1
-      ∙ find-placed_off order test new rows each.0.0 (all rows)
+      ∙ find_beside order test new rows each.0.0 (all rows)
     where
       all : (xs : List X) → Each (λ row. order new row ≡ Equal → test row ≡ false) xs
       all [] = tt

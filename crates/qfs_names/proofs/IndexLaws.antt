@@ -1,6 +1,6 @@
 -- The paths of unclosed files stay found by file, whatever happens to the tree. For its changes.
 use Rattle.std.proofs.Common.{Bool, List, None, Some, [], ap, arith, cond, false, find, map, not, refl, subst, suc, sym, true, true≢false, zero, ℕ, ◌&&◌, ◌<◌, ◌==◌, ◌^◌, ◌∙◌, ◌∷◌, ◌≡◌, ◌≢◌, ◌≤◌}
-use Rattle.std.proofs.lemmas.Bool.{and_from, and_parts, eq-eqb, eqb-true}
+use Rattle.std.proofs.lemmas.Bool.{and_from, and_left, and_parts, and_right, eq-eqb, eqb-true}
 use Rattle.std.specs.Option.{option_map}
 use Rattle.std.specs.Ordering.{is_eq, nat_cmp}
 use Rattle.std.specs.declared.cmp.Ordering.TheVariants.{Equal}
@@ -12,11 +12,11 @@ use Rattle.qfs_base.specs.declared.lists.NameKind.{NameKind}
 use Rattle.qfs_model_meta.specs.TreeRows.{is_unclosed, kind_of}
 use Rattle.qfs_laws_tables.specs.EachRow.{each_change, each_of_all, each_of_map, find_none, found_has, none_found}
 use Rattle.qfs_laws_tables.specs.Keys.{equal-is, key-is}
-use Rattle.qfs_laws_tables.specs.Placed.{Apart}
+use Rattle.qfs_laws_tables.specs.Placed.{Apart, find_beside}
 use Rattle.qfs_laws_tree.specs.Stands.{at_path-off}
 use Rattle.qfs_laws_tree.specs.Tree.{HasTree, file-one}
 use Rattle.qfs_laws_tree.specs.TreeFacts.{kind_in, path-self}
-use Rattle.qfs_names.proofs.FindLaws.{find-changed, find-kept, find-mapped, find-placed_off, find-placed_on, found-alone}
+use Rattle.qfs_names.proofs.FindLaws.{find-changed, find-kept, find-mapped, find-placed_on, found-alone}
 use Rattle.qfs_names.proofs.NameLaws.{as-rises, as-same, at-is, standing-is}
 use Rattle.qfs_names.specs.declared.row.NameRow.{NameRow}
 use Rattle.qfs_names.specs.declared.row.UnclosedRow.{UnclosedRow}
@@ -67,14 +67,6 @@ open-some row is = one row.file row.closed is
     one zero closed is = absurd (cc)
     one (suc n) closed is = omega arith
 
-both-off : (a b : Bool) → a ≡ false → (a && b) ≡ false
-both-off true b e = absurd (cc)
-both-off false b e = refl
-
-off-both : (a b : Bool) → b ≡ false → (a && b) ≡ false
-off-both true b e = e
-off-both false b e = refl
-
 -- ---- a row more
 
 pub index-directory : (paths : List UnclosedRow) (path : PathNames) (rows : List NameRow)
@@ -83,8 +75,8 @@ pub index-directory : (paths : List UnclosedRow) (path : PathNames) (rows : List
 unfolding added
 index-directory paths path rows apart holds file =
     holds file ∙ ap (option_map path_row) (sym
-    (find-placed_off (row_cmp row_path) (is_open_of file) (directory_at path) rows
-    (both-off _ _ (directory-shut path))
+    (find_beside (row_cmp row_path) (is_open_of file) (directory_at path) rows
+    (and_left _ _ (directory-shut path))
     (each_weaker (λ row. row_cmp row_path (directory_at path) row ≡ Equal → ⊥)
     (λ row. row_cmp row_path (directory_at path) row ≡ Equal → is_open_of file row ≡ false)
     (λ row off tie. absurd (off tie)) rows apart)))
@@ -104,7 +96,7 @@ index-file paths path number rows some fresh apart holds file =
     none : find (has_number number) paths ≡ None
     none = holds number ∙ ap (option_map path_row) (find_none (is_open_of number) rows
         (each_weaker (λ (row : NameRow). row.file ≢ number) (λ row. is_open_of number row ≡ false)
-        (λ row off. off-both (is_open row) (of_file number row) (off-number number row.file off)) rows
+        (λ row off. and_right (is_open row) (of_file number row) (off-number number row.file off)) rows
         fresh))
 
     one : (b : Bool) → is_eq (nat_cmp file number) ≡ b
@@ -125,13 +117,13 @@ index-file paths path number rows some fresh apart holds file =
         (λ row off here. absurd
         (off (number-is file row.file (and_parts _ _ here).1 ∙ sym same))) rows fresh)))
     one false off =
-        find-placed_off file_cmp (has_number file) (path_row new) paths off
+        find_beside file_cmp (has_number file) (path_row new) paths off
         (each_of_all
         (λ (row : UnclosedRow). nat_cmp number row.file ≡ Equal → has_number file row ≡ false)
         (λ row tie. sym (tied-number file number row.file tie) ∙ off) paths)
         ∙ holds file
         ∙ ap (option_map path_row) (sym
-        (find-placed_off (row_cmp row_path) (is_open_of file) new rows (off-both _ _ off)
+        (find_beside (row_cmp row_path) (is_open_of file) new rows (and_right _ _ off)
         (each_weaker (λ row. row_cmp row_path new row ≡ Equal → ⊥)
         (λ row. row_cmp row_path new row ≡ Equal → is_open_of file row ≡ false)
         (λ row far tie. absurd (far tie)) rows apart)))
@@ -182,17 +174,17 @@ index-closed paths number rows holds file =
     (paths-gone paths number ∙ ap (option_map path_row) (sym
     (find_none (is_open_of number) (close_file number rows)
     (each_change (λ _. Unit {0}) (λ row. is_open_of number row ≡ false) (of_file number) closed_row
-    (λ row is _. both-off (is_open (closed_row row)) (of_file number row) (closed-shut row))
-    (λ row off _. off-both (is_open row) (of_file number row) off) rows
+    (λ row is _. and_left (is_open (closed_row row)) (of_file number row) (closed-shut row))
+    (λ row off _. and_right (is_open row) (of_file number row) off) rows
     (each_of_all _ (λ _. tt) rows))))))
     (λ apart. paths-kept paths number file apart ∙ holds file ∙ ap (option_map path_row) (sym
     (find-changed (is_open_of file) (of_file number) closed_row rows
     (each_of_all (λ row. of_file number row ≡ true
     → (is_open_of file row ≡ false) × (is_open_of file (closed_row row) ≡ false))
     (λ row is. (
-      off-both (is_open row) (of_file file row)
+      and_right (is_open row) (of_file file row)
           (off-number file row.file (λ own. apart (sym own ∙ number-is number row.file is))),
-      both-off (is_open (closed_row row)) (of_file file row) (closed-shut row),
+      and_left (is_open (closed_row row)) (of_file file row) (closed-shut row),
     )) rows))))
 
 pub index-without : (paths : List UnclosedRow) (number : ℕ) (rows : List NameRow)
@@ -216,7 +208,7 @@ index-without paths number rows holds file =
         elim (of_file number row) as (λ b. of_file number row ≡ b
         → Each (λ row. is_open_of number row ≡ false)
         (cond (not b) (row ∷ take_file number rows) (take_file number rows)))
-        [ true ↦ λ _. gone rows | false ↦ λ off. (off-both _ _ off, gone rows) ] refl
+        [ true ↦ λ _. gone rows | false ↦ λ off. (and_right _ _ off, gone rows) ] refl
 
 -- ---- what isn't open is taken by its path
 

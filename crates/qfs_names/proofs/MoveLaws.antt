@@ -1,7 +1,7 @@
 -- A rename: what is moved, and that the paths of unclosed files stay found by file. For the calls
 -- that plan it and do it.
 use Rattle.std.proofs.Common.{drop, length-append, length-drop, length-take, Bool, List, None, Option, Some, [], ap, arith, cond, false, filter, find, length, map, nat_lt, not, refl, suc, sym, true, true≢false, ℕ, ◌&&◌, ◌||◌, ◌^◌, ◌∙◌, ◌∷◌, ◌≡◌, ◌≤◌}
-use Rattle.std.proofs.lemmas.Bool.{and_from, and_parts, ltb-false}
+use Rattle.std.proofs.lemmas.Bool.{and_from, and_parts, false_from_ne_true, ltb-false, or_right}
 use Rattle.std.specs.List.{list_any}
 use Rattle.std.specs.Option.{option_map, option_or}
 use Rattle.std.specs.Ordering.{is_eq, nat_cmp}
@@ -12,11 +12,10 @@ use Rattle.qfs_base.specs.Path.{IsPath}
 use Rattle.qfs_base.specs.Table.{Each, place_all, without}
 use Rattle.qfs_base.specs.declared.reply.TreeRefusal.TheVariants as Not
 use Rattle.qfs_model_meta.specs.TreeRows as image
-use Rattle.qfs_model_meta.specs.TreeRows.{is_unclosed, kind_of}
 use Rattle.qfs_laws_tables.specs.EachRow.{each_both, each_of_all, each_passes, find_none, found_has, none_found}
 use Rattle.qfs_laws_tables.specs.Keys.{equal-is}
 use Rattle.qfs_laws_tables.specs.Placed.{each-placed_all}
-use Rattle.qfs_laws_tables.specs.SomeRow.{found-any, none_any}
+use Rattle.qfs_laws_tables.specs.SomeRow.{any_mapped, found-any, none_any}
 use Rattle.qfs_laws_tree.specs.Move.{if-none, move-onward}
 use Rattle.qfs_laws_tree.specs.Tree.{HasTree}
 use Rattle.qfs_laws_tree.specs.TreeChanges.{stands-any, stands_test}
@@ -82,11 +81,6 @@ any-better test better (row ∷ rows) each any =
       | false ↦ λ _ any. elim (better row) as (λ b. (b || list_any better rows) ≡ true)
           [ true ↦ refl | false ↦ any-better test better rows each.1 any ]
     ]) refl any
-
-pub any-mapped : {X Y : Type 0} (f : X → Y) (test : Y → Bool) (rows : List X)
-    → list_any test (map f rows) ≡ list_any (λ row. test (f row)) rows
-any-mapped f test [] = refl
-any-mapped f test (row ∷ rows) = ap (λ b. test (f row) || b) (any-mapped f test rows)
 
 -- an unclosed file within a path is among those that are moved
 any-open : (from to : PathNames) (file : ℕ) (rows : List NameRow)
@@ -185,7 +179,7 @@ index-moved paths from to rows is free h holds file = one (find (is_open_of file
     stands row found own =
         let parts = and_parts (is_open row) (of_file file row) own in
         let before : list_any (stands_test file) (map as_row rows) ≡ true =
-        any-mapped as_row (stands_test file) rows
+        any_mapped as_row (stands_test file) rows
         ∙ found-any (is_open_of file) (λ row. stands_test file (as_row row)) rows row found
         (and_from (image.is_closed_row (as_row row) || image.is_unclosed_row (as_row row))
         (of_file file row) (or_right (image.is_closed_row (as_row row)) (is_open row) parts.0)
@@ -198,12 +192,8 @@ index-moved paths from to rows is free h holds file = one (find (is_open_of file
         (each_of_all (λ row. stands_test file (as_row row) ≡ true → of_file file row ≡ true)
         (λ row stays. (and_parts (image.is_closed_row (as_row row) || image.is_unclosed_row (as_row row))
         (of_file file row) stays).1) all)
-        (sym (any-mapped as_row (stands_test file) all)
+        (sym (any_mapped as_row (stands_test file) all)
         ∙ ap (list_any (stands_test file)) (as-moved from to rows) ∙ after)
-      where
-        or_right : (a b : Bool) → b ≡ true → (a || b) ≡ true
-        or_right true b e = refl
-        or_right false b e = e
 
     -- then it is found there
     there : (row then : NameRow) → find (is_open_of file) rows ≡ Some row
@@ -219,10 +209,6 @@ index-moved paths from to rows is free h holds file = one (find (is_open_of file
         (λ r. of_file file r ≡ true → is_open_of file r ≡ true)
         (λ r one own. ap (is_open_of file) (one own) ∙ shown) all each)
         (stands row found own))
-
-    not-so : (b : Bool) → (b ≡ true → ⊥) → b ≡ false
-    not-so true apart = absurd (apart refl)
-    not-so false apart = refl
 
     moves : (row : NameRow) → find (is_open_of file) rows ≡ Some row → is_open_of file row ≡ true
         → is_within from row.path ≡ true
@@ -267,7 +253,7 @@ index-moved paths from to rows is free h holds file = one (find (is_open_of file
         ∙ ap (λ (x : NameRow). is_within from x.path) (one is) ∙ outside)) rows ones) in
         passed (each_weaker (λ (r : NameRow). of_file file r ≡ true → ⊥)
         (λ (r : NameRow). is_open r ≡ true → of_file file r ≡ false)
-        (λ r apart _. not-so (of_file file r) apart) news apart)
+        (λ r apart _. false_from_ne_true (of_file file r) apart) news apart)
         ∙ holds file ∙ ap (option_map path_row) found
         ∙ ap (option_map path_row) (sym (there row row found own own
         (each-placed_all rows_total (λ (r : NameRow). of_file file r ≡ true → r ≡ row) news others

@@ -1,7 +1,7 @@
 -- The rows of the tree as rows of an image: the laws of name trees hold of them. And how the keys
 -- of the tables compare with the tests of the rules. For the calls of the tree.
-use Rattle.std.proofs.Common.{Bool, List, None, [], ap, arith, cond, false, filter, length, map, nat_eq, nat_lt, refl, subst, suc, sym, take, true, true≢false, zero, ℕ, ◌||◌, ◌+◌, ◌<◌, ◌^◌, ◌∙◌, ◌∷◌, ◌≡◌, ◌≢◌, ◌≤◌}
-use Rattle.std.proofs.lemmas.Bool.{eqb-true, ltb-true}
+use Rattle.std.proofs.Common.{Bool, List, None, [], ap, arith, cond, false, filter, length, map, nat_eq, nat_lt, refl, subst, suc, sym, take, true, true≢false, zero, ℕ, ◌+◌, ◌<◌, ◌^◌, ◌∙◌, ◌∷◌, ◌≡◌, ◌≢◌, ◌≤◌}
+use Rattle.std.proofs.lemmas.Bool.{eqb-true, ltb-true, or_right}
 use Rattle.std.specs.Cmp.Lexicographic.{lists_ties, slice_cmp, texts_ties}
 use Rattle.std.specs.Ordering.{is_eq, nat_cmp}
 use Rattle.qfs_base.specs.EachLaws.{each_weaker}
@@ -168,10 +168,6 @@ tree-put new tree free is fresh h =
           one (nat_lt 0 new.file) refl file (nat_eq new.file file) refl o e;
     }
   where
-    or_right : (a b : Bool) → b ≡ true → (a || b) ≡ true
-    or_right true b e = refl
-    or_right false b e = e
-
     one : (b : Bool) → nat_lt 0 new.file ≡ b → (file : ℕ) (c : Bool) → nat_eq new.file file ≡ c
         → file_count file tree ≤ 1
         → total (file_weight file) (place (row_cmp image.row_path) new tree) ≡ weigh_if

@@ -1,10 +1,8 @@
 -- What the tables find, in the words of the tree's rules. For the calls that read the tree.
-use Rattle.std.proofs.Common.{◌≡◌, ℕ, suc, ◌<◌, ◌+◌, ◌-◌, true, false, cond, List, [], ◌∷◌, length, map, take, find, filter, Option, Some, None, refl, ap, ◌∙◌, arith}
-use Rattle.std.specs.Option.{option_map, option_or}
+use Rattle.std.proofs.Common.{◌≡◌, ◌<◌, true, false, cond, List, [], ◌∷◌, length, find, filter, Some, refl, arith}
+use Rattle.std.specs.Option.{option_map}
 use Rattle.std.specs.Ordering.{is_eq}
-use Rattle.std.specs.List.{range_with_len}
-use Rattle.qfs_base.specs.declared.reply.TreeRefusal.{TreeRefusal}
-use Rattle.qfs_base.specs.Table.{first_of, without}
+use Rattle.qfs_base.specs.Table.{without}
 use Rattle.qfs_base.specs.NameTree.{PathNames, Standing, is_within, kind_at, path_cmp, path_eq, stands_at}
 use Rattle.qfs_names.specs.declared.row.NameRow.{NameRow}
 use Rattle.qfs_names.specs.Names.{row_kind, row_path, standing_of, within_order}
@@ -51,13 +49,3 @@ pub kind_at_filled : (rows : List NameRow) (path : PathNames) → 0 < length pat
 unfolding kind_at
 kind_at_filled rows [] above = absurd (omega arith)
 kind_at_filled rows (name ∷ names) above = find_standing rows (name ∷ names)
-
--- a parent that may be led through leaves the choice to those below it
-pub parents_next : (refusal_at : PathNames → Option TreeRefusal) (names : PathNames) (depth : ℕ) → depth < length names →
-    refusal_at (take depth names) ≡ None →
-    first_of refusal_at (map (λ n. take n names) (range_with_len depth (length names - depth)))
-    ≡ first_of refusal_at (map (λ n. take n names) (range_with_len (depth + 1) (length names - (depth + 1))))
-parents_next refusal_at names depth within passed =
-    let e : length names - depth ≡ suc (length names - (depth + 1)) = omega arith in
-    ap (λ k. first_of refusal_at (map (λ n. take n names) (range_with_len depth k))) e
-    ∙ ap (λ o. option_or o (first_of refusal_at (map (λ n. take n names) (range_with_len (depth + 1) (length names - (depth + 1)))))) passed

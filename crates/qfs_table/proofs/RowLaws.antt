@@ -19,7 +19,7 @@ use Rattle.qfs_table.specs.Places.{IsFirst, IsPlaced, IsSought}
 use Rattle.qfs_table.proofs.CutLaws.{rising_cut, cut_back}
 use Rattle.qfs_table.proofs.FlatLaws.{flat_cut, back_end}
 use Rattle.qfs_base.specs.EachLaws.{each_weaker, each_append}
-use Rattle.qfs_laws_tables.specs.EachRow.{each-right, find_none}
+use Rattle.qfs_laws_tables.specs.EachRow.{each-right, find_none, without_none}
 use Rattle.qfs_laws_tables.specs.Keys.{equal-is}
 
 -- ---- what a comparison was
@@ -143,14 +143,6 @@ first_tied : {X : Type 0} (order : X → Ordering) (rows : List X) → starts_ti
 first_tied order [] tied = refl
 first_tied order (row ∷ rows) tied =
     ap (λ b. cond b rows (row ∷ without_first (has_key order) rows)) tied
-
-without_none : {X : Type 0} (test : X → Bool) (rows : List X) →
-    Each (λ row. test row ≡ false) rows →
-    without test rows ≡ rows
-without_none test [] each = refl
-without_none test (row ∷ rows) each =
-    ap (λ b. cond (not b) (row ∷ without test rows) (without test rows)) each.0
-    ∙ ap (λ rest. row ∷ rest) (without_none test rows each.1)
 
 -- what is taken out first would be taken out
 pub without_again : {X : Type 0} (test : X → Bool) (rows : List X) →

@@ -1,5 +1,5 @@
 -- The rows between two places.
-use Rattle.std.proofs.Common.{◌≡◌, ℕ, zero, suc, ◌+◌, ◌-◌, ◌≤◌, ◌<◌, Bool, true, false, cond, true≢false, List, [], ◌∷◌, ◌++◌, take, drop, filter, slice_range, refl, sym, ◌∙◌, ap, subst, arith, append_assoc, add-one}
+use Rattle.std.proofs.Common.{◌≡◌, ℕ, zero, suc, ◌+◌, ◌-◌, ◌≤◌, ◌<◌, true, false, true≢false, List, [], ◌∷◌, ◌++◌, take, drop, filter, slice_range, refl, sym, ◌∙◌, ap, subst, arith, append_assoc, add-one}
 use Rattle.std.proofs.lemmas.List.{append-nil, append_cancel_left, take-append-drop}
 use Rattle.std.proofs.lemmas.List.Elements.{filter-append}
 use Rattle.std.specs.Ordering.{is_eq, is_ge, is_gt}
@@ -13,7 +13,7 @@ use Rattle.qfs_table.specs.Places.{IsFirst}
 use Rattle.qfs_base.specs.EachLaws.{each_weaker}
 use Rattle.qfs_table.proofs.RowLaws.{gt_not_eq, lt_not_eq}
 use Rattle.qfs_table.proofs.FlatLaws.{flat_append, flat_cut}
-use Rattle.qfs_laws_tables.specs.EachRow.{each_both, each-left, each-right}
+use Rattle.qfs_laws_tables.specs.EachRow.{each_both, each-left, each-right, filter_all, filter_none}
 
 module _ {X : Type 0} where
   take_nothing : (n : ℕ) → take n (let none : List X = [] in none) ≡ []
@@ -86,20 +86,6 @@ module _ {T Z : Type 0} where
       ∙ ap (λ rows. rows ++ end) (sym (flat_until chunks first last below))
 
 -- ---- the rows with a key
-
-filter_none : {X : Type 0} (test : X → Bool) (rows : List X) → Each (λ row. test row ≡ false) rows →
-    filter test rows ≡ []
-filter_none test [] each = refl
-filter_none test (row ∷ rows) each =
-    ap (λ b. cond b (row ∷ filter test rows) (filter test rows)) each.0
-    ∙ filter_none test rows each.1
-
-filter_all : {X : Type 0} (test : X → Bool) (rows : List X) → Each (λ row. test row ≡ true) rows →
-    filter test rows ≡ rows
-filter_all test [] each = refl
-filter_all test (row ∷ rows) each =
-    ap (λ b. cond b (row ∷ filter test rows) (filter test rows)) each.0
-    ∙ ap (λ rest. row ∷ rest) (filter_all test rows each.1)
 
 between_so : (o : Ordering) → is_gt o ≡ false → is_ge o ≡ true → is_eq o ≡ true
 between_so Less e f = absurd (true≢false (sym f))

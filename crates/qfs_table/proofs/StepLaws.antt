@@ -5,7 +5,6 @@ use Rattle.std.specs.Cmp.{IsTotalOrder}
 use Rattle.std.specs.Ordering.{is_ge, is_gt, ordering_reverse}
 use Rattle.std.specs.Prelude.{Vec}
 use Rattle.std.specs.declared.cmp.Ordering.{Ordering}
-use Rattle.std.specs.declared.cmp.Ordering.TheVariants.{Less}
 use Rattle.qfs_base.specs.Table.{Each, IsRising, change_row, change_where, has_key}
 use Rattle.qfs_table.specs.Chunks.{flat, rows_at, front, back, change_first}
 use Rattle.qfs_table.specs.Cuts.{IsCut}
@@ -13,6 +12,8 @@ use Rattle.qfs_table.specs.Keys.{starts_tied}
 use Rattle.qfs_table.specs.Rooms.{strain}
 use Rattle.qfs_base.specs.EachLaws.{each_weaker}
 use Rattle.qfs_table.proofs.FlatLaws.{drop_next, set_cut, flat_cut, set_rows, set_strain}
+use Rattle.qfs_laws_tables.specs.InOrder.{change_rises as rows_rise}
+use Rattle.qfs_laws_tables.specs.Placed.{change_append, change_none}
 use Rattle.qfs_table.proofs.RowLaws.{all_other, gt_not_eq}
 
 module _ {X : Type 0} where
@@ -150,18 +151,6 @@ module _ {T Z : Type 0} where
 
 -- ---- changes of the rows with a key
 
-change_none : {X : Type 0} (test : X → Bool) (change : X → X) (rows : List X) →
-    Each (λ row. test row ≡ false) rows → change_where test change rows ≡ rows
-change_none test change [] each = refl
-change_none test change (row ∷ rows) each = λ i. change_row change row
-    (each.0 i) ∷ change_none test change rows each.1 i
-
-change_append : {X : Type 0} (test : X → Bool) (change : X → X) (xs ys : List X) →
-    change_where test change (xs ++ ys) ≡ change_where test change xs ++ change_where test change ys
-change_append test change [] ys = refl
-change_append test change (x ∷ xs) ys = ap (λ rest. change_row change x (test x) ∷ rest)
-    (change_append test change xs ys)
-
 pub change_long : {X : Type 0} (test : X → Bool) (change : X → X) (rows : List X) →
     length (change_where test change rows) ≡ length rows
 change_long test change [] = refl
@@ -209,26 +198,8 @@ cut_step test change (row ∷ rows) cut = cut.1
 -- a change that leaves the keys leaves the order
 module _ {X : Type 0} {cmp : X → X → Ordering} (total : IsTotalOrder cmp) (change : X → X)
     (keeps : (a b : X) → cmp (change a) b ≡ cmp a b) (test : X → Bool) where
-  keeps_left : (a b : X) (c : Bool) → cmp (change_row change a c) b ≡ cmp a b
-  keeps_left a b true = keeps a b
-  keeps_left a b false = refl
-
-  keeps_right : (a b : X) (c : Bool) → cmp a (change_row change b c) ≡ cmp a b
-  keeps_right a b true = total.antisymm a (change b) ∙ ap ordering_reverse (keeps b a)
-      ∙ sym (total.antisymm a b)
-  keeps_right a b false = refl
-
-  each_changed : (row : X) (rows : List X) → Each (λ later. cmp row later ≡ Less) rows →
-      Each (λ later. cmp (change_row change row (test row)) later ≡ Less)
-      (change_where test change rows)
-  each_changed row [] each = tt
-  each_changed row (later ∷ rows) each = (
-    keeps_left row (change_row change later (test later)) (test row)
-        ∙ keeps_right row later (test later) ∙ each.0,
-    each_changed row rows each.1,
-  )
-
   pub change_rises : (rows : List X) → IsRising cmp rows →
       IsRising cmp (change_where test change rows)
-  change_rises [] rising = tt
-  change_rises (row ∷ rows) rising = (each_changed row rows rising.0, change_rises rows rising.1)
+  change_rises =
+      rows_rise cmp test change keeps
+      (λ a b. total.antisymm a (change b) ∙ ap ordering_reverse (keeps b a) ∙ sym (total.antisymm a b))

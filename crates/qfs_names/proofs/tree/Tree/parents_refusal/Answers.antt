@@ -1,7 +1,7 @@
 use Rattle.std.proofs.Common.{◌≡◌, refl, sym, ap, ◌∙◌, take, None}
 use Rattle.qfs_base.specs.NameTree.{parents_refusal, kind_at, through_refusal}
 use Rattle.qfs_names.specs.Names.{standing_of}
-use Rattle.qfs_names.proofs.TreeLaws.{parents_next}
+use Rattle.qfs_laws_tree.specs.TreeFacts.{parents_next}
 use Rattle.qfs_names.proofs.tree.Tree.parents_refusal.Goals as goal
 
 pub loop-depth-init : goal.loop-depth-init
