@@ -2,7 +2,7 @@
 -- of the first path.
 use Rattle.std.proofs.Common.{◌≡◌, ◌⊎◌, ℕ, ◌+◌, ◌*◌, ◌<◌, ◌≤◌, List, [], ◌∷◌, ◌++◌, length, Some}
 use Rattle.std.proofs.Common.{None, Ok, refl, sym, ap, subst, ◌∙◌, arith, inl, inr}
-use Rattle.std.proofs.lemmas.List.{append-nil, length-append}
+use Rattle.std.proofs.lemmas.List.{append-nil, length_push}
 use Rattle.std.specs.Prelude.{slice_get}
 use Rattle.std.specs.List.{enumerate_from}
 use Rattle.std.specs.Option.{option_and_then}
@@ -170,10 +170,6 @@ no-step script commands steps w actor alone none =
           ∙ ap (move_asking w 1 Ended.Done actor) none,
     )
 
-pub ended-long : (ended : List Report) (report : Report)
-    → length (ended ++ report ∷ []) ≡ length ended + 1
-ended-long ended report = length-append ended (report ∷ [])
-
 module _ (script : Script) (commands : List Command) (steps : List Event) (w : World)
     (r : Run script commands steps w) (request : NodeRequest)
     (servers : List Server) (m : MetaImage) (reply : NodeReply) (more : List Entry)
@@ -245,7 +241,7 @@ module _ (script : Script) (commands : List Command) (steps : List Event) (w : W
             told_is,
             inl (record {
               silent = refl;
-              between = subst (Between script servers m) (sym (ended-long r.actor.ended report))
+              between = subst (Between script servers m) (sym (length_push r.actor.ended report))
                   between;
             }),
           );

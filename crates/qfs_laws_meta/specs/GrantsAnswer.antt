@@ -1,5 +1,5 @@
 -- The requests that open files and grant slots: what they are answered, and what their changes
--- tell.
+-- tell. For the law `steps_answer`.
 use Rattle.qfs_base.specs.NameTree.{PathNames}
 use Rattle.qfs_base.specs.declared.change.Change.TheVariants.{FailGrant, GiveLease, GrantSlot}
 use Rattle.qfs_base.specs.declared.chunk.BlockId.{BlockId}

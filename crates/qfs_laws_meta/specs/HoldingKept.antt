@@ -48,7 +48,8 @@ use Rattle.qfs_model_meta.specs.TreeRows.{has_file, is_unclosed_of, is_unclosed_
 use Rattle.std.proofs.Common.{Bool, List, None, Option, Some, [], ap, arith, false, inl, inr, not}
 use Rattle.std.proofs.Common.{refl, subst, sym, true, ℕ, ⊎_elim, ◌&&◌, ◌==◌, ◌||◌, ◌∙◌, ◌∷◌, ◌≡◌}
 use Rattle.std.proofs.lemmas.Bool.Decides.{nat_tests}
-use Rattle.std.proofs.lemmas.Bool.{and_from, and_parts, eq-eqb, eqb-true, ne_eqb, true≢false}
+use Rattle.std.proofs.lemmas.Bool.{and_from, and_parts, eq-eqb, eqb-true, ne_eqb, or_right}
+use Rattle.std.proofs.lemmas.Bool.{true≢false}
 use Rattle.std.specs.List.{list_any}
 use Rattle.std.specs.Prelude.{IfSome, IsTrue, is_some}
 
@@ -152,12 +153,8 @@ any-weaker p q more (x ∷ xs) any =
     (elim (p x) as (λ b. p x ≡ b → (b || list_any p xs) ≡ true
     → (q x || list_any q xs) ≡ true) [
       | true ↦ λ is _. ap (λ b. b || list_any q xs) (more x is)
-      | false ↦ λ _ any. or-on (q x) _ (any-weaker p q more xs any)
+      | false ↦ λ _ any. or_right (q x) _ (any-weaker p q more xs any)
     ]) refl any
-  where
-    or-on : (a b : Bool) → b ≡ true → (a || b) ≡ true
-    or-on true b e = refl
-    or-on false b e = e
 
 -- a live lease is the one that was given
 pub same-given : (row : Lease) (g : GivenLease) → same_lease g row ≡ true

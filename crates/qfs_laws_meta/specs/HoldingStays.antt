@@ -54,7 +54,7 @@ use Rattle.qfs_model_meta.specs.TreeRows.{file_stands, row_at, standing}
 use Rattle.std.proofs.Common.{Bool, List, None, Option, Some, [], ap, drop, false, inl, inr, length}
 use Rattle.std.proofs.Common.{map, not, refl, subst, sym, true, ℕ, ⊎_elim, ◌&&◌, ◌+◌, ◌<◌, ◌==◌}
 use Rattle.std.proofs.Common.{◌||◌, ◌∙◌, ◌∷◌, ◌≡◌, ◌⊎◌}
-use Rattle.std.proofs.lemmas.Bool.{eq-eqb, eqb-true, true≢false}
+use Rattle.std.proofs.lemmas.Bool.{cases_Bool, eq-eqb, eqb-true, or_left, true≢false}
 use Rattle.std.specs.Prelude.{IfSome, IsTrue}
 
 -- ---- the law
@@ -159,24 +159,16 @@ not-dropped rules actor who m request changes reply is none drop =
 
 -- ---- the parts of a holding
 
-live-or : (b : Bool) → (b ≡ true) ⊎ (b ≡ false)
-live-or true = inl refl
-live-or false = inr refl
-
-pub or-left : (a b : Bool) → a ≡ true → (a || b) ≡ true
-or-left true b e = refl
-or-left false b e = absurd (cc)
-
 -- a lease that was live and isn't behind a tick has ended by it
 ticked : (ended : ℕ → Bool) (m n : MetaImage) (lease : ℕ)
     → IsTrue (is_live_lease lease m.leases) ⊎ IsTrue (ended lease)
     → IsTrue (is_live_lease lease n.leases) ⊎ IsTrue (ended_behind ended Ask.Tick m n lease)
 unfolding ends_lease is_tick
-ticked ended m n lease (inr over) = inr (or-left (ended lease) _ over)
+ticked ended m n lease (inr over) = inr (or_left (ended lease) _ over)
 ticked ended m n lease (inl live) =
     ⊎_elim (λ still. inl still)
     (λ off. inr (one (ended lease) (is_live_lease lease m.leases) (is_live_lease lease n.leases)
-    live off)) (live-or (is_live_lease lease n.leases))
+    live off)) (cases_Bool (is_live_lease lease n.leases))
   where
     one : (e a b : Bool) → a ≡ true → b ≡ false → (e || (true && a && not b)) ≡ true
     one true a b on off = refl
@@ -186,7 +178,7 @@ ticked ended m n lease (inl live) =
 
 pub ended-on : (ended : ℕ → Bool) (request : MetaRequest) (m n : MetaImage) (lease : ℕ)
     → IsTrue (ended lease) → IsTrue (ended_behind ended request m n lease)
-ended-on ended request m n lease over = or-left (ended lease) _ over
+ended-on ended request m n lease over = or_left (ended lease) _ over
 
 tick-or : (request : MetaRequest) → (request ≡ Ask.Tick) ⊎ (request ≡ Ask.Tick → ⊥)
 tick-or Ask.Tick = inl refl

@@ -502,21 +502,10 @@ unblocked-any : (m : MetaImage) (after : ℕ) (row : CondemnedRow)
     → next_to_go m.servers after m.condemned ≡ Some row → is_unblocked row.blockers ≡ true
     → list_any (that_row row) m.condemned ≡ true
 unfolding next_to_go is_condemned_of
-unblocked-any m after row found free = found-row _ (that_row row) m.condemned row found
+unblocked-any m after row found free = found-any _ (that_row row) m.condemned row found
     (and_from _ _ (and_from _ _ (and_from _ _ (same_block-self row.condemned.block)
     (eq-eqb row.condemned.slot row.condemned.slot refl))
     (eq-eqb row.condemned.copy.version row.condemned.copy.version refl)) free)
-  where
-    found-row : (test other : CondemnedRow → Bool) (xs : List CondemnedRow) (x : CondemnedRow)
-        → find test xs ≡ Some x → other x ≡ true → list_any other xs ≡ true
-    found-row test other [] x found is = absurd (cc)
-    found-row test other (y ∷ xs) x found is =
-        (elim (test y) as (λ b. cond b (Some y) (find test xs) ≡ Some x →
-        (other y || list_any other xs) ≡ true) [
-          | true ↦ λ found. let e : y ≡ x = cc in ap (λ b. b || list_any other xs) (ap other e ∙ is)
-          | false ↦ λ found. elim (other y) as (λ b. (b || list_any other xs) ≡ true)
-              [ true ↦ refl | false ↦ found-row test other xs x found is ]
-        ]) found
 
 -- a row that a lease blocks and one that nothing blocks are two
 weighs-one : (r : CondemnedRow) (block : BlockId) (slot v : ℕ) → r.condemned.block ≡ block

@@ -1,4 +1,5 @@
--- What each request may be answered, and what each answer says of the state that decided it.
+-- What each request may be answered, and what each answer says of the state that decided it. For
+-- the law `steps_answer`.
 use Rattle.qfs_base.specs.NameTree.{PathNames, add_refusal, directory_refusal, look_refusal}
 use Rattle.qfs_base.specs.NameTree.{names_below, rename_refusal, rmdir_refusal}
 use Rattle.qfs_base.specs.Shape.{Shape}

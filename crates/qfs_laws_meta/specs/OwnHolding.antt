@@ -19,7 +19,7 @@ use Rattle.qfs_base.specs.declared.rules.Rules.{Rules}
 use Rattle.qfs_laws_meta.specs.GrantsFit.{GrantsFit, given-self, given-told, granting-does}
 use Rattle.qfs_laws_meta.specs.GrantsFit.{prepared, same-next}
 use Rattle.qfs_laws_meta.specs.HoldingKept.{Holds, NotTold, ended_behind, live-all}
-use Rattle.qfs_laws_meta.specs.HoldingStays.{holding-kept, not-dropped, or-left, same-holding}
+use Rattle.qfs_laws_meta.specs.HoldingStays.{holding-kept, not-dropped, same-holding}
 use Rattle.qfs_laws_meta.specs.HoldingStays.{turned-holding}
 use Rattle.qfs_laws_meta.specs.Kept.{Fits, Keeps, kept}
 use Rattle.qfs_laws_meta.specs.RequestChanges.{Does, GivesGrant, GivesNothing, GrantsIn, Prepares}
@@ -56,7 +56,7 @@ use Rattle.qfs_model_meta.specs.TreeRows.{is_unclosed_row, kind_of}
 use Rattle.std.proofs.Common.{Bool, List, None, Some, [], ap, arith, false, filter, inl, inr}
 use Rattle.std.proofs.Common.{length, not, refl, subst, suc, sym, true, zero, ℕ, ⊎_elim, ◌&&◌, ◌++◌}
 use Rattle.std.proofs.Common.{◌+◌, ◌<◌, ◌==◌, ◌∙◌, ◌∷◌, ◌≡◌, ◌≤◌}
-use Rattle.std.proofs.lemmas.Bool.{and_from, eq-eqb, true≢false}
+use Rattle.std.proofs.lemmas.Bool.{and_from, eq-eqb, or_left, true≢false}
 use Rattle.std.specs.List.{list_any}
 use Rattle.std.specs.Prelude.{IsTrue}
 
@@ -97,7 +97,7 @@ created-writes past m path actor command len f may =
     subst IsTrue (sym (unclosed-any actor m.next_file
     (add_row (file_row path m.next_file actor command len) m.tree)))
     (any-added (unclosed_test actor m.next_file) (file_row path m.next_file actor command len)
-    m.tree may.adds.free ∙ or-left _ _ (unclosed-new path m.next_file actor command len
+    m.tree may.adds.free ∙ or_left _ _ (unclosed-new path m.next_file actor command len
     f.first_file))
 
 -- the grant that it is told

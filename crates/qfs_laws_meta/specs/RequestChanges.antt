@@ -84,7 +84,7 @@ use Rattle.qfs_model_meta.specs.TreeRows.{unclosed_files}
 use Rattle.std.proofs.Common.{Bool, List, None, Option, Some, [], ap, cond, false, filter, inl, inr}
 use Rattle.std.proofs.Common.{length, map, refl, subst, sym, true, ℕ, ◌&&◌, ◌++◌, ◌+◌, ◌==◌, ◌||◌}
 use Rattle.std.proofs.Common.{◌∙◌, ◌∷◌, ◌≡◌, ◌⊎◌}
-use Rattle.std.proofs.lemmas.Bool.{and_from, and_parts, eq-eqb, eqb-true}
+use Rattle.std.proofs.lemmas.Bool.{and_from, and_parts, eq-eqb, eqb-true, or_right}
 use Rattle.std.specs.List.{list_any}
 use Rattle.std.specs.Prelude.{IsTrue, flat_map, is_none, is_some, min, ⊤}
 
@@ -251,10 +251,6 @@ module _ (actor : ℕ) (m : MetaImage) (request : MetaRequest) where
 
 -- ---- lists of changes
 
-or-on : (a b : Bool) → b ≡ true → (a || b) ≡ true
-or-on true b e = refl
-or-on false b e = e
-
 some-there : {X : Type 0} (o : Option X) (x : X) → o ≡ Some x → IsTrue (is_some o)
 some-there o x is = subst (λ k. IsTrue (is_some k)) (sym is) refl
 
@@ -374,7 +370,7 @@ module _ (actor : ℕ) (m : MetaImage) where
         each_weaker (λ (x : Lease). (x.actor == who) ≡ true
             → list_any (λ (lease : Lease). is_lease x.lease lease &&
             (lease.actor == who)) ls ≡ true)
-            _ (λ x any is. or-on _ _ (any is)) ls (held ls),
+            _ (λ x any is. or_right _ _ (any is)) ls (held ls),
       )
 
   -- the unclosed files of an actor are its own
@@ -402,7 +398,7 @@ module _ (actor : ℕ) (m : MetaImage) where
             (has_file-is row.file row ∙ eq-eqb row.file row.file refl))),
         each_weaker (λ (x : TreeRow). is_unclosed_of who x ≡ true
             → list_any (unclosed_test who x.file) rows ≡ true) _
-            (λ x any is. or-on _ _ (any is)) rows (there rows),
+            (λ x any is. or_right _ _ (any is)) rows (there rows),
       )
 
 -- ---- refusals give nothing

@@ -1,5 +1,5 @@
 -- The requests that give up, take away or tell: what they are answered, and what their changes
--- tell.
+-- tell. For the law `steps_answer`.
 use Rattle.std.proofs.Common.{◌≡◌, ℕ, ◌+◌, Bool, true, false, cond, List, [], ◌∷◌, ◌++◌, map}
 use Rattle.std.proofs.Common.{filter, length, Option, Some, None, refl, subst}
 use Rattle.std.specs.Prelude.{min, flat_map}

@@ -1,6 +1,5 @@
 -- What is known of each slot behind each change: a change touches one slot, or the slots of one
 -- file, and leaves all others. Cited by the laws of what a step tells of slots and grants.
-use Rattle.qfs_base.specs.Table.{change_row, change_where}
 use Rattle.qfs_base.specs.declared.change.Change.TheVariants.{AbortFile, AddDirectory, CloseFile}
 use Rattle.qfs_base.specs.declared.change.Change.TheVariants.{CondemnStray, ConfirmSlot, EmptySlot}
 use Rattle.qfs_base.specs.declared.change.Change.TheVariants.{FailGrant, GiveUp, GrantSlot}
@@ -12,23 +11,21 @@ use Rattle.qfs_base.specs.declared.image.MetaImage.{MetaImage}
 use Rattle.qfs_base.specs.declared.image.SlotRecord.{SlotRecord}
 use Rattle.qfs_base.specs.declared.image.SlotRow.{SlotRow}
 use Rattle.qfs_laws_slots.specs.Losing.{condemned-slots, stray-frame}
-use Rattle.qfs_laws_slots.specs.Slots.{changed-other, forgotten-cases, is_slot-is, is_slot-self}
+use Rattle.qfs_laws_slots.specs.Slots.{changed-other, failed_change, forgotten-cases, is_slot-is}
+use Rattle.qfs_laws_slots.specs.Slots.{is_slot-self}
 use Rattle.qfs_laws_slots.specs.Slots.{placed-cases, placed-same, sealed-cases}
-use Rattle.qfs_laws_slots.specs.Slots.{slot-cases, slot_at-behind, slot_at-here, slot_cases}
+use Rattle.qfs_laws_slots.specs.Slots.{slot-cases, slot_cases}
 use Rattle.qfs_model_meta.specs.Apply.{add_file, apply, bring_up, change_record, confirm_slot}
 use Rattle.qfs_model_meta.specs.Apply.{empty_slot, fail_grant, finish_lease, give_up, grant_slot}
 use Rattle.qfs_model_meta.specs.Apply.{with_slots, write_entry}
 use Rattle.qfs_model_meta.specs.Condemned.{condemn, condemn_any}
-use Rattle.qfs_model_meta.specs.FreedLaws.{key_kept}
 use Rattle.qfs_model_meta.specs.Servers.{server_at}
-use Rattle.qfs_model_meta.specs.Slots.{change_slot, change_state, confirmed_slot, emptied_slot}
+use Rattle.qfs_model_meta.specs.Slots.{change_slot, confirmed_slot, emptied_slot}
 use Rattle.qfs_model_meta.specs.Slots.{failed_slot, granted_copy, granted_slot, is_slot}
 use Rattle.qfs_model_meta.specs.Slots.{never_granted, sealed_slot, slot_at, ungranted_slot}
-use Rattle.std.proofs.Common.{Bool, List, None, Option, Some, [], ap, cond, false, find, inl, inr}
-use Rattle.std.proofs.Common.{refl, subst, sym, true, ℕ, ◌==◌, ◌∙◌, ◌∷◌, ◌≡◌, ◌⊎◌}
+use Rattle.std.proofs.Common.{Bool, List, None, Option, Some, ap, false, inl, inr}
+use Rattle.std.proofs.Common.{refl, subst, sym, true, ℕ, ◌==◌, ◌∙◌, ◌≡◌, ◌⊎◌}
 use Rattle.std.proofs.lemmas.Bool.{eq-eqb, eqb-true, true≢false}
-use Rattle.std.specs.Option.{option_map}
-use Rattle.std.specs.Prelude.{unwrap_or}
 
 -- the slots that a change touches
 abbrev pub Touches : Change → BlockId → ℕ → Type 0
@@ -142,45 +139,6 @@ given_up-there block slot m (Some grant) other at apart =
     changed-there ungranted_slot block slot (condemn block slot grant.copy m).slots other at apart
     ∙ ap (λ rows. slot_at rows other at) (condemned-slots block slot m (Some grant.copy))
 
-abbrev record_in : Option SlotRow → SlotRecord
-record_in found = unwrap_or (option_map (λ (row : SlotRow). row.state) found) never_granted
-
--- a slot with a grant has a record
-failed-change : (server : ℕ) (block : BlockId) (slot : ℕ) (rows : List SlotRow) (grant : Grant)
-    → (slot_at rows block slot).grant ≡ Some grant
-    → slot_at (change_slot block slot (failed_slot server) (change_slot block slot ungranted_slot
-    rows)) block slot ≡ failed_slot server (ungranted_slot (slot_at rows block slot))
-unfolding change_slot slot_at change_state never_granted
-failed-change server block slot [] grant is = absurd (cc)
-failed-change server block slot (row ∷ rows) grant is =
-    (elim (is_slot block slot row) as (λ b. is_slot block slot row ≡ b
-    → (record_in (cond b (Some row) (find (is_slot block slot) rows))).grant ≡ Some grant
-    → record_in (find (is_slot block slot) (change_where (is_slot block slot)
-    (change_state (failed_slot server)) (change_row (change_state ungranted_slot) row b
-    ∷ change_where (is_slot block slot) (change_state ungranted_slot) rows)))
-    ≡ failed_slot server (ungranted_slot
-    (record_in (cond b (Some row) (find (is_slot block slot) rows))))) [
-      | true ↦ λ here _.
-          let once : is_slot block slot (change_state ungranted_slot row) ≡ true =
-          key_kept block slot ungranted_slot row true ∙ here in
-          let twice : is_slot block slot (change_state (failed_slot server)
-          (change_state ungranted_slot row)) ≡ true = key_kept block slot (failed_slot server)
-          (change_state ungranted_slot row) true ∙ once in
-          ap (λ b. record_in (find (is_slot block slot) (change_row
-          (change_state (failed_slot server)) (change_state ungranted_slot row) b
-          ∷ change_where (is_slot block slot) (change_state (failed_slot server))
-          (change_where (is_slot block slot) (change_state ungranted_slot) rows)))) once
-          ∙ slot_at-here block slot (change_state (failed_slot server)
-          (change_state ungranted_slot row)) _ twice
-      | false ↦ λ away is.
-          ap (λ b. record_in (find (is_slot block slot) (change_row
-          (change_state (failed_slot server)) row b
-          ∷ change_where (is_slot block slot) (change_state (failed_slot server))
-          (change_where (is_slot block slot) (change_state ungranted_slot) rows)))) away
-          ∙ slot_at-behind block slot row _ away
-          ∙ failed-change server block slot rows grant is
-    ]) refl is
-
 failed-here : (block : BlockId) (slot : ℕ) (m : MetaImage) (found : Option Grant)
     → (slot_at m.slots block slot).grant ≡ found
     → slot_at (fail_grant block slot m found).slots block slot ≡ failed_record
@@ -191,7 +149,7 @@ failed-here block slot m (Some grant) is =
     ap (λ rows. slot_at (change_slot block slot (failed_slot grant.copy.server)
     (change_slot block slot ungranted_slot rows)) block slot)
     (condemned-slots block slot m (Some grant.copy))
-    ∙ failed-change grant.copy.server block slot m.slots grant is
+    ∙ failed_change grant.copy.server block slot m.slots grant is
 
 failed-there : (block : BlockId) (slot : ℕ) (m : MetaImage) (found : Option Grant)
     (other : BlockId) (at : ℕ)

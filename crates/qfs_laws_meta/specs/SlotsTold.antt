@@ -55,9 +55,9 @@ use Rattle.qfs_model_meta.specs.Sound.{IsSound}
 use Rattle.qfs_model_meta.specs.Step.{meta_step, next_turn, stays}
 use Rattle.qfs_model_meta.specs.TreeRows.{close_file, closed_file, file_stands, has_file}
 use Rattle.std.proofs.Common.{List, None, Option, Some, [], ap, arith, false, inl, inr, length}
-use Rattle.std.proofs.Common.{refl, subst, sym, true, ℕ, ⊎_elim, ◌+◌, ◌<◌, ◌==◌, ◌∙◌, ◌∷◌, ◌≡◌, ◌≤◌}
+use Rattle.std.proofs.Common.{refl, subst, sym, ℕ, ⊎_elim, ◌+◌, ◌<◌, ◌∙◌, ◌∷◌, ◌≡◌, ◌≤◌}
 use Rattle.std.proofs.Common.{◌⊎◌}
-use Rattle.std.proofs.lemmas.Bool.{eq-eqb, eqb-true, true≢false}
+use Rattle.std.proofs.lemmas.Bool.{cases_eq}
 use Rattle.std.specs.Prelude.{IsTrue, is_some, min, ⊤}
 
 -- ---- the law
@@ -140,17 +140,10 @@ remove-gone past m path file may f = record {
       (tree-back past m (RemoveFile path file) may f).1;
 }
 
-same-number : (a b : ℕ) → (a ≡ b) ⊎ (a ≡ b → ⊥)
-same-number a b =
-    (elim (a == b) as (λ t. (a == b) ≡ t → (a ≡ b) ⊎ (a ≡ b → ⊥)) [
-      | true ↦ λ is. inl (eqb-true a b is)
-      | false ↦ λ off. inr (λ e. true≢false (sym (eq-eqb a b e) ∙ off))
-    ]) refl
-
 ends-or : (change : Change) (file : ℕ) → EndsFile change file ⊎ (EndsFile change file → ⊥)
-ends-or (CloseFile other actor command) file = same-number other file
-ends-or (AbortFile other) file = same-number other file
-ends-or (RemoveFile path other) file = same-number other file
+ends-or (CloseFile other actor command) file = cases_eq other file
+ends-or (AbortFile other) file = cases_eq other file
+ends-or (RemoveFile path other) file = cases_eq other file
 ends-or (AddDirectory path) file = inr (λ e. e)
 ends-or _ file = inr (λ e. e)
 

@@ -1,5 +1,5 @@
 -- Every step of a sound metaserver answers as its request may be answered, and tells what its
--- answer says of the state behind it.
+-- answer says of the state behind it. The law `steps_answer`.
 use Rattle.std.proofs.Common.{◌≡◌, ℕ, ◌+◌, ◌<◌, true, length, refl, subst, sym}
 use Rattle.qfs_base.specs.Sizes.{LAST_U32}
 use Rattle.qfs_base.specs.declared.history.Outcome.{Outcome}

@@ -33,8 +33,8 @@ use Rattle.qfs_model_meta.specs.TreeRows.{file_row, file_stands, has_file, is_un
 use Rattle.qfs_model_meta.specs.TreeRows.{is_unclosed_of, is_unclosed_row, move_path, standing}
 use Rattle.qfs_model_meta.specs.TreeRows.{take_file, take_path, unclosed_file}
 use Rattle.std.proofs.Common.{Bool, List, Some, [], ap, arith, false, filter, not, refl, subst, sym}
-use Rattle.std.proofs.Common.{true, ℕ, ◌&&◌, ◌<◌, ◌==◌, ◌||◌, ◌∙◌, ◌≡◌, ◌≤◌}
-use Rattle.std.proofs.lemmas.Bool.{and_parts, eq-eqb, ne_eqb, true≢false}
+use Rattle.std.proofs.Common.{true, ℕ, ◌&&◌, ◌<◌, ◌==◌, ◌∙◌, ◌≡◌, ◌≤◌}
+use Rattle.std.proofs.lemmas.Bool.{and_parts, eq-eqb, ne_eqb, or_right, true≢false}
 use Rattle.std.specs.List.{list_any}
 use Rattle.std.specs.Prelude.{IsTrue, is_some}
 
@@ -67,10 +67,6 @@ onward : (actor file : ℕ) (tree more : List TreeRow)
 onward actor file tree more on is =
     subst IsTrue (sym (unclosed-any actor file more))
     (on (subst IsTrue (unclosed-any actor file tree) is))
-
-or-on : (a b : Bool) → b ≡ true → (a || b) ≡ true
-or-on true b e = refl
-or-on false b e = e
 
 apart-files : (a b : ℕ) → (b ≡ a → ⊥) → (a == b) ≡ false
 apart-files a b apart = ne_eqb a b (λ e. apart (sym e))
@@ -159,10 +155,10 @@ unfolding apply write_entry add_file with_slots grant_slot finish_lease bring_up
     file_row
 still-writes past m (AddDirectory path) may f actor file ends is =
     onward actor file m.tree _ (λ any. any-added (unclosed_test actor file) (directory_row path)
-    m.tree may.free ∙ or-on _ _ any) is
+    m.tree may.free ∙ or_right _ _ any) is
 still-writes past m (AddFile path by command len) may f actor file ends is =
     onward actor file m.tree _ (λ any. any-added (unclosed_test actor file)
-    (file_row path m.next_file by command len) m.tree may.adds.free ∙ or-on _ _ any) is
+    (file_row path m.next_file by command len) m.tree may.adds.free ∙ or_right _ _ any) is
 still-writes past m (TakeDirectory path) may f actor file ends is =
     taken-away actor file path m Is.Directory f (emptied-root m.tree path may)
     (rmdir-empty (standing m.tree) path may).0 directory-open is

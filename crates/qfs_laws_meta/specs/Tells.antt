@@ -1,5 +1,5 @@
--- What a change tells of the state behind it: where its current copies, grants and live leases
--- come from, and what rises.
+-- What a change tells of the state behind it: where its current copies, grants and live leases come
+-- from, and what rises. For the law `steps_answer`.
 use Rattle.std.proofs.Common.{◌≡◌, ℕ, ◌≤◌, ◌⊎◌, inl, inr, ⊎_elim, true, length, List, [], ◌∷◌, ◌++◌, Option, Some, None, refl, sym, ap, ◌∙◌, subst, arith, append_assoc}
 use Rattle.qfs_base.specs.declared.chunk.BlockId.{BlockId}
 use Rattle.qfs_base.specs.declared.chunk.Copy.{Copy}

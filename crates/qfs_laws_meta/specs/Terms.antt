@@ -43,6 +43,7 @@ use Rattle.qfs_model_meta.specs.Step.{take_step, next_turn}
 use Rattle.qfs_model_meta.specs.TreeRows.{file_stands, closed_file}
 use Rattle.qfs_base.specs.EachLaws.{each_weaker, each_filter}
 use Rattle.qfs_laws_tables.specs.EachRow.{each_map, each_of_all, each-right, each-self}
+use Rattle.qfs_laws_tables.specs.SomeRow.{any_mapped}
 use Rattle.qfs_laws_slots.specs.Condemning.{condemn_any-cases}
 use Rattle.qfs_laws_slots.specs.RowKeys.{is_lease-is}
 use Rattle.qfs_laws_tree.specs.Stands.{stands_of_closed}
@@ -116,11 +117,6 @@ ended-counters : (numbers : List ℕ) (m : MetaImage)
 unfolding apply_all apply finish_lease counters_fit
 ended-counters [] m = refl
 ended-counters (n ∷ numbers) m = ended-counters numbers (finish_lease n m)
-
-any-mapped : {X Y : Type 0} (test : Y → Bool) (f : X → Y) (xs : List X)
-    → list_any test (map f xs) ≡ list_any (λ x. test (f x)) xs
-any-mapped test f [] = refl
-any-mapped test f (x ∷ xs) = ap (λ b. test (f x) || b) (any-mapped test f xs)
 
 apart : (a b : ℕ) → a < b → (a == b) ≡ false
 apart a b l = ne_eqb a b (λ e. omega arith)
@@ -203,7 +199,7 @@ ticks-end-leases rules actor past m sound none =
         → any_of (leases_over now leases) l ≡ list_any (λ (x : Lease). is_lease x.lease l)
         (filter (has_run_out now) leases)
     mapped now leases l =
-        unfold leases_over in any-mapped (λ n. is_lease n l) (λ (x : Lease). x.lease)
+        unfold leases_over in any_mapped (λ (x : Lease). x.lease) (λ n. is_lease n l)
         (filter (has_run_out now) leases)
 
     ticked : (m n : MetaImage) (numbers : List ℕ) → n.clock ≡ min (m.clock + 1) LAST_U64
