@@ -1,4 +1,4 @@
--- The bytes of a block's slots are bytes.
+-- The bytes of a block's slots are bytes. For the law `slots_of_blocks_are_code_words`.
 use Rattle.std.proofs.Common.{ℕ, ◌+◌, ◌*◌, ◌<◌, Bool, true, false, List, [], ◌∷◌, map, lit<, All}
 use Rattle.std.specs.Prelude.{nat_lt}
 use Rattle.std.proofs.lemmas.Nat.{xor_lt}

@@ -1,4 +1,4 @@
--- The slots of a block are code words.
+-- The slots of a block are code words. The law `slots_of_blocks_are_code_words`.
 use Rattle.std.proofs.Common.{◌≡◌, ℕ, zero, suc, ◌+◌, ◌<◌, List, [], ◌∷◌, length, get_or, map, take, refl, sym, subst, arith, zero-add, All}
 use Rattle.std.proofs.lemmas.List.FromFn.{length-map-range_with_len, get_or-map-range_with_len}
 use Rattle.qfs_base.specs.Mask.{all_slots}

@@ -1,4 +1,5 @@
--- Parts of code words, and what six of a block's slots give.
+-- Parts of code words, and what six of a block's slots give. The laws `parts_are_code_words` and
+-- `six_slots_give_each`.
 use Rattle.std.proofs.Common.{◌≡◌, ℕ, zero, suc, ◌+◌, ◌<◌, ◌≤◌, true, List, [], ◌∷◌, length, get_or, map, drop, refl, sym, ◌∙◌, subst, arith, ⊎_elim, length-take, length-drop, get_or-take, get_or-drop, All}
 use Rattle.std.proofs.lemmas.Bool.{cases_lt}
 use Rattle.std.proofs.lemmas.List.{length-map, get_or_past}

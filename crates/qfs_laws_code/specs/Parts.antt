@@ -1,4 +1,5 @@
--- Parts of the slots of a file, as gets and recoveries read them.
+-- Parts of the slots of a file, as gets and recoveries read them. For the laws
+-- `parts_are_code_words` and `six_slots_give_each`.
 use Rattle.std.specs.Prelude.{ℕ, List, drop, map, take}
 use Rattle.qfs_base.specs.Mask.{all_slots}
 use Rattle.qfs_base.specs.Shape.{Shape}

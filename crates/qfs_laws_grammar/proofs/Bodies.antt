@@ -1,4 +1,5 @@
--- How much the actors of a script ask for, with an actor more and with a command more.
+-- How much the actors of a script ask for, with an actor more and with a command more. For both
+-- laws.
 use Rattle.std.proofs.Common.{◌≡◌, ◌⊎◌, ◌∙◌, inl, inr, sym, ap, refl, subst, arith, ℕ, ◌+◌, ◌<◌, ◌≤◌, List, [], ◌∷◌, ◌++◌, length, Some, None, append_assoc, append-nil, length-append}
 use Rattle.std.specs.Prelude.{flat_map, filter_map, sum_by}
 use Rattle.std.specs.List.{range_with_len, cons_option}

@@ -1,4 +1,4 @@
--- The bytes of a file's chunks, told at once and block by block.
+-- The bytes of a file's chunks, told at once and block by block. For both laws.
 use Rattle.std.proofs.Common.{◌≡◌, ◌∙◌, sym, ap, refl, arith, ℕ, zero, suc, ◌+◌, ◌-◌, ◌*◌, ◌/◌, ◌%◌, ◌<◌, ◌≤◌, min, []}
 use Rattle.std.proofs.Math.Nat.{mul_comm, mul-pos, mul-le-mul_right, mul-div-le, mul-div_cancel_left, mul-mod_right, zero-div, zero-mod, mod-eq-sub-div-mul, mod-lt}
 use Rattle.std.specs.Prelude.{sum_by}

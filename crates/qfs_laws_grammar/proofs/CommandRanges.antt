@@ -1,4 +1,4 @@
--- The ranges of what command lines say.
+-- The ranges of what command lines say. For the law `read_texts_are_scripts`.
 use Rattle.std.proofs.Common.{ℕ, ◌-◌, ◌≤◌, arith, List, [], ◌∷◌}
 use Rattle.std.specs.Prelude.{⊤, IfOk, slice_index, codes, if◌then◌else◌, Bool, true, false}
 use Rattle.std.specs.Str.{bytes_eq}

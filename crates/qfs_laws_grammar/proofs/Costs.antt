@@ -1,4 +1,5 @@
--- What the commands of some phases put, with a command, an actor or a phase more.
+-- What the commands of some phases put, with a command, an actor or a phase more. For the law
+-- `printed_scripts_are_read_back`.
 use Rattle.std.proofs.Common.{◌≡◌, ◌∙◌, sym, ap, arith, ℕ, ◌+◌, Bool, true, List, [], ◌∷◌, ◌++◌, length, Ok, append_assoc, length-append}
 use Rattle.std.specs.Prelude.{flat_map, filter_map, sum_by}
 use Rattle.std.proofs.lemmas.List.Concat.{flat_map-append}

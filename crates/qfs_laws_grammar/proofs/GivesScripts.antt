@@ -1,4 +1,4 @@
--- What is read of a text is a script, for the law of qfs_model_grammar.
+-- What is read of a text is a script. The law `read_texts_are_scripts`.
 use Rattle.std.proofs.Common.{◌≡◌, refl, ℕ, ◌+◌, Bool, true, false, List, [], ◌∷◌, length, Option, Some, None, Ok, Err}
 use Rattle.std.specs.Prelude.{⊤, IfOk, IsSome, ok_or, nat_le, not, is_none, ◌&&◌, if◌then◌else◌}
 use Rattle.qfs_base.specs.declared.script.ScriptCause.TheVariants as Cause

@@ -1,4 +1,4 @@
--- Facts on lists of lists, as a script has them.
+-- Facts on lists of lists, as a script has them. For both laws.
 use Rattle.std.proofs.Common.{◌≡◌, ◌∙◌, ap, refl, arith, ◌≤◌, List, [], ◌∷◌, ◌++◌, length, append-nil}
 use Rattle.std.specs.Prelude.{flat_map}
 use Rattle.std.proofs.lemmas.List.Concat.{flat_map-append}

@@ -1,4 +1,5 @@
--- Lines of plain words: what a line says is its words, and a text of such lines is its lines.
+-- Lines of plain words: what a line says is its words, and a text of such lines is its lines. For
+-- the law `printed_scripts_are_read_back`.
 use Rattle.std.proofs.Common.{◌≡◌, ◌∙◌, ap, refl, arith, ℕ, ◌≤◌, Bool, true, false, ◌&&◌, not, cond, List, [], ◌∷◌, ◌++◌, length, append_assoc, append-nil}
 use Rattle.std.specs.Prelude.{All, nat_le, ◌==◌, filter, flat_map}
 use Rattle.std.specs.List.{slice_split, list_all}

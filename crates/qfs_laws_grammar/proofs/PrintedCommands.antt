@@ -1,4 +1,5 @@
--- The line of each command as it is printed, and that it is read back.
+-- The line of each command as it is printed, and that it is read back. For the law
+-- `printed_scripts_are_read_back`.
 use Rattle.std.proofs.Common.{◌≡◌, ◌∙◌, ap, refl, arith, ℕ, ◌-◌, ◌<◌, ◌≤◌, ◌^◌, false, List, [], ◌∷◌, Some, None, Ok}
 use Rattle.std.specs.Prelude.{decimal, codes, slice_index}
 use Rattle.hex.specs.Hex.{encode_lower}

@@ -1,4 +1,4 @@
--- The first words of lines, as they are printed.
+-- The first words of lines, as they are printed. For the law `printed_scripts_are_read_back`.
 use Rattle.std.proofs.Common.{◌≡◌, refl, false, List, Some, ℕ}
 use Rattle.std.specs.Prelude.{codes}
 use Rattle.qfs_model_grammar.specs.FirstWord.{FirstWord}

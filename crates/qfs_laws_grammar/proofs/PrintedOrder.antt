@@ -1,4 +1,5 @@
--- The runs of an order as they are printed: the words are plain, and they are read back.
+-- The runs of an order as they are printed: the words are plain, and they are read back. For the
+-- law `printed_scripts_are_read_back`.
 use Rattle.std.proofs.Common.{◌≡◌, ◌∙◌, sym, ap, refl, subst, arith, ℕ, suc, ◌+◌, ◌<◌, ◌≤◌, ◌^◌, Bool, true, false, cond, List, [], ◌∷◌, ◌++◌, length, take, drop, replicate, Option, Some, Ok, append_assoc, length-append}
 use Rattle.std.specs.Prelude.{All, decimal, codes, ok_or, take_while, if◌then◌else◌}
 use Rattle.std.specs.List.{slice_split, prefix_len}

@@ -1,4 +1,5 @@
--- The words of a script as they are printed: each is plain, and is read back.
+-- The words of a script as they are printed: each is plain, and is read back. For the law
+-- `printed_scripts_are_read_back`.
 use Rattle.std.proofs.Common.{◌≡◌, ◌∙◌, sym, ap, refl, arith, ℕ, zero, suc, ◌/◌, ◌%◌, ◌<◌, ◌≤◌, ◌^◌, List, [], ◌∷◌, length, Option, Result, Ok}
 use Rattle.std.specs.Prelude.{All, ok_or, decimal, slice_index}
 use Rattle.std.specs.Int.{is_power_of_two}

@@ -1,4 +1,4 @@
--- What is printed of a script is read back, for the law of qfs_model_grammar.
+-- What is printed of a script is read back. The law `printed_scripts_are_read_back`.
 use Rattle.std.proofs.Common.{◌≡◌, ◌⊎◌, inl, inr, ◌∙◌, sym, ap, refl, subst, arith, ℕ, zero, suc, ◌+◌, ◌<◌, ◌≤◌, ◌^◌, Bool, true, false, List, [], ◌∷◌, ◌++◌, length, Option, Some, None, Result, Ok, append_assoc, append-nil, length-append}
 use Rattle.std.specs.Prelude.{codes, decimal, filter_map, map, IfSome, nat_lt, not, is_none, IsSome, ◌&&◌}
 use Rattle.std.specs.List.{cons_option}

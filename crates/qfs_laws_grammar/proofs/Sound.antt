@@ -1,4 +1,4 @@
--- What is read of a script keeps all ranges and limits, line after line.
+-- What is read of a script keeps all ranges and limits, line after line. For both laws.
 use Rattle.std.proofs.Common.{◌≡◌, ◌∙◌, sym, ap, refl, subst, arith, ℕ, ◌+◌, ◌≤◌, true, List, [], ◌∷◌, ◌++◌, length, append_assoc, append-nil, length-append}
 use Rattle.std.specs.Prelude.{⊤, flat_map, IfOk, IfSome, nat_lt}
 use Rattle.std.proofs.lemmas.Bool.{leb-true, and_parts}

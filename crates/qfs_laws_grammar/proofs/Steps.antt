@@ -1,5 +1,5 @@
 -- What holds of each value that a step of the grammar gives, put together as the grammar puts steps
--- together.
+-- together. For the law `read_texts_are_scripts`.
 use Rattle.std.proofs.Common.{refl, subst}
 use Rattle.std.specs.Prelude.{◌≡◌, ⊤, Bool, true, false, List, [], ◌∷◌, Option, Some, None, Result, Ok, Err, ok_or, IfOk, IfSome}
 use Rattle.qfs_base.specs.Table.{Each}

@@ -1,4 +1,5 @@
--- From one state of reading to another through printed lines.
+-- From one state of reading to another through printed lines. For the law
+-- `printed_scripts_are_read_back`.
 use Rattle.std.proofs.Common.{◌≡◌, ◌∙◌, sym, ap, refl, subst, arith, ℕ, ◌+◌, ◌≤◌, Bool, true, List, [], ◌∷◌, ◌++◌, length, Option, Ok}
 use Rattle.std.specs.Prelude.{ok_or, nat_le, flat_map, if◌then◌else◌}
 use Rattle.std.proofs.lemmas.Bool.{le-leb}

@@ -1,4 +1,4 @@
--- The ranges of what words say.
+-- The ranges of what words say. For both laws.
 use Rattle.std.proofs.Common.{◌≡◌, refl, ℕ, zero, suc, ◌<◌, ◌≤◌, List, [], ◌∷◌, length, get_or, Option, Some, None, Result, Ok, Err}
 use Rattle.std.specs.Prelude.{⊤, ok_or, take_while, drop, IfOk, IfSome, replicate}
 use Rattle.std.specs.List.{slice_split}
