@@ -52,7 +52,7 @@ unchanged test change (row ∷ rows) each =
     λ i. change_row change row (each.0 i) ∷ unchanged test change rows each.1 i
 
 -- the rows behind that of a slot are of other slots
-others_behind : (block : BlockId) (slot : ℕ) (row : SlotRow) (rows : List SlotRow)
+pub others_behind : (block : BlockId) (slot : ℕ) (row : SlotRow) (rows : List SlotRow)
     → is_slot block slot row ≡ true → Each (λ later. slot_cmp row later ≡ Less) rows
     → Each (λ later. is_slot block slot later ≡ false) rows
 others_behind block slot row rows here above =

@@ -5,5 +5,6 @@ pub mod ChangeLaws
 pub mod Choosing
 pub mod LoadLaws
 pub mod Loads
+pub mod NineLaws
 pub mod PutLaws
 pub mod ServerLaws

@@ -1,6 +1,6 @@
 //! Laws of the loads and of the choice. Each function here does nothing, and its contract is a
 //! law.
-ghost use Rattle.std.specs.Prelude.{◌≡◌, ◌++◌, ◌∷◌, [], ◌≤◌, ℕ, List, Option, None, fold, filter, flat_map, length};
+ghost use Rattle.std.specs.Prelude.{◌≡◌, ◌++◌, ◌∷◌, [], ◌<◌, ◌≤◌, ℕ, List, Option, None, fold, filter, flat_map, length};
 ghost use Rattle.std.specs.List.{list_any};
 ghost use Rattle.qfs_base.specs.declared.change.Change.{Change};
 ghost use Rattle.qfs_base.specs.declared.change.Change.TheVariants.{CloseFile, AbortFile, RemoveFile, GrantSlot, FailGrant, GiveUp, ConfirmSlot, EmptySlot, ServerUp, ServerDown, ServerLeaves, ServerSleeps};
@@ -13,7 +13,9 @@ ghost use Rattle.qfs_base.specs.declared.image.SlotRow.{SlotRow};
 ghost use Rattle.qfs_base.specs.NameTree.{PathNames};
 ghost use Rattle.qfs_base.specs.declared.reply.MetaReply.TheVariants.{Left, Nothing};
 ghost use Rattle.qfs_base.specs.Shape.{Shape};
-ghost use Rattle.qfs_base.specs.Table.{IsRising};
+ghost use Rattle.qfs_base.specs.Mask.{all_slots};
+ghost use Rattle.qfs_base.specs.Sizes.{SLOTS};
+ghost use Rattle.qfs_base.specs.Table.{Each, IsRising};
 ghost use Rattle.qfs_model_meta.specs.Apply.{apply};
 ghost use Rattle.qfs_model_meta.specs.Decision.{Tells, need};
 ghost use Rattle.qfs_model_meta.specs.Grammar.{IsServer};
@@ -28,6 +30,7 @@ ghost use Rattle.qfs_place.specs.Barred.{row_copies, has_live_on};
 ghost use Rattle.qfs_place.specs.BarredLaws.{row_grants};
 ghost use Rattle.qfs_place.specs.ChangeLaws.{census_of};
 ghost use Rattle.qfs_place.specs.Choosing.{uneven};
+ghost use Rattle.qfs_place.specs.NineLaws.{state_grants};
 ghost use Rattle.qfs_place.specs.Loads.{change_load, one_more, load_at, seen_as, counted_as, count_row, uncount_live, uncount_row};
 ghost use Rattle.qfs_place.specs.ServerLaws.{LeavesLoads};
 
@@ -151,6 +154,22 @@ pub fn rows_bar_servers()
         → is_barred servers slots block n
         ≡ list_any (λ (row : SlotRow). has_live_on servers n row.state)
         (filter (is_of_block block) slots) }
+{}
+
+/// The same servers by the nine slots of the block, one look-up each, where no row is of another
+/// slot.
+pub fn nine_slots_bar_servers()
+    ensures puts { (servers : List ServerView) (slots : List SlotRow) (block : BlockId)
+        (failed : List ℕ) → IsRising slot_cmp slots
+        → Each (λ (row : SlotRow). row.slot < SLOTS) slots
+        → barred_for_put servers slots block failed
+        ≡ with_live_servers servers failed
+        (flat_map (λ slot. state_grants (slot_at slots block slot)) all_slots) }
+    ensures blocks { (servers : List ServerView) (slots : List SlotRow) (block : BlockId)
+        → IsRising slot_cmp slots → Each (λ (row : SlotRow). row.slot < SLOTS) slots
+        → barred_for_block servers slots block
+        ≡ with_live_servers servers []
+        (flat_map (λ slot. row_copies (slot_at slots block slot)) all_slots) }
 {}
 
 /// The move that makes the loads more even goes between the two servers that `uneven` names, and
