@@ -1,0 +1,86 @@
+-- Condemned copies that are found, put and swept. For the calls of `Entries`.
+use Rattle.std.proofs.Common.{◌≡◌, ◌<◌, ◌≤◌, ◌∙◌, ap, sym, refl, arith, ℕ, nat_lt, Bool, true, false, true≢false, ◌&&◌, List, [], ◌∷◌, ◌++◌, find, filter, Some, None}
+use Rattle.std.proofs.lemmas.Cmp.{nat_cmp_total, on_total}
+use Rattle.std.specs.Cmp.{IsTotalOrder, nat_cmp_is}
+use Rattle.std.specs.declared.cmp.Ordering.TheVariants.{Less}
+use Rattle.qfs_base.specs.declared.image.CondemnedEntry.{CondemnedEntry}
+use Rattle.qfs_base.specs.declared.image.Lease.{Lease}
+use Rattle.qfs_base.specs.declared.image.ServerView.{ServerView}
+use Rattle.qfs_base.specs.EachLaws.{each_weaker}
+use Rattle.qfs_base.specs.Table.{Each, IsRising, has_key, place, without}
+use Rattle.qfs_laws_tables.specs.EachRow.{none_found}
+use Rattle.qfs_table.specs.KeyLaws.{whole_alone}
+use Rattle.qfs_table.specs.Keys.{IsOnly}
+use Rattle.qfs_blocks.specs.Entries.{above_order, entry_cmp, entry_may_go, entry_order, is_entry, is_swept, next_entry, sweep_entry}
+use Rattle.qfs_blocks.proofs.RowLaws.{alone, find_alike, find_kept, key_passes, placed_last, without_alike, without_none}
+
+pub entry_cmp_total : IsTotalOrder entry_cmp
+entry_cmp_total = on_total (λ (entry : CondemnedEntry). entry.condemned.number) nat_cmp_total
+
+entry_alone : (number : ℕ) → IsOnly entry_cmp (entry_order number)
+entry_alone number a b = whole_alone nat_cmp_total number a.condemned.number b.condemned.number
+
+pub below_new : (new : CondemnedEntry) (next : ℕ) (entries : List CondemnedEntry)
+    → Each (λ (entry : CondemnedEntry). entry.condemned.number < next) entries
+    → next ≤ new.condemned.number → Each (λ entry. entry_cmp entry new ≡ Less) entries
+below_new new next entries below high =
+    each_weaker (λ (entry : CondemnedEntry). entry.condemned.number < next) _
+    (λ entry less. sym
+    (nat_cmp_is entry.condemned.number new.condemned.number Less (omega arith))) entries below
+
+-- an entry above all others is placed behind them
+pub put_last : (new : CondemnedEntry) (next : ℕ) (entries : List CondemnedEntry)
+    → Each (λ (entry : CondemnedEntry). entry.condemned.number < next) entries
+    → next ≤ new.condemned.number → place entry_cmp new entries ≡ entries ++ new ∷ []
+put_last new next entries below high =
+    placed_last entry_cmp_total new entries (below_new new next entries below high)
+
+pub found_to_go : (servers : List ServerView) (leases : List Lease) (after : ℕ)
+    (entries : List CondemnedEntry)
+    → find (entry_may_go servers leases) (filter (has_key (above_order after)) entries)
+    ≡ next_entry servers leases after entries
+found_to_go servers leases after entries =
+    find_kept (entry_may_go servers leases) (has_key (above_order after)) entries
+    ∙ find_alike _
+    (λ (entry : CondemnedEntry). nat_lt after entry.condemned.number
+    && entry_may_go servers leases entry)
+    (λ entry. ap (λ b. b && entry_may_go servers leases entry)
+    (key_passes (nat_lt after entry.condemned.number))) entries
+
+module _ (number : ℕ) (entries : List CondemnedEntry) where
+  by_case : (P : CondemnedEntry → Type 0) (entry : CondemnedEntry)
+      → (is_entry number entry ≡ true → P entry) → (is_entry number entry ≡ false → P entry)
+      → P entry
+  by_case P entry own other =
+      elim (is_entry number entry) as (λ b. is_entry number entry ≡ b → P entry)
+      [ true ↦ own | false ↦ other ] refl
+
+  -- nothing is swept where the number isn't there
+  pub swept_none : find (is_entry number) entries ≡ None → sweep_entry number entries ≡ entries
+  swept_none none =
+      without_none (is_swept number) entries
+      (each_weaker _ _ (λ (entry : CondemnedEntry) off. ap (λ b. b && entry.ordered) off) entries
+      (none_found (is_entry number) entries none))
+
+  module _ (found : CondemnedEntry) (rising : IsRising entry_cmp entries)
+      (at : find (is_entry number) entries ≡ Some found) where
+    -- nor where its deletion wasn't ordered
+    pub swept_unordered : found.ordered ≡ false → sweep_entry number entries ≡ entries
+    swept_unordered off =
+        without_none (is_swept number) entries (each_weaker _ _
+        (λ entry same. by_case (λ entry. is_swept number entry ≡ false) entry
+        (λ is. ap (λ b. b && entry.ordered) is
+        ∙ ap (λ (e : CondemnedEntry). e.ordered) (same is) ∙ off)
+        (λ is. ap (λ b. b && entry.ordered) is)) entries
+        (alone (entry_order number) (entry_alone number) entries rising found at))
+
+    -- where it was, the entry goes
+    pub swept_ordered : found.ordered ≡ true
+        → without (is_entry number) entries ≡ sweep_entry number entries
+    swept_ordered on =
+        without_alike (is_entry number) (is_swept number) entries (each_weaker _ _
+        (λ entry same. by_case (λ entry. is_entry number entry ≡ is_swept number entry) entry
+        (λ is. is ∙ sym (ap (λ b. b && entry.ordered) is
+        ∙ ap (λ (e : CondemnedEntry). e.ordered) (same is) ∙ on))
+        (λ is. is ∙ sym (ap (λ b. b && entry.ordered) is))) entries
+        (alone (entry_order number) (entry_alone number) entries rising found at))

@@ -1,0 +1,4 @@
+pub mod EntryLaws
+pub mod RecordLaws
+pub mod RowLaws
+pub mod ServerLaws

@@ -1,0 +1,61 @@
+-- Slot records that are found, granted and changed. For the calls of `Records`.
+use Rattle.std.proofs.Common.{◌≡◌, ◌∙◌, ap, sym, refl, subst, ℕ, Bool, true, false, ◌&&◌, List, find, filter, Option, Some, None}
+use Rattle.std.specs.List.{list_any}
+use Rattle.std.specs.Option.{is_some, option_map}
+use Rattle.std.specs.Prelude.{unwrap_or}
+use Rattle.qfs_base.specs.declared.chunk.BlockId.{BlockId}
+use Rattle.qfs_base.specs.declared.image.SlotRecord.{SlotRecord}
+use Rattle.qfs_base.specs.declared.image.SlotRow.{SlotRow}
+use Rattle.qfs_base.specs.declared.request.SlotId.{SlotId}
+use Rattle.qfs_base.specs.EachLaws.{each_weaker}
+use Rattle.qfs_base.specs.Table.{Each, IsRising, change_where, has_key}
+use Rattle.qfs_laws_slots.specs.Slots.{is_slot-is, row_of, rows-found, slot_cmp_total}
+use Rattle.qfs_laws_tables.specs.SomeRow.{some-any}
+use Rattle.qfs_model_meta.specs.Slots.{change_state, is_slot, never_granted, slot_at, slot_cmp, with_slot}
+use Rattle.qfs_blocks.specs.Records.{after_order, has_current_on, is_after, is_next_on, is_of}
+use Rattle.qfs_blocks.proofs.RowLaws.{find_alike, find_kept, key_passes, placed_changed}
+
+-- a grant of a slot that has a record
+pub granted_found : (id : SlotId) (change : SlotRecord → SlotRecord) (slots : List SlotRow)
+    → IsRising slot_cmp slots → is_some (find (is_of id) slots) ≡ true
+    → change_where (is_of id) (change_state change) slots
+    ≡ with_slot id.block id.slot (change (slot_at slots id.block id.slot)) slots
+unfolding with_slot is_slot slot_cmp
+granted_found id change slots rising found =
+    placed_changed slot_cmp_total
+    (row_of id.block id.slot (change (slot_at slots id.block id.slot))) (change_state change) slots
+    rising (each_weaker _ _ (λ row known is. changed row known is) slots (rows-found slots rising))
+    (sym (some-any (is_of id) slots) ∙ found)
+  where
+    changed : (row : SlotRow) → slot_at slots row.block row.slot ≡ row.state
+        → is_slot id.block id.slot row ≡ true
+        → change_state change row
+        ≡ row_of id.block id.slot (change (slot_at slots id.block id.slot))
+    unfolding change_state
+    changed row known is =
+        let own = is_slot-is id.block id.slot row is in
+        let state : row.state ≡ slot_at slots id.block id.slot =
+        sym known ∙ ap (λ block. slot_at slots block row.slot) own.0
+        ∙ ap (λ slot. slot_at slots id.block slot) own.1 in
+        λ i. record { block = own.0 i; slot = own.1 i; state = change (state i) }
+
+-- a slot without a record was never granted
+pub unknown_slot : (id : SlotId) (slots : List SlotRow) → find (is_of id) slots ≡ None
+    → slot_at slots id.block id.slot ≡ never_granted
+unfolding slot_at
+unknown_slot id slots none =
+    ap (λ found. unwrap_or (option_map (λ (row : SlotRow). row.state) found) never_granted) none
+
+pub found_after : (after : Option SlotId) (slots : List SlotRow)
+    → find (has_key (after_order after)) slots ≡ find (is_after after) slots
+found_after after slots =
+    find_alike (has_key (after_order after)) (is_after after)
+    (λ row. key_passes (is_after after row)) slots
+
+pub found_on : (server life : ℕ) (after : Option SlotId) (slots : List SlotRow)
+    → find (has_current_on server life) (filter (has_key (after_order after)) slots)
+    ≡ find (is_next_on server life after) slots
+found_on server life after slots =
+    find_kept (has_current_on server life) (has_key (after_order after)) slots
+    ∙ find_alike _ (is_next_on server life after)
+    (λ row. ap (λ b. b && has_current_on server life row) (key_passes (is_after after row))) slots

@@ -1,0 +1,149 @@
+//! The condemned copies, by their numbers.
+ghost use Rattle.std.specs.Prelude.{◌≡◌, ◌≤◌, ◌<◌, ◌+◌, [], ◌∷◌, ◌++◌, max, IsOk, OnOk, OnErr};
+ghost use Rattle.std.specs.Option.{option_map};
+ghost use Rattle.std.specs.List.{list_any};
+ghost use Rattle.qfs_base.specs.Sizes.{LAST_U64};
+ghost use Rattle.qfs_base.specs.Table.{without};
+ghost use Rattle.qfs_blocks.specs.Entries.{condemned_of, is_entry_of, is_entry_on, mark_entry, new_entry, next_entry, sweep_entry};
+
+use crate::change::Order;
+use crate::key::{AboveNumber, Numbered};
+use crate::row::EntryRow;
+use crate::scan::first_to_go;
+use qfs_base::chunk::Copy as ChunkCopy;
+use qfs_base::image::{CondemnedEntry, Servers};
+use qfs_base::numbers::{LeaseId, ServerId};
+use qfs_base::reply::Condemned;
+use qfs_base::request::SlotId;
+use qfs_lease::LeaseView;
+use qfs_table::Table;
+use std::alloc::{AllocError, Global};
+use std::marker::Model;
+
+/// The condemned copies by number, the number that the next one gets, and how many more have
+/// room. Contracts see these three.
+#[derive(Drop)]
+pub struct Entries {
+    table: Table<EntryRow>,
+    next: u64,
+}
+
+impl Model for Entries {
+    ghost use Rattle.qfs_blocks.specs.BlockTables.{AreEntries, CondemnedEntries};
+
+    ghost Value = { CondemnedEntries };
+
+    ghost view = { λ it. record {
+      entries = it.table.rows;
+      next = it.next;
+      spare = it.table.spare;
+    } };
+
+    ghost invariant = { λ it. AreEntries it.table it.next };
+}
+
+impl Entries {
+    /// No condemned copies, which take no memory. The first one gets this number.
+    pub fn new(alloc: Global, next: u64) -> Entries
+        ensures entries { result.entries ≡ [] }
+        ensures next { result.next ≡ next }
+        ensures spare { result.spare ≡ 0 }
+    {
+        Entries {
+            table: Table::new(alloc),
+            next,
+        }
+    }
+
+    /// Makes room for so many more, those that have room already included. On want of memory all
+    /// stays as it was.
+    pub fn reserve(&mut self, entries: usize) -> Result<(), AllocError>
+        ensures entries { self.new.entries ≡ self.old.entries }
+        ensures next { self.new.next ≡ self.old.next }
+        ensures ok { OnOk result (self.new.spare ≡ max self.old.spare entries) }
+        ensures enough { entries ≤ self.old.spare → IsOk result }
+        ensures err { OnErr result (self.new ≡ self.old) }
+    {
+        self.table.reserve(entries)
+    }
+
+    /// The number that the next condemned copy gets.
+    pub fn next(&self) -> u64
+        ensures { result ≡ self.now.next }
+    {
+        self.next
+    }
+
+    /// Puts a copy of a slot behind all others, where the next lease gets the number `below`.
+    pub fn condemn(&mut self, id: SlotId, copy: ChunkCopy, below: LeaseId)
+        requires room { 1 ≤ self.old.spare }
+        requires number { self.old.next < LAST_U64 }
+        ensures entries { self.new.entries ≡ self.old.entries
+            ++ new_entry self.old.next id.block id.slot copy below ∷ [] }
+        ensures next { self.new.next ≡ self.old.next + 1 }
+        ensures spare { self.new.spare + 1 ≡ self.old.spare }
+    {
+        let condemned = Condemned {
+            number: self.next,
+            block: id.block,
+            slot: id.slot,
+            copy,
+        };
+        self.put(CondemnedEntry {
+            condemned,
+            ordered: false,
+            below,
+        });
+    }
+
+    /// Puts an entry behind all others.
+    fn put(&mut self, entry: CondemnedEntry)
+        requires room { 1 ≤ self.old.spare }
+        requires number { self.old.next ≤ entry.condemned.number }
+        requires last { entry.condemned.number < LAST_U64 }
+        ensures entries { self.new.entries ≡ self.old.entries ++ entry ∷ [] }
+        ensures next { self.new.next ≡ entry.condemned.number + 1 }
+        ensures spare { self.new.spare + 1 ≡ self.old.spare }
+    {
+        self.next = entry.condemned.number + 1;
+        self.table.insert(EntryRow::new(entry));
+    }
+
+    /// The first copy above a number that may be ordered deleted: its server is up, it is live, and
+    /// no live lease blocks it. Each copy is passed once.
+    pub fn next_to_go<V: LeaseView>(
+        &self,
+        after: u64,
+        leases: &V,
+        servers: &Servers,
+    ) -> Option<Condemned>
+        ensures { result ≡ option_map condemned_of
+            (next_entry servers.now (V.leases leases.now) after self.now.entries) }
+    {
+        first_to_go(self.table.run(&AboveNumber { number: after }), leases, servers)
+    }
+
+    /// Orders the deletion of the copy of a number, if it is there.
+    pub fn mark(&mut self, number: u64)
+        ensures entries { self.new.entries ≡ mark_entry number self.old.entries }
+        ensures next { self.new.next ≡ self.old.next }
+        ensures spare { self.new.spare ≡ self.old.spare }
+    {
+        self.table.change(&Numbered { number }, &Order);
+    }
+
+    /// Takes the copy of a number off, if it is there and its deletion was ordered.
+    pub fn sweep(&mut self, number: u64)
+        ensures entries { self.new.entries ≡ sweep_entry number self.old.entries }
+        ensures next { self.new.next ≡ self.old.next }
+        ensures spare { self.new.spare ≡ self.old.spare }
+    {
+        let ordered = match self.table.get(&Numbered { number }) {
+            Some(row) => row.entry().ordered,
+            None => false,
+        };
+        if ordered {
+            self.table.remove(&Numbered { number });
+        }
+    }
+}
