@@ -1,23 +1,25 @@
 -- Condemned copies that are found, put and swept. For the calls of `Entries`.
-use Rattle.std.proofs.Common.{◌≡◌, ◌<◌, ◌≤◌, ◌∙◌, ap, sym, refl, arith, ℕ, nat_lt, Bool, true, false, true≢false, ◌&&◌, List, [], ◌∷◌, ◌++◌, find, filter, Some, None}
-use Rattle.std.proofs.lemmas.Cmp.{nat_cmp_total, on_total}
+use Rattle.std.proofs.Common.{◌≡◌, ◌<◌, ◌≤◌, ◌∙◌, ap, sym, refl, arith, ℕ, nat_lt, Bool, true, false, true≢false, ◌&&◌, List, [], ◌∷◌, ◌++◌, find, filter, Option, Some, None}
+use Rattle.std.proofs.lemmas.Cmp.{nat_cmp_total, on_total, ranked}
 use Rattle.std.specs.Cmp.{IsTotalOrder, nat_cmp_is}
-use Rattle.std.specs.declared.cmp.Ordering.TheVariants.{Less}
+use Rattle.std.specs.Prelude.{⊤}
+use Rattle.std.specs.declared.cmp.Ordering.TheVariants.{Less, Equal}
 use Rattle.qfs_base.specs.declared.image.CondemnedEntry.{CondemnedEntry}
 use Rattle.qfs_base.specs.declared.image.Lease.{Lease}
 use Rattle.qfs_base.specs.declared.image.ServerView.{ServerView}
 use Rattle.qfs_base.specs.EachLaws.{each_weaker}
 use Rattle.qfs_base.specs.Table.{Each, IsRising, has_key, place, without}
-use Rattle.qfs_laws_tables.specs.EachRow.{none_found}
+use Rattle.qfs_laws_tables.specs.EachRow.{each_of_all, found_has, none_found}
+use Rattle.qfs_laws_tables.specs.Keys.{equal-is}
 use Rattle.qfs_table.specs.KeyLaws.{whole_alone}
 use Rattle.qfs_table.specs.Keys.{IsOnly}
-use Rattle.qfs_blocks.specs.Entries.{above_order, entry_cmp, entry_may_go, entry_order, is_entry, is_swept, next_entry, sweep_entry}
+use Rattle.qfs_blocks.specs.Entries.{above_order, entry_cmp, entry_may_go, entry_order, is_entry, is_ordered, is_swept, next_entry, sweep_entry}
 use Rattle.qfs_blocks.proofs.RowLaws.{alone, find_alike, find_kept, key_passes, placed_last, without_alike, without_none}
 
 pub entry_cmp_total : IsTotalOrder entry_cmp
 entry_cmp_total = on_total (λ (entry : CondemnedEntry). entry.condemned.number) nat_cmp_total
 
-entry_alone : (number : ℕ) → IsOnly entry_cmp (entry_order number)
+pub entry_alone : (number : ℕ) → IsOnly entry_cmp (entry_order number)
 entry_alone number a b = whole_alone nat_cmp_total number a.condemned.number b.condemned.number
 
 pub below_new : (new : CondemnedEntry) (next : ℕ) (entries : List CondemnedEntry)
@@ -46,6 +48,14 @@ found_to_go servers leases after entries =
     && entry_may_go servers leases entry)
     (λ entry. ap (λ b. b && entry_may_go servers leases entry)
     (key_passes (nat_lt after entry.condemned.number))) entries
+
+-- the entry that is found has the number that was sought
+pub found_number : (number : ℕ) (found : CondemnedEntry) (entries : List CondemnedEntry)
+    → find (is_entry number) entries ≡ Some found → found.condemned.number ≡ number
+found_number number found entries at =
+    let passes = found_has (λ _. ⊤) (is_entry number) entries found at
+    (each_of_all _ (λ _. tt) entries) in
+    sym (ranked number found.condemned.number Equal (sym (equal-is _ passes.1)))
 
 module _ (number : ℕ) (entries : List CondemnedEntry) where
   by_case : (P : CondemnedEntry → Type 0) (entry : CondemnedEntry)
@@ -84,3 +94,12 @@ module _ (number : ℕ) (entries : List CondemnedEntry) where
         ∙ ap (λ (e : CondemnedEntry). e.ordered) (same is) ∙ on))
         (λ is. is ∙ sym (ap (λ b. b && entry.ordered) is))) entries
         (alone (entry_order number) (entry_alone number) entries rising found at))
+
+  -- so the test of what is found decides
+  pub swept_as : (found : Option CondemnedEntry) → find (is_entry number) entries ≡ found
+      → IsRising entry_cmp entries
+      → (is_ordered found ≡ true → without (is_entry number) entries ≡ sweep_entry number entries)
+      × (is_ordered found ≡ false → sweep_entry number entries ≡ entries)
+  swept_as None none rising = (λ on. absurd (true≢false (sym on)), λ _. swept_none none)
+  swept_as (Some entry) at rising =
+      (swept_ordered entry rising at, swept_unordered entry rising at)

@@ -20,7 +20,7 @@ pub granted_found : (id : SlotId) (change : SlotRecord → SlotRecord) (slots : 
     → IsRising slot_cmp slots → is_some (find (is_of id) slots) ≡ true
     → change_where (is_of id) (change_state change) slots
     ≡ with_slot id.block id.slot (change (slot_at slots id.block id.slot)) slots
-unfolding with_slot is_slot slot_cmp
+unfolding with_slot is_slot slot_cmp change_state
 granted_found id change slots rising found =
     placed_changed slot_cmp_total
     (row_of id.block id.slot (change (slot_at slots id.block id.slot))) (change_state change) slots
@@ -31,7 +31,6 @@ granted_found id change slots rising found =
         → is_slot id.block id.slot row ≡ true
         → change_state change row
         ≡ row_of id.block id.slot (change (slot_at slots id.block id.slot))
-    unfolding change_state
     changed row known is =
         let own = is_slot-is id.block id.slot row is in
         let state : row.state ≡ slot_at slots id.block id.slot =

@@ -1,18 +1,28 @@
 -- Rows of sorted lists: what is found, changed, placed and dropped. (They belong to qfs_laws_tables.)
-use Rattle.std.proofs.Common.{◌≡◌, ◌∙◌, ap, sym, refl, Bool, true, false, true≢false, not, ◌&&◌, ◌||◌, cond, List, [], ◌∷◌, ◌++◌, length, find, filter, Some, None, suc, ℕ}
+use Rattle.std.proofs.Common.{◌≡◌, ◌<◌, ◌≤◌, ◌∙◌, ap, sym, refl, arith, Bor, Option, Bool, true, false, true≢false, not, ◌&&◌, ◌||◌, cond, List, [], ◌∷◌, ◌++◌, length, find, filter, Some, None, suc, ℕ}
+use Rattle.std.proofs.lemmas.Bool.{and_parts}
 use Rattle.std.specs.List.{list_any}
+use Rattle.std.specs.Option.{is_some, option_copied}
 use Rattle.std.specs.Cmp.{IsTotalOrder}
 use Rattle.std.specs.Ordering.{is_eq, ordering_reverse}
 use Rattle.std.specs.declared.cmp.Ordering.{Ordering}
 use Rattle.std.specs.declared.cmp.Ordering.TheVariants.{Less, Equal, Greater}
 use Rattle.qfs_base.specs.EachLaws.{each_weaker}
 use Rattle.qfs_base.specs.Table.{Each, IsRising, change_row, change_where, has_key, place, place_before, without}
+use Rattle.qfs_laws_tables.specs.EachRow.{none_found}
+use Rattle.qfs_laws_tables.specs.SomeRow.{any_each}
 use Rattle.qfs_table.specs.Keys.{IsOnly}
 
 -- a key that some rows have and those before them are below
 pub key_passes : (b : Bool) → is_eq (cond b Equal Greater) ≡ b
 key_passes true = refl
 key_passes false = refl
+
+-- a look that gives a reference finds what is there
+pub some_copied : {X : Type 0} (found : Option (Bor X))
+    → is_some found ≡ is_some (option_copied found)
+some_copied None = refl
+some_copied (Some row) = refl
 
 module _ {X : Type 0} where
   pub find_alike : (test other : X → Bool) → ((x : X) → test x ≡ other x) → (xs : List X)
@@ -35,6 +45,88 @@ module _ {X : Type 0} where
   no_any test [] each any = true≢false (sym any)
   no_any test (x ∷ xs) each any =
       no_any test xs each.1 (sym (ap (λ b. b || list_any test xs) each.0) ∙ any)
+
+  -- some row that is kept passes a test
+  pub any_kept : (test keep : X → Bool) (xs : List X)
+      → list_any test (filter keep xs) ≡ list_any (λ x. keep x && test x) xs
+  any_kept test keep [] = refl
+  any_kept test keep (x ∷ xs) =
+      elim (keep x) as (λ b. list_any test (cond b (x ∷ filter keep xs) (filter keep xs))
+      ≡ ((b && test x) || list_any (λ x. keep x && test x) xs)) [
+        | true ↦ ap (λ rest. test x || rest) (any_kept test keep xs)
+        | false ↦ any_kept test keep xs
+      ]
+
+  -- two tests that answer alike for each row
+  pub any_alike : (one other : X → Bool) (xs : List X) → Each (λ x. one x ≡ other x) xs
+      → list_any one xs ≡ list_any other xs
+  any_alike one other [] alike = refl
+  any_alike one other (x ∷ xs) alike =
+      ap (λ b. b || list_any one xs) alike.0
+      ∙ ap (λ rest. other x || rest) (any_alike one other xs alike.1)
+
+  pub any_none : (test : X → Bool) (xs : List X) → Each (λ x. test x ≡ false) xs
+      → list_any test xs ≡ false
+  any_none test [] none = refl
+  any_none test (x ∷ xs) none =
+      ap (λ b. b || list_any test xs) none.0 ∙ any_none test xs none.1
+
+  -- a test that a change doesn't touch
+  pub any_changed : (test changed : X → Bool) (change : X → X)
+      → ((x : X) → test (change x) ≡ test x) → (xs : List X)
+      → list_any test (change_where changed change xs) ≡ list_any test xs
+  any_changed test changed change same [] = refl
+  any_changed test changed change same (x ∷ xs) =
+      elim (changed x) as (λ b.
+      (test (change_row change x b) || list_any test (change_where changed change xs))
+      ≡ (test x || list_any test xs)) [
+        | true ↦ ap (λ b. b || list_any test (change_where changed change xs)) (same x)
+            ∙ ap (λ rest. test x || rest) (any_changed test changed change same xs)
+        | false ↦ ap (λ rest. test x || rest) (any_changed test changed change same xs)
+      ]
+
+  -- where some row passes two tests, some passes the first
+  pub one_there : (own test : X → Bool) (xs : List X)
+      → list_any (λ x. own x && test x) xs ≡ true → list_any own xs ≡ true
+  one_there own test [] any = any
+  one_there own test (x ∷ xs) any =
+      elim (own x) as (λ b. ((b && test x) || list_any (λ x. own x && test x) xs) ≡ true
+      → (b || list_any own xs) ≡ true) [
+        | true ↦ λ _. refl
+        | false ↦ λ any. one_there own test xs any
+      ] any
+
+  without_few : (test : X → Bool) (xs : List X) → length (without test xs) ≤ length xs
+  without_few test [] = omega arith
+  without_few test (x ∷ xs) =
+      let few = without_few test xs in
+      elim (test x) as (λ b. length (cond (not b) (x ∷ without test xs) (without test xs))
+      ≤ suc (length xs)) [ true ↦ omega arith | false ↦ omega arith ]
+
+  pub without_fewer : (test : X → Bool) (xs : List X) → list_any test xs ≡ true
+      → length (without test xs) < length xs
+  without_fewer test [] any = absurd (true≢false (sym any))
+  without_fewer test (x ∷ xs) any =
+      elim (test x) as (λ b. (b || list_any test xs) ≡ true
+      → length (cond (not b) (x ∷ without test xs) (without test xs)) < suc (length xs)) [
+        | true ↦ λ _. let few = without_few test xs in omega arith
+        | false ↦ λ any. let few = without_fewer test xs any in omega arith
+      ] any
+
+  -- what is dropped anyway may go before
+  pub without_after : (first test : X → Bool) (xs : List X)
+      → Each (λ x. first x ≡ true → test x ≡ true) xs
+      → without test (without first xs) ≡ without test xs
+  without_after first test [] both = refl
+  without_after first test (x ∷ xs) both =
+      let rest = without_after first test xs both.1 in
+      elim (first x) as (λ b. first x ≡ b
+      → without test (cond (not b) (x ∷ without first xs) (without first xs))
+      ≡ cond (not (test x)) (x ∷ without test xs) (without test xs)) [
+        | true ↦ λ is. rest
+            ∙ ap (λ t. cond (not t) (x ∷ without test xs) (without test xs)) (sym (both.0 is))
+        | false ↦ λ is. ap (λ rest. cond (not (test x)) (x ∷ rest) rest) rest
+      ] refl
 
   pub changed_none : (test : X → Bool) (change : X → X) (xs : List X)
       → Each (λ x. test x ≡ false) xs → change_where test change xs ≡ xs
@@ -83,6 +175,26 @@ module _ {X : Type 0} where
         | Greater ↦ λ is at.
             (λ no. absurd (true≢false (sym no)), alone order only xs rising.1 found at)
       ] refl at
+
+  -- what is so of some row with a whole key is so of each, since there is one
+  pub only_one : {cmp : X → X → Ordering} (order : X → Ordering) → IsOnly cmp order
+      → (test : X → Bool) (xs : List X) → IsRising cmp xs
+      → list_any (λ x. has_key order x && test x) xs ≡ true
+      → Each (λ x. has_key order x ≡ true → test x ≡ true) xs
+  only_one order only test xs rising any =
+      elim (find (has_key order) xs) as (λ o. find (has_key order) xs ≡ o
+      → Each (λ x. has_key order x ≡ true → test x ≡ true) xs) [
+        | None ↦ λ none. each_weaker (λ x. has_key order x ≡ false) _
+            (λ x off own. absurd (true≢false (sym own ∙ off))) xs
+            (none_found (has_key order) xs none)
+        | Some found ↦ λ at.
+            let one = alone order only xs rising found at in
+            let passes : test found ≡ true = any_each (test found ≡ true)
+            (λ x. has_key order x ≡ true → x ≡ found) (λ x. has_key order x && test x)
+            (λ x same both. let parts = and_parts (has_key order x) (test x) both in
+            ap test (sym (same parts.0)) ∙ parts.1) xs one any in
+            each_weaker _ _ (λ x same own. ap test (same own) ∙ passes) xs one
+      ] refl
 
   module _ {cmp : X → X → Ordering} (total : IsTotalOrder cmp) where
     -- a change that leaves a row's order on one side leaves it on the other

@@ -1,5 +1,6 @@
 -- Slot records and condemned copies as the callers of `Blocks` see them, and what changes do to them.
-use Rattle.std.specs.Prelude.{ℕ, ◌<◌, ◌≤◌, ◌+◌, ◌-◌, Bool, true, false, List, [], ◌∷◌, ◌++◌, Option, Some, None}
+use Rattle.std.specs.Prelude.{ℕ, ◌<◌, ◌≤◌, ◌+◌, ◌-◌, Bool, true, false, ◌||◌, List, [], ◌∷◌, ◌++◌, Option, Some, None}
+use Rattle.std.specs.List.{list_any}
 use Rattle.qfs_base.specs.declared.chunk.BlockId.{BlockId}
 use Rattle.qfs_base.specs.declared.chunk.Copy.{Copy}
 use Rattle.qfs_base.specs.declared.image.CondemnedEntry.{CondemnedEntry}
@@ -9,10 +10,13 @@ use Rattle.qfs_base.specs.declared.image.SlotRecord.{SlotRecord}
 use Rattle.qfs_base.specs.declared.image.SlotRow.{SlotRow}
 use Rattle.qfs_base.specs.Sizes.{LAST_U64}
 use Rattle.qfs_base.specs.Table.{Each, IsRising}
+use Rattle.qfs_model_meta.specs.Apply.{is_that_copy}
 use Rattle.qfs_model_meta.specs.Servers.{is_live}
-use Rattle.qfs_model_meta.specs.Slots.{change_slot, confirmed_slot, emptied_slot, failed_slot, granted_copy, ungranted_slot}
+use Rattle.qfs_model_meta.specs.Slots.{change_slot, confirmed_slot, emptied_slot, failed_slot, granted_copy, slot_at, ungranted_slot}
 use Rattle.qfs_table.specs.Tables.{Contents}
-use Rattle.qfs_blocks.specs.Entries.{entry_cmp, new_entry}
+use Rattle.qfs_blocks.specs.declared.index.CopyRow.{CopyRow}
+use Rattle.qfs_blocks.specs.CopyIndex.{IsCopyIndex}
+use Rattle.qfs_blocks.specs.Entries.{entry_cmp, is_entry_of, new_entry}
 
 -- the slot records by slot, and how many more have room
 pub record SlotRecords : Type 0 where
@@ -25,10 +29,14 @@ pub record CondemnedEntries : Type 0 where
   pub next : ℕ
   pub spare : ℕ
 
--- the condemned copies rise by their numbers, which are below the next one
-pub record AreEntries (table : Contents CondemnedEntry) (next : ℕ) : Type 0 where
+-- the condemned copies rise by their numbers, which are below the next one, and the index has them
+-- all, with room for as many more
+pub record AreEntries (table : Contents CondemnedEntry) (copies : Contents CopyRow)
+    (next : ℕ) : Type 0 where
   pub in_order : IsRising entry_cmp table.rows
   pub numbers : Each (λ (entry : CondemnedEntry). entry.condemned.number < next) table.rows
+  pub index : IsCopyIndex copies.rows table.rows
+  pub room : table.spare ≤ copies.spare
   pub last : next ≤ LAST_U64
 
 -- both
@@ -83,3 +91,16 @@ slot_emptied servers below block slot t state =
     record_changed block slot emptied_slot
     (copy_condemned servers below block slot
     (copy_condemned servers below block slot t state.current) (granted_copy state.grant))
+
+-- whether a copy is the current, the granted or a condemned one of its slot
+abbrev pub is_known : BlockId → ℕ → Copy → BlockTables → Bool
+is_known block slot copy t =
+    let state : SlotRecord = slot_at t.slots block slot in
+    is_that_copy copy state.current || is_that_copy copy (granted_copy state.grant)
+    || list_any (is_entry_of block slot copy) t.condemned
+
+-- a copy that was found on a server is condemned, unless it is known
+abbrev pub unknown_condemned : List ServerView → ℕ → BlockId → ℕ → Copy → BlockTables → Bool → BlockTables
+unknown_condemned servers below block slot copy t true = t
+unknown_condemned servers below block slot copy t false =
+    copy_condemned servers below block slot t (Some copy)

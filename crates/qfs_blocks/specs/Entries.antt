@@ -1,6 +1,6 @@
 -- Condemned copies as the tables keep them: the live leases on a copy's file that have numbers below
 -- one block it.
-use Rattle.std.specs.Prelude.{ℕ, nat_lt, ◌==◌, Bool, true, false, not, ◌&&◌, cond, List, find, filter, map, Option}
+use Rattle.std.specs.Prelude.{◌≡◌, ℕ, nat_lt, ◌==◌, Bool, true, false, not, ◌&&◌, cond, List, find, filter, map, Option, Some, None}
 use Rattle.std.specs.declared.cmp.Ordering.{Ordering}
 use Rattle.std.specs.declared.cmp.Ordering.TheVariants.{Equal, Greater}
 use Rattle.std.specs.Ordering.{nat_cmp}
@@ -11,7 +11,7 @@ use Rattle.qfs_base.specs.declared.image.CondemnedRow.{CondemnedRow}
 use Rattle.qfs_base.specs.declared.image.Lease.{Lease}
 use Rattle.qfs_base.specs.declared.image.ServerView.{ServerView}
 use Rattle.qfs_base.specs.declared.reply.Condemned.{Condemned}
-use Rattle.qfs_base.specs.Table.{has_key, without, change_where}
+use Rattle.qfs_base.specs.Table.{Each, has_key, without, change_where}
 use Rattle.qfs_lease.specs.LiveLeases.{is_held_below}
 use Rattle.qfs_model_meta.specs.Leases.{leases_on}
 use Rattle.qfs_model_meta.specs.Servers.{is_listed}
@@ -52,6 +52,11 @@ is_entry_of block slot copy entry =
     same_block entry.condemned.block block && (entry.condemned.slot == slot)
     && same_copy entry.condemned.copy copy
 
+-- the entry of a number is on a server
+abbrev pub AreOn : ℕ → ℕ → List CondemnedEntry → Type 0
+AreOn server number entries =
+    Each (λ entry. is_entry number entry ≡ true → is_entry_on server entry ≡ true) entries
+
 -- whether no live lease blocks an entry
 abbrev pub is_free : List Lease → CondemnedEntry → Bool
 is_free leases entry = not (is_held_below entry.condemned.block.file entry.below leases)
@@ -73,6 +78,11 @@ ordered_entry entry = record entry { ordered = true }
 -- the entries after one was ordered deleted
 abbrev pub mark_entry : ℕ → List CondemnedEntry → List CondemnedEntry
 mark_entry number entries = change_where (is_entry number) ordered_entry entries
+
+-- whether there is an entry, and its deletion was ordered
+abbrev pub is_ordered : Option CondemnedEntry → Bool
+is_ordered None = false
+is_ordered (Some entry) = entry.ordered
 
 -- whether the copy of a number is there to be swept: it was ordered deleted
 abbrev pub is_swept : ℕ → CondemnedEntry → Bool

@@ -1,5 +1,7 @@
 -- What the contracts of blocks cite.
+pub mod CopyIndex
 pub mod Entries
+pub mod ImageLaws
 pub mod KeyLaws
 pub mod BlockTables
 pub mod Records

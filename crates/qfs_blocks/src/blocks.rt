@@ -75,7 +75,6 @@ impl Blocks {
     }
 
     /// The record of a slot, or None where it has none.
-    #[tactic(auto)]
     pub fn look(&self, block: BlockId, slot: Slot) -> Option<&SlotRecord>
         ensures { option_copied result ≡ option_map (λ (row : SlotRow). row.state)
             (find (is_slot block slot) self.now.slots) }

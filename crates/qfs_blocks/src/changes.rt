@@ -1,23 +1,26 @@
 //! The changes of slots and condemned copies: what each change of the metaserver's state does to
 //! them. They take no memory and can't fail: what they need is tested and reserved before. Where
 //! nothing else is said, a change of a slot that has no record changes nothing.
-ghost use Rattle.std.specs.Prelude.{◌≡◌, ◌≤◌, ◌<◌, ◌×◌, ◌+◌, length, IfSome};
+ghost use Rattle.std.specs.Prelude.{◌≡◌, ◌≤◌, ◌<◌, ◌+◌, length, IfSome};
 ghost use Rattle.qfs_base.specs.declared.image.Grant.{Grant};
 ghost use Rattle.qfs_base.specs.Sizes.{LAST_U64};
-ghost use Rattle.qfs_model_meta.specs.Slots.{forget_file, granted_copy, granted_slot, seal_file, slot_at, with_slot};
-ghost use Rattle.qfs_blocks.specs.BlockTables.{copy_condemned, grant_confirmed, grant_failed, grant_given_up, slot_emptied};
-ghost use Rattle.qfs_blocks.specs.Entries.{mark_entry, sweep_entry};
-ghost use Rattle.qfs_blocks.specs.Records.{HasPlace};
+ghost use Rattle.qfs_base.specs.Table.{change_where, without};
+ghost use Rattle.qfs_model_meta.specs.Slots.{forget_file, granted_slot, seal_file, slot_at, with_slot};
+ghost use Rattle.qfs_blocks.specs.BlockTables.{copy_condemned, grant_confirmed, grant_failed, grant_given_up, is_known, slot_emptied, unknown_condemned};
+ghost use Rattle.qfs_blocks.specs.Entries.{is_entry_on, mark_entry, sweep_entry};
+ghost use Rattle.qfs_blocks.specs.Records.{HasPlace, is_of};
 
 use crate::blocks::Blocks;
 use crate::change::{Confirm, Empty, Fail, Ungrant};
+use crate::row::RecordRow;
 use crate::servers::is_live;
-use crate::state::{NewGrant, granted_copy};
-use qfs_base::chunk::{BlockId, Copy as ChunkCopy};
+use crate::state::{NewGrant, granted_copy, is_that_copy};
+use qfs_base::chunk::Copy as ChunkCopy;
 use qfs_base::image::Servers;
-use qfs_base::numbers::{FileId, Slot};
+use qfs_base::numbers::{FileId, ServerId};
 use qfs_base::request::SlotId;
 use qfs_lease::LeaseView;
+use qfs_table::Change;
 
 impl Blocks {
     /// A slot gets a grant of the next version. A first record takes one from the room that is
@@ -50,6 +53,14 @@ impl Blocks {
         self.records.forget(file);
     }
 
+    /// The record of a slot changes, if it has one.
+    fn change<C: Change<RecordRow>>(&mut self, id: SlotId, change: &C)
+        ensures { self.new ≡ record self.old {
+            slots = change_where (is_of id) (C.changed change.now) self.old.slots } }
+    {
+        self.records.change(id, change);
+    }
+
     /// A copy of a slot is condemned, if there is one and it is live.
     pub(crate) fn condemn_any<V: LeaseView>(
         &mut self,
@@ -76,9 +87,9 @@ impl Blocks {
         ensures { self.new ≡ grant_given_up servers.now (V.next_number leases.now)
             id.block id.slot self.old (slot_at self.old.slots id.block id.slot).grant }
     {
-        if let Some(grant) = self.records.state(id).grant {
+        if let Some(grant) = self.slot_at(id.block, id.slot).grant {
             self.condemn_any(id, Some(grant.copy), leases, servers);
-            self.records.change(id, &Ungrant);
+            self.change(id, &Ungrant);
         }
     }
 
@@ -93,10 +104,10 @@ impl Blocks {
         ensures { self.new ≡ grant_failed servers.now (V.next_number leases.now)
             id.block id.slot self.old (slot_at self.old.slots id.block id.slot).grant }
     {
-        if let Some(grant) = self.records.state(id).grant {
+        if let Some(grant) = self.slot_at(id.block, id.slot).grant {
             self.condemn_any(id, Some(grant.copy), leases, servers);
-            self.records.change(id, &Ungrant);
-            self.records.change(id, &Fail {
+            self.change(id, &Ungrant);
+            self.change(id, &Fail {
                 server: grant.copy.server,
             });
         }
@@ -109,9 +120,9 @@ impl Blocks {
         ensures { self.new ≡ grant_confirmed servers.now (V.next_number leases.now)
             id.block id.slot self.old (slot_at self.old.slots id.block id.slot) }
     {
-        let current = self.records.state(id).current;
+        let current = self.slot_at(id.block, id.slot).current;
         self.condemn_any(id, current, leases, servers);
-        self.records.change(id, &Confirm);
+        self.change(id, &Confirm);
     }
 
     /// The current copy of a slot is condemned, and then its pending grant.
@@ -121,10 +132,47 @@ impl Blocks {
         ensures { self.new ≡ slot_emptied servers.now (V.next_number leases.now)
             id.block id.slot self.old (slot_at self.old.slots id.block id.slot) }
     {
-        let state = self.records.state(id);
+        let state = self.slot_at(id.block, id.slot);
         self.condemn_any(id, state.current, leases, servers);
         self.condemn_any(id, granted_copy(state.grant), leases, servers);
-        self.records.change(id, &Empty);
+        self.change(id, &Empty);
+    }
+
+    /// A copy that was found on a server, in its known life, is condemned unless it is the current,
+    /// the granted or a condemned copy of its slot.
+    pub fn condemn_stray<V: LeaseView>(
+        &mut self,
+        id: SlotId,
+        copy: ChunkCopy,
+        leases: &V,
+        servers: &Servers,
+    )
+        requires room { 1 ≤ self.old.spare_condemned }
+        requires number { self.old.next < LAST_U64 }
+        ensures { self.new ≡ unknown_condemned servers.now (V.next_number leases.now)
+            id.block id.slot copy self.old (is_known id.block id.slot copy self.old) }
+    {
+        if !self.knows(id, copy) {
+            self.condemn_any(id, Some(copy), leases, servers);
+        }
+    }
+
+    /// Whether a copy is the current, the granted or a condemned copy of its slot.
+    fn knows(&self, id: SlotId, copy: ChunkCopy) -> bool
+        ensures { result ≡ is_known id.block id.slot copy self.now }
+    {
+        let state = self.slot_at(id.block, id.slot);
+        is_that_copy(copy, state.current)
+            || is_that_copy(copy, granted_copy(state.grant))
+            || self.entries.knows(id, copy)
+    }
+
+    /// A server came up in a new life: the condemned copies on it are gone. Their room stays.
+    pub fn forget_server(&mut self, server: ServerId)
+        ensures { self.new
+            ≡ record self.old { condemned = without (is_entry_on server) self.old.condemned } }
+    {
+        self.entries.forget_server(server);
     }
 
     /// A condemned copy is ordered deleted, if it is there.

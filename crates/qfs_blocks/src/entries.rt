@@ -1,12 +1,13 @@
 //! The condemned copies, by their numbers.
-ghost use Rattle.std.specs.Prelude.{◌≡◌, ◌≤◌, ◌<◌, ◌+◌, [], ◌∷◌, ◌++◌, max, IsOk, OnOk, OnErr};
-ghost use Rattle.std.specs.Option.{option_map};
+ghost use Rattle.std.specs.Prelude.{◌≡◌, ◌≤◌, ◌<◌, ◌+◌, [], ◌∷◌, ◌++◌, find, max, IsTrue, IsOk, OnOk, OnErr, IfSome};
+ghost use Rattle.std.specs.Option.{IfNone, option_map};
 ghost use Rattle.std.specs.List.{list_any};
 ghost use Rattle.qfs_base.specs.Sizes.{LAST_U64};
-ghost use Rattle.qfs_base.specs.Table.{without};
-ghost use Rattle.qfs_blocks.specs.Entries.{condemned_of, is_entry_of, is_entry_on, mark_entry, new_entry, next_entry, sweep_entry};
+ghost use Rattle.qfs_base.specs.Table.{IsRising, without};
+ghost use Rattle.qfs_blocks.specs.Entries.{AreOn, condemned_of, entry_cmp, is_entry, is_entry_of, is_entry_on, is_ordered, mark_entry, new_entry, next_entry, sweep_entry};
 
 use crate::change::Order;
+use crate::index::{CopyRow, OfCopy, OnServer};
 use crate::key::{AboveNumber, Numbered};
 use crate::row::EntryRow;
 use crate::scan::first_to_go;
@@ -25,6 +26,7 @@ use std::marker::Model;
 #[derive(Drop)]
 pub struct Entries {
     table: Table<EntryRow>,
+    by_copy: Table<CopyRow>,
     next: u64,
 }
 
@@ -39,7 +41,7 @@ impl Model for Entries {
       spare = it.table.spare;
     } };
 
-    ghost invariant = { λ it. AreEntries it.table it.next };
+    ghost invariant = { λ it. AreEntries it.table it.by_copy it.next };
 }
 
 impl Entries {
@@ -51,6 +53,7 @@ impl Entries {
     {
         Entries {
             table: Table::new(alloc),
+            by_copy: Table::new(alloc),
             next,
         }
     }
@@ -64,6 +67,7 @@ impl Entries {
         ensures enough { entries ≤ self.old.spare → IsOk result }
         ensures err { OnErr result (self.new ≡ self.old) }
     {
+        self.by_copy.reserve(entries)?;
         self.table.reserve(entries)
     }
 
@@ -105,6 +109,7 @@ impl Entries {
         ensures next { self.new.next ≡ entry.condemned.number + 1 }
         ensures spare { self.new.spare + 1 ≡ self.old.spare }
     {
+        self.by_copy.insert(CopyRow::of(&entry));
         self.next = entry.condemned.number + 1;
         self.table.insert(EntryRow::new(entry));
     }
@@ -138,12 +143,64 @@ impl Entries {
         ensures next { self.new.next ≡ self.old.next }
         ensures spare { self.new.spare ≡ self.old.spare }
     {
-        let ordered = match self.table.get(&Numbered { number }) {
+        if self.is_ordered(number) {
+            self.take(number);
+        }
+    }
+
+    /// Whether the deletion of the copy of a number was ordered.
+    fn is_ordered(&self, number: u64) -> bool
+        ensures ordered { result ≡ is_ordered (find (is_entry number) self.now.entries) }
+        ensures rising { IsRising entry_cmp self.now.entries }
+    {
+        match self.table.get(&Numbered { number }) {
             Some(row) => row.entry().ordered,
             None => false,
-        };
-        if ordered {
-            self.table.remove(&Numbered { number });
         }
+    }
+
+    /// Takes the copy of a number off, if it is there. The room stays.
+    fn take(&mut self, number: u64)
+        ensures entries { self.new.entries ≡ without (is_entry number) self.old.entries }
+        ensures next { self.new.next ≡ self.old.next }
+        ensures spare { self.new.spare ≡ self.old.spare }
+    {
+        match self.table.remove(&Numbered { number }) {
+            Some(row) => {
+                self.by_copy.remove(&CopyRow::of(&row.entry()));
+            }
+            None => {}
+        }
+    }
+
+    /// Whether a copy of a slot is condemned.
+    pub fn knows(&self, id: SlotId, copy: ChunkCopy) -> bool
+        ensures { result ≡ list_any (is_entry_of id.block id.slot copy) self.now.entries }
+    {
+        let row = CopyRow::first(id, copy);
+        self.by_copy.get(&OfCopy { row }).is_some()
+    }
+
+    /// Takes all copies on a server off. The room stays.
+    pub fn forget_server(&mut self, server: ServerId)
+        ensures entries { self.new.entries ≡ without (is_entry_on server) self.old.entries }
+        ensures next { self.new.next ≡ self.old.next }
+        ensures spare { self.new.spare ≡ self.old.spare }
+    {
+        while let Some(number) = self.first_on(server) {
+            self.take(number);
+        }
+    }
+
+    /// The number of some copy on a server.
+    fn first_on(&self, server: ServerId) -> Option<u64>
+        ensures there { IfSome result
+            (λ number. IsTrue (list_any (is_entry number) self.now.entries)) }
+        ensures on { IfSome result (λ number. AreOn server number self.now.entries) }
+        ensures none { IfNone result
+            (without (is_entry_on server) self.now.entries ≡ self.now.entries) }
+    {
+        let row = self.by_copy.get(&OnServer { server })?;
+        Some(row.number)
     }
 }

@@ -6,7 +6,9 @@ mod blocks;
 mod change;
 mod changes;
 mod entries;
+mod index;
 mod key;
+mod laws;
 mod records;
 mod row;
 mod scan;
@@ -14,4 +16,5 @@ mod servers;
 mod state;
 
 pub use blocks::Blocks;
+pub use laws::{changes_of_condemned_copies, condemning_changes};
 pub use state::NewGrant;

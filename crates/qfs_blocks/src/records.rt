@@ -3,8 +3,8 @@ ghost use Rattle.std.specs.Prelude.{◌≡◌, ◌≤◌, ◌+◌, [], find, len
 ghost use Rattle.std.specs.Option.{option_copied, option_map, is_some};
 ghost use Rattle.std.specs.List.{list_any};
 ghost use Rattle.qfs_base.specs.declared.image.SlotRow.{SlotRow};
-ghost use Rattle.qfs_base.specs.Table.{change_where};
-ghost use Rattle.qfs_model_meta.specs.Slots.{forget_file, granted_slot, is_of_block, seal_file, slot_at, slot_id, with_slot};
+ghost use Rattle.qfs_base.specs.Table.{IsRising, change_where};
+ghost use Rattle.qfs_model_meta.specs.Slots.{forget_file, granted_slot, is_of_block, seal_file, slot_at, slot_cmp, slot_id, with_slot};
 ghost use Rattle.qfs_blocks.specs.Records.{is_after, is_next_on, is_of, HasPlace};
 
 use crate::change::{GrantTo, Seal};
@@ -82,7 +82,8 @@ impl Records {
 
     /// Whether a slot has a record.
     pub fn has(&self, id: SlotId) -> bool
-        ensures { result ≡ is_some (find (is_of id) self.now.slots) }
+        ensures found { result ≡ is_some (find (is_of id) self.now.slots) }
+        ensures rising { IsRising slot_cmp self.now.slots }
     {
         self.table.get(&OfSlot { id }).is_some()
     }

@@ -1,5 +1,6 @@
 //! The record of a slot: which copy is current, which grant is pending, and what was tried.
 ghost use Rattle.std.specs.Prelude.{◌≡◌, ◌≤◌};
+ghost use Rattle.qfs_model_meta.specs.Apply.{is_that_copy};
 ghost use Rattle.qfs_model_meta.specs.Slots.{never_granted, granted_copy, granted_slot, ungranted_slot, failed_slot, confirmed_slot, sealed_slot, emptied_slot};
 
 use qfs_base::chunk::Copy as ChunkCopy;
@@ -13,6 +14,21 @@ pub fn granted_copy(grant: Option<Grant>) -> Option<ChunkCopy>
     ensures { result ≡ granted_copy grant }
 {
     grant.map(|grant| grant.copy)
+}
+
+/// Whether a copy is one of these.
+#[tactic(auto, unfolding(qfs_model_meta::specs::Apply::is_that_copy, qfs_model_meta::specs::Slots::same_copy))]
+pub fn is_that_copy(copy: ChunkCopy, other: Option<ChunkCopy>) -> bool
+    ensures { result ≡ is_that_copy copy other }
+{
+    match other {
+        Some(other) => {
+            other.server == copy.server
+                && other.life == copy.life
+                && other.version == copy.version
+        }
+        None => false,
+    }
 }
 
 /// A slot that was never granted: versions start at 1.
