@@ -1,5 +1,5 @@
 -- Condemned copies that are found, put and swept. For the calls of `Entries`.
-use Rattle.std.proofs.Common.{◌≡◌, ◌<◌, ◌≤◌, ◌∙◌, ap, sym, refl, arith, ℕ, nat_lt, Bool, true, false, true≢false, ◌&&◌, List, [], ◌∷◌, ◌++◌, find, filter, Option, Some, None}
+use Rattle.std.proofs.Common.{◌≡◌, ◌<◌, ◌≤◌, ◌+◌, ◌∙◌, ap, sym, refl, arith, ℕ, nat_lt, Bool, true, false, true≢false, ◌&&◌, List, [], ◌∷◌, ◌++◌, find, filter, Option, Some, None}
 use Rattle.std.proofs.lemmas.Cmp.{nat_cmp_total, on_total, ranked}
 use Rattle.std.specs.Cmp.{IsTotalOrder, nat_cmp_is}
 use Rattle.std.specs.Prelude.{⊤}
@@ -29,6 +29,17 @@ below_new new next entries below high =
     each_weaker (λ (entry : CondemnedEntry). entry.condemned.number < next) _
     (λ entry less. sym
     (nat_cmp_is entry.condemned.number new.condemned.number Less (omega arith))) entries below
+
+-- the entries behind one have numbers above its own
+pub above_later : (entry : CondemnedEntry) (before later : List CondemnedEntry)
+    → IsRising entry_cmp (before ++ entry ∷ later)
+    → Each (λ (it : CondemnedEntry). entry.condemned.number + 1 ≤ it.condemned.number) later
+above_later entry [] later rising =
+    each_weaker (λ it. entry_cmp entry it ≡ Less) _ (λ it above.
+    let below : entry.condemned.number < it.condemned.number =
+    ranked entry.condemned.number it.condemned.number Less (sym above) in
+    omega arith) later rising.0
+above_later entry (first ∷ before) later rising = above_later entry before later rising.1
 
 -- an entry above all others is placed behind them
 pub put_last : (new : CondemnedEntry) (next : ℕ) (entries : List CondemnedEntry)

@@ -1,5 +1,5 @@
 -- Slot records that are found, granted and changed. For the calls of `Records`.
-use Rattle.std.proofs.Common.{◌≡◌, ◌∙◌, ap, sym, refl, subst, ℕ, Bool, true, false, ◌&&◌, List, find, filter, Option, Some, None}
+use Rattle.std.proofs.Common.{◌≡◌, ◌∙◌, ap, sym, refl, subst, ℕ, Bool, true, false, true≢false, ◌&&◌, List, find, filter, Option, Some, None}
 use Rattle.std.specs.List.{list_any}
 use Rattle.std.specs.Option.{is_some, option_map}
 use Rattle.std.specs.Prelude.{unwrap_or}
@@ -39,11 +39,15 @@ granted_found id change slots rising found =
         λ i. record { block = own.0 i; slot = own.1 i; state = change (state i) }
 
 -- a slot without a record was never granted
-pub unknown_slot : (id : SlotId) (slots : List SlotRow) → find (is_of id) slots ≡ None
-    → slot_at slots id.block id.slot ≡ never_granted
+pub unknown_slot : (id : SlotId) (slots : List SlotRow)
+    → is_some (find (is_of id) slots) ≡ false → slot_at slots id.block id.slot ≡ never_granted
 unfolding slot_at
-unknown_slot id slots none =
-    ap (λ found. unwrap_or (option_map (λ (row : SlotRow). row.state) found) never_granted) none
+unknown_slot id slots none = default (find (is_of id) slots) none
+  where
+    default : (found : Option SlotRow) → is_some found ≡ false
+        → unwrap_or (option_map (λ (row : SlotRow). row.state) found) never_granted ≡ never_granted
+    default None none = refl
+    default (Some row) none = absurd (true≢false none)
 
 pub found_after : (after : Option SlotId) (slots : List SlotRow)
     → find (has_key (after_order after)) slots ≡ find (is_after after) slots

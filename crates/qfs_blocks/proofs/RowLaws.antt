@@ -164,8 +164,7 @@ module _ {X : Type 0} where
       → cond (is_eq o) (Some x) (find (has_key order) xs) ≡ Some found
       → (is_eq o ≡ true → x ≡ found) × Each (λ x. has_key order x ≡ true → x ≡ found) xs) [
         | Equal ↦ λ is at.
-            let same : x ≡ found = cc in
-            (
+            let same : x ≡ found = cc in (
               λ _. same,
               each_weaker _ (λ later. has_key order later ≡ true → later ≡ found)
                   (λ later less yes. absurd

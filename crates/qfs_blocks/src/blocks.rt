@@ -56,7 +56,8 @@ impl Blocks {
     }
 
     /// Makes room for so many more slot records and so many more condemned copies, those that have
-    /// room already included. On want of memory all stays as it was.
+    /// room already included. On want of memory nothing changes but the room for slot records,
+    /// which may have grown.
     pub fn reserve(&mut self, entries: u32) -> Result<(), AllocError>
         ensures slots { self.new.slots ≡ self.old.slots }
         ensures condemned { self.new.condemned ≡ self.old.condemned }

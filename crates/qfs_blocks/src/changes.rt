@@ -54,9 +54,10 @@ impl Blocks {
     }
 
     /// The record of a slot changes, if it has one.
-    fn change<C: Change<RecordRow>>(&mut self, id: SlotId, change: &C)
+    pub(crate) fn change<C: Change<RecordRow>>(&mut self, id: SlotId, change: &C)
         ensures { self.new ≡ record self.old {
-            slots = change_where (is_of id) (C.changed change.now) self.old.slots } }
+          slots = change_where (is_of id) (C.changed change.now) self.old.slots;
+        } }
     {
         self.records.change(id, change);
     }
@@ -107,9 +108,8 @@ impl Blocks {
         if let Some(grant) = self.slot_at(id.block, id.slot).grant {
             self.condemn_any(id, Some(grant.copy), leases, servers);
             self.change(id, &Ungrant);
-            self.change(id, &Fail {
-                server: grant.copy.server,
-            });
+            let server = grant.copy.server;
+            self.change(id, &Fail { server });
         }
     }
 

@@ -1,18 +1,20 @@
 //! The condemned copies, by their numbers.
-ghost use Rattle.std.specs.Prelude.{◌≡◌, ◌≤◌, ◌<◌, ◌+◌, [], ◌∷◌, ◌++◌, find, max, IsTrue, IsOk, OnOk, OnErr, IfSome};
+ghost use Rattle.std.specs.Prelude.{◌≡◌, ◌≤◌, ◌<◌, ◌+◌, [], ◌∷◌, ◌++◌, find, max, IsTrue, IsOk, IfOk, OnOk, OnErr, IfSome};
 ghost use Rattle.std.specs.Option.{IfNone, option_map};
 ghost use Rattle.std.specs.List.{list_any};
+ghost use Rattle.qfs_base.specs.declared.image.CondemnedEntry.{CondemnedEntry};
 ghost use Rattle.qfs_base.specs.Sizes.{LAST_U64};
-ghost use Rattle.qfs_base.specs.Table.{IsRising, without};
+ghost use Rattle.qfs_base.specs.Table.{Each, IsRising, without};
 ghost use Rattle.qfs_blocks.specs.Entries.{AreOn, condemned_of, entry_cmp, is_entry, is_entry_of, is_entry_on, is_ordered, mark_entry, new_entry, next_entry, sweep_entry};
 
 use crate::change::Order;
 use crate::index::{CopyRow, OfCopy, OnServer};
 use crate::key::{AboveNumber, Numbered};
+use crate::lists::entry_list;
 use crate::row::EntryRow;
 use crate::scan::first_to_go;
 use qfs_base::chunk::Copy as ChunkCopy;
-use qfs_base::image::{CondemnedEntry, Servers};
+use qfs_base::image::{CondemnedEntry, CondemnedList, Servers};
 use qfs_base::numbers::{LeaseId, ServerId};
 use qfs_base::reply::Condemned;
 use qfs_base::request::SlotId;
@@ -56,6 +58,31 @@ impl Entries {
             by_copy: Table::new(alloc),
             next,
         }
+    }
+
+    /// The condemned copies of a list, which is in the order of their numbers, with the number that
+    /// the next one gets.
+    pub fn from_list(alloc: Global, list: CondemnedList, next: u64) -> Result<Entries, AllocError>
+        requires in_order { IsRising entry_cmp list }
+        requires numbers { Each (λ (entry : CondemnedEntry). entry.condemned.number < next) list }
+        ensures entries { IfOk result (λ it. it.entries ≡ list) }
+        ensures next { IfOk result (λ it. it.next ≡ next) }
+        ensures spare { IfOk result (λ it. it.spare ≡ 0) }
+    {
+        let mut entries = Entries::new(alloc, 0);
+        for entry in list.into_vec() {
+            entries.reserve(1)?;
+            entries.put(entry);
+        }
+        entries.next = next;
+        Ok(entries)
+    }
+
+    /// All condemned copies, by number.
+    pub fn list(&self, alloc: Global) -> Result<CondemnedList, AllocError>
+        ensures { IfOk result (λ list. list ≡ self.now.entries) }
+    {
+        entry_list(alloc, self.table.iter())
     }
 
     /// Makes room for so many more, those that have room already included. On want of memory all
@@ -125,7 +152,11 @@ impl Entries {
         ensures { result ≡ option_map condemned_of
             (next_entry servers.now (V.leases leases.now) after self.now.entries) }
     {
-        first_to_go(self.table.run(&AboveNumber { number: after }), leases, servers)
+        first_to_go(
+            self.table.run(&AboveNumber { number: after }),
+            leases,
+            servers,
+        )
     }
 
     /// Orders the deletion of the copy of a number, if it is there.

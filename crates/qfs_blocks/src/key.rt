@@ -20,7 +20,10 @@ impl Key<RecordRow> for OfSlot {
 
     fn order(&self, row: &RecordRow) -> Ordering {
         let row = row.row();
-        self.id.block.cmp(&row.block).then(self.id.slot.cmp(&row.slot))
+        self.id
+            .block
+            .cmp(&row.block)
+            .then(self.id.slot.cmp(&row.slot))
     }
 
     ghost falls = { λ key. slot_falls key.id };

@@ -3,12 +3,15 @@
 #![tactic(auto)]
 
 mod blocks;
+mod calls;
 mod change;
 mod changes;
 mod entries;
+mod error;
 mod index;
 mod key;
 mod laws;
+mod lists;
 mod records;
 mod row;
 mod scan;
@@ -16,5 +19,9 @@ mod servers;
 mod state;
 
 pub use blocks::Blocks;
-pub use laws::{changes_of_condemned_copies, condemning_changes};
+pub use error::BlockError;
+pub use laws::{
+    change_of_grants, changes_of_condemned_copies, changes_of_leases, changes_of_servers,
+    condemning_changes,
+};
 pub use state::NewGrant;

@@ -1,5 +1,5 @@
 //! The records of slots, in their order.
-ghost use Rattle.std.specs.Prelude.{◌≡◌, ◌≤◌, ◌+◌, [], find, length, max, IsOk, OnOk, OnErr};
+ghost use Rattle.std.specs.Prelude.{◌≡◌, ◌≤◌, ◌+◌, [], find, length, max, IsOk, IfOk, OnOk, OnErr};
 ghost use Rattle.std.specs.Option.{option_copied, option_map, is_some};
 ghost use Rattle.std.specs.List.{list_any};
 ghost use Rattle.qfs_base.specs.declared.image.SlotRow.{SlotRow};
@@ -9,11 +9,12 @@ ghost use Rattle.qfs_blocks.specs.Records.{is_after, is_next_on, is_of, HasPlace
 
 use crate::change::{GrantTo, Seal};
 use crate::key::{After, OfBlock, OfFile, OfSlot};
+use crate::lists::{record_list, record_rows};
 use crate::row::RecordRow;
 use crate::scan::{first_on, id_of};
 use crate::state::{NewGrant, granted, never_granted};
 use qfs_base::chunk::BlockId;
-use qfs_base::image::{SlotRecord, SlotRow};
+use qfs_base::image::{RecordList, SlotRecord, SlotRow};
 use qfs_base::numbers::{FileId, Life, ServerId};
 use qfs_base::request::SlotId;
 use qfs_table::{Change, Table};
@@ -46,6 +47,25 @@ impl Records {
         Records {
             table: Table::new(alloc),
         }
+    }
+
+    /// The records of a list, which is in the order of slots.
+    pub fn from_list(alloc: Global, list: RecordList) -> Result<Records, AllocError>
+        requires { IsRising slot_cmp list }
+        ensures slots { IfOk result (λ it. it.slots ≡ list) }
+        ensures spare { IfOk result (λ it. it.spare ≡ 0) }
+    {
+        let rows = record_rows(alloc, list)?;
+        Ok(Records {
+            table: Table::from_rows(alloc, rows)?,
+        })
+    }
+
+    /// All records, by slot.
+    pub fn list(&self, alloc: Global) -> Result<RecordList, AllocError>
+        ensures { IfOk result (λ list. list ≡ self.now.slots) }
+    {
+        record_list(alloc, self.table.iter())
     }
 
     /// Makes room for so many more, those that have room already included. On want of memory all

@@ -23,9 +23,7 @@ pub fn is_that_copy(copy: ChunkCopy, other: Option<ChunkCopy>) -> bool
 {
     match other {
         Some(other) => {
-            other.server == copy.server
-                && other.life == copy.life
-                && other.version == copy.version
+            other.server == copy.server && other.life == copy.life && other.version == copy.version
         }
         None => false,
     }

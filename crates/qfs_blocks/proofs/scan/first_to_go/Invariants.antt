@@ -6,5 +6,5 @@ use Rattle.qfs_blocks.proofs.scan.first_to_go.Given as goal
 -- the rows that are left decide
 abbrev pub invariant-loop-row : goal.invariant-loop-row
 invariant-loop-row g l =
-    find (entry_may_go l.servers.now (g.V.LeaseView.leases l.leases.now)) l.fn.rows
-    ≡ find (entry_may_go l.servers.now (g.V.LeaseView.leases l.leases.now)) l.row-iterator
+    find (entry_may_go l.servers (g.V.LeaseView.leases l.leases)) l.fn.rows
+    ≡ find (entry_may_go l.servers (g.V.LeaseView.leases l.leases)) l.row-iterator

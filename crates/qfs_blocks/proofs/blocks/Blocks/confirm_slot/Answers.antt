@@ -13,4 +13,4 @@ returns g c =
     c.change.ensures
     ∙ ap (record_changed id.block id.slot confirmed_slot) (c.condemn_any.ensures
     ∙ ap (λ (state : SlotRecord). copy_condemned c.args.servers.now below id.block id.slot
-    c.args.self.now state.current) c.slot_at.ensures)
+    c.args.self.now state.current) c.slot_at-current.ensures)

@@ -11,7 +11,7 @@ returns g c =
     let id = c.args.id in
     let below = g.V.LeaseView.next_number c.args.leases.now in
     let servers = c.args.servers.now in
-    let state = c.slot_at.ensures in
+    let state = c.slot_at-state.ensures in
     let first = c.condemn_any.ensures
     ∙ ap (λ (state : SlotRecord). copy_condemned servers below id.block id.slot c.args.self.now
     state.current) state in

@@ -12,7 +12,7 @@ returns-in-Some g c =
     let below = g.V.LeaseView.next_number c.args.leases.now in
     let pending = sym (ap (λ (state : SlotRecord). state.grant) c.slot_at.ensures) ∙ c.in-Some.is in
     let copy = c.in-Some.grant.copy in
-    c.change-2.ensures
+    c.change-in-Some.ensures
     ∙ ap (record_changed id.block id.slot (failed_slot copy.server)) (c.change.ensures
     ∙ ap (record_changed id.block id.slot ungranted_slot) c.condemn_any.ensures)
     ∙ ap (grant_failed c.args.servers.now below id.block id.slot c.args.self.now) (sym pending)

@@ -15,7 +15,7 @@ returns c =
     let id = c.args.id in
     let rows = c.self.inside.by_copy.rows in
     c.is_some.ensures ∙ some_copied c.get.result ∙ ap is_some c.get.ensures
-    ∙ ap (λ row. is_some (find (has_key (place_cmp row)) rows)) c.first.ensures
+    ∙ ap (λ row. is_some (find (has_key (place_cmp row)) rows)) c.first-row.ensures
     ∙ known_copy id.block id.slot c.args.copy rows c.self.inside.table.rows c.self.invariant.index
     ∙ ap (λ (it : CondemnedEntries). list_any (is_entry_of id.block id.slot c.args.copy) it.entries)
     c.self.view_is

@@ -5,7 +5,7 @@ use Rattle.qfs_base.specs.declared.image.SlotRecord.{SlotRecord}
 use Rattle.qfs_base.specs.Table.{IsRising, place}
 use Rattle.qfs_laws_slots.specs.Slots.{row_of, slot_cmp_total}
 use Rattle.qfs_laws_tables.specs.InOrder.{place_rises}
-use Rattle.qfs_model_meta.specs.Slots.{change_state, granted_slot, is_slot, slot_cmp, with_slot}
+use Rattle.qfs_model_meta.specs.Slots.{change_state, granted_slot, is_slot, slot_at, slot_cmp, with_slot}
 use Rattle.qfs_blocks.specs.BlockTables.{SlotRecords}
 use Rattle.qfs_blocks.specs.Records.{is_of}
 use Rattle.qfs_blocks.proofs.RecordLaws.{granted_found, unknown_slot}
@@ -34,4 +34,18 @@ returns-then-has-clause-spare c =
     omega (arith, long, c.change.ensures.spare)
 
 pub returns-else-has-clause-slots : goal.returns-else-has-clause-slots
-returns-else-has-clause-slots c = ?
+unfolding with_slot
+returns-else-has-clause-slots c =
+    let id = c.args.id in
+    let new = c.args.new in
+    let slots = c.args.self.now.slots in
+    let none = sym c.has.ensures.found ∙ c.if-has.false in
+    let state = c.granted.ensures
+    ∙ ap (granted_slot new.server new.life new.actor new.lease)
+    (c.never_granted.ensures ∙ sym (unknown_slot id slots none)) in
+    c.insert.ensures.rows
+    ∙ ap (λ row. place slot_cmp row c.self.inside.table.rows)
+    (c.new.ensures ∙ ap (row_of id.block id.slot) state)
+    ∙ ap (λ (it : SlotRecords). place slot_cmp (row_of id.block id.slot
+    (granted_slot new.server new.life new.actor new.lease (slot_at slots id.block id.slot)))
+    it.slots) c.self.view_is
