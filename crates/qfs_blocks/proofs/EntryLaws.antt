@@ -1,5 +1,7 @@
 -- Condemned copies that are found, put and swept. For the calls of `Entries`.
-use Rattle.std.proofs.Common.{◌≡◌, ◌<◌, ◌≤◌, ◌+◌, ◌∙◌, ap, sym, refl, arith, ℕ, nat_lt, Bool, true, false, true≢false, ◌&&◌, List, [], ◌∷◌, ◌++◌, find, filter, Option, Some, None}
+use Rattle.std.proofs.Common.{◌≡◌, ◌<◌, ◌≤◌, ◌+◌, ◌∙◌, ap, sym, refl, arith, ℕ, nat_lt, Bool, true}
+use Rattle.std.proofs.Common.{false, true≢false, ◌&&◌, List, [], ◌∷◌, ◌++◌, find, filter, Option}
+use Rattle.std.proofs.Common.{Some, None}
 use Rattle.std.proofs.lemmas.Cmp.{nat_cmp_total, on_total, ranked}
 use Rattle.std.specs.Cmp.{IsTotalOrder, nat_cmp_is}
 use Rattle.std.specs.Prelude.{⊤}
@@ -11,16 +13,14 @@ use Rattle.qfs_base.specs.EachLaws.{each_weaker}
 use Rattle.qfs_base.specs.Table.{Each, IsRising, has_key, place, without}
 use Rattle.qfs_laws_tables.specs.EachRow.{each_of_all, found_has, none_found}
 use Rattle.qfs_laws_tables.specs.Keys.{equal-is}
-use Rattle.qfs_table.specs.KeyLaws.{whole_alone}
-use Rattle.qfs_table.specs.Keys.{IsOnly}
-use Rattle.qfs_blocks.specs.Entries.{above_order, entry_cmp, entry_may_go, entry_order, is_entry, is_ordered, is_swept, next_entry, sweep_entry}
-use Rattle.qfs_blocks.proofs.RowLaws.{alone, find_alike, find_kept, key_passes, placed_last, without_alike, without_none}
+use Rattle.qfs_blocks.specs.Entries.{above_order, entry_cmp, entry_may_go, entry_order, is_entry}
+use Rattle.qfs_blocks.specs.Entries.{is_ordered, is_swept, next_entry, sweep_entry}
+use Rattle.qfs_blocks.specs.KeyLaws.{number_alone}
+use Rattle.qfs_blocks.proofs.RowLaws.{alone, find_alike, find_kept, key_passes, placed_last}
+use Rattle.qfs_blocks.proofs.RowLaws.{without_alike, without_none}
 
 pub entry_cmp_total : IsTotalOrder entry_cmp
 entry_cmp_total = on_total (λ (entry : CondemnedEntry). entry.condemned.number) nat_cmp_total
-
-pub entry_alone : (number : ℕ) → IsOnly entry_cmp (entry_order number)
-entry_alone number a b = whole_alone nat_cmp_total number a.condemned.number b.condemned.number
 
 pub below_new : (new : CondemnedEntry) (next : ℕ) (entries : List CondemnedEntry)
     → Each (λ (entry : CondemnedEntry). entry.condemned.number < next) entries
@@ -93,7 +93,7 @@ module _ (number : ℕ) (entries : List CondemnedEntry) where
         (λ is. ap (λ b. b && entry.ordered) is
         ∙ ap (λ (e : CondemnedEntry). e.ordered) (same is) ∙ off)
         (λ is. ap (λ b. b && entry.ordered) is)) entries
-        (alone (entry_order number) (entry_alone number) entries rising found at))
+        (alone (entry_order number) (number_alone number) entries rising found at))
 
     -- where it was, the entry goes
     pub swept_ordered : found.ordered ≡ true
@@ -104,7 +104,7 @@ module _ (number : ℕ) (entries : List CondemnedEntry) where
         (λ is. is ∙ sym (ap (λ b. b && entry.ordered) is
         ∙ ap (λ (e : CondemnedEntry). e.ordered) (same is) ∙ on))
         (λ is. is ∙ sym (ap (λ b. b && entry.ordered) is))) entries
-        (alone (entry_order number) (entry_alone number) entries rising found at))
+        (alone (entry_order number) (number_alone number) entries rising found at))
 
   -- so the test of what is found decides
   pub swept_as : (found : Option CondemnedEntry) → find (is_entry number) entries ≡ found

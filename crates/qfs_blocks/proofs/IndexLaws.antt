@@ -1,7 +1,8 @@
 -- The index of condemned copies after one was condemned or taken off, and what a look into it
 -- tells. For the calls of `Entries`.
 use Rattle.std.proofs.Common.{◌≡◌, ◌<◌, ◌∙◌, ap, sym, refl, arith, ℕ, nat_le, ◌==◌}
-use Rattle.std.proofs.Common.{Bool, true, false, true≢false, not, ◌&&◌, ◌||◌, cond, List, [], ◌∷◌, ◌++◌}
+use Rattle.std.proofs.Common.{Bool, true, false, true≢false, not, ◌&&◌, ◌||◌, cond, List, [], ◌∷◌}
+use Rattle.std.proofs.Common.{◌++◌}
 use Rattle.std.proofs.Common.{find, filter, Some, None}
 use Rattle.std.proofs.lemmas.Bool.{and_parts}
 use Rattle.std.proofs.lemmas.Bool.Decides.{nat_tests}
@@ -25,10 +26,12 @@ use Rattle.qfs_laws_tables.specs.Placed.{Apart, any-placed}
 use Rattle.qfs_laws_tables.specs.SomeRow.{any_of_append, found-any, none_any, some-any}
 use Rattle.qfs_model_meta.specs.Slots.{same_block, same_copy}
 use Rattle.qfs_blocks.specs.declared.index.CopyRow.{CopyRow}
-use Rattle.qfs_blocks.specs.CopyIndex.{IsCopyIndex, copy_cmp, copy_key, copy_row, copy_total, home_cmp, place_cmp, server_order}
+use Rattle.qfs_blocks.specs.CopyIndex.{IsCopyIndex, copy_cmp, copy_key, copy_row, copy_total}
+use Rattle.qfs_blocks.specs.CopyIndex.{home_cmp, place_cmp, server_order}
 use Rattle.qfs_blocks.specs.Entries.{entry_cmp, entry_order, is_entry, is_entry_of, is_entry_on}
-use Rattle.qfs_blocks.proofs.EntryLaws.{entry_alone}
-use Rattle.qfs_blocks.proofs.RowLaws.{alone, any_alike, any_kept, any_none, one_there, only_one, without_none}
+use Rattle.qfs_blocks.specs.KeyLaws.{number_alone}
+use Rattle.qfs_blocks.proofs.RowLaws.{alone, any_alike, any_kept, any_none, one_there, only_one}
+use Rattle.qfs_blocks.proofs.RowLaws.{without_none}
 
 -- the row of an entry tells entries apart as their numbers do
 tied_as : (number : ℕ) (found entry : CondemnedEntry) → found.condemned.number ≡ number
@@ -64,7 +67,7 @@ index_taken number found rows entries is rising own at test =
     ∙ is (λ row. not (tied row) && test row)
     ∙ any_alike _ _ entries (each_weaker _ _ (λ entry one.
     ap (λ b. not b && test (copy_row entry)) (tied_as number found entry own one)) entries
-    (alone (entry_order number) (entry_alone number) entries rising found at))
+    (alone (entry_order number) (number_alone number) entries rising found at))
     ∙ sym (any_kept (λ entry. test (copy_row entry)) (λ entry. not (is_entry number entry)) entries)
 
 -- an entry above all others was put, and its row was placed
@@ -143,7 +146,8 @@ known_copy block slot copy rows entries is =
         ≡ (((((is_eq a && is_eq b) && (is_eq c && is_eq d)) && is_eq e) && is_eq f))
     parts a b c d e f =
         sym (tied_then (ordering_then (ordering_then (ordering_then a b) (ordering_then c d)) e) f)
-        ∙ ap (λ t. t && is_eq f) (sym (tied_then (ordering_then (ordering_then a b) (ordering_then c d)) e)
+        ∙ ap (λ t. t && is_eq f)
+        (sym (tied_then (ordering_then (ordering_then a b) (ordering_then c d)) e)
         ∙ ap (λ t. t && is_eq e) (sym (tied_then (ordering_then a b) (ordering_then c d))
         ∙ ap (λ t. t && is_eq (ordering_then c d)) (sym (tied_then a b))
         ∙ ap (λ t. (is_eq a && is_eq b) && t) (sym (tied_then c d))))
@@ -187,7 +191,7 @@ module _ (server : ℕ) (row : CopyRow) (rows : List CopyRow) (entries : List Co
   pub entry_on : IsRising entry_cmp entries
       → Each (λ entry. is_entry row.number entry ≡ true → is_entry_on server entry ≡ true) entries
   entry_on rising =
-      only_one (entry_order row.number) (entry_alone row.number) (is_entry_on server) entries rising
+      only_one (entry_order row.number) (number_alone row.number) (is_entry_on server) entries rising
       some_on
 
 -- where the index has no row of a server, no entry is on it
@@ -196,7 +200,8 @@ pub none_on : (server : ℕ) (rows : List CopyRow) (entries : List CondemnedEntr
     → without (is_entry_on server) entries ≡ entries
 none_on server rows entries is none =
     without_none (is_entry_on server) entries (none_any (is_entry_on server) entries
-    (any_alike (is_entry_on server) (λ entry. has_key (server_order server) (copy_row entry)) entries
+    (any_alike (is_entry_on server) (λ entry. has_key (server_order server) (copy_row entry))
+    entries
     (each_of_all _ (λ entry. sym (key-is server entry.condemned.copy.server)) entries)
     ∙ sym (is (has_key (server_order server)))
     ∙ sym (some-any (has_key (server_order server)) rows) ∙ ap is_some none))

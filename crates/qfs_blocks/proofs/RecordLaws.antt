@@ -1,5 +1,6 @@
 -- Slot records that are found, granted and changed. For the calls of `Records`.
-use Rattle.std.proofs.Common.{◌≡◌, ◌∙◌, ap, sym, refl, subst, ℕ, Bool, true, false, true≢false, ◌&&◌, List, find, filter, Option, Some, None}
+use Rattle.std.proofs.Common.{◌≡◌, ◌∙◌, ap, sym, refl, subst, ℕ, Bool, true, false, true≢false}
+use Rattle.std.proofs.Common.{◌&&◌, List, find, filter, Option, Some, None}
 use Rattle.std.specs.List.{list_any}
 use Rattle.std.specs.Option.{is_some, option_map}
 use Rattle.std.specs.Prelude.{unwrap_or}
@@ -11,7 +12,8 @@ use Rattle.qfs_base.specs.EachLaws.{each_weaker}
 use Rattle.qfs_base.specs.Table.{Each, IsRising, change_where, has_key}
 use Rattle.qfs_laws_slots.specs.Slots.{is_slot-is, row_of, rows-found, slot_cmp_total}
 use Rattle.qfs_laws_tables.specs.SomeRow.{some-any}
-use Rattle.qfs_model_meta.specs.Slots.{change_state, is_slot, never_granted, slot_at, slot_cmp, with_slot}
+use Rattle.qfs_model_meta.specs.Slots.{change_state, is_slot, never_granted, slot_at, slot_cmp}
+use Rattle.qfs_model_meta.specs.Slots.{with_slot}
 use Rattle.qfs_blocks.specs.Records.{after_order, has_current_on, is_after, is_next_on, is_of}
 use Rattle.qfs_blocks.proofs.RowLaws.{find_alike, find_kept, key_passes, placed_changed}
 

@@ -1,5 +1,8 @@
--- Rows of sorted lists: what is found, changed, placed and dropped. (They belong to qfs_laws_tables.)
-use Rattle.std.proofs.Common.{◌≡◌, ◌<◌, ◌≤◌, ◌∙◌, ap, sym, refl, arith, Bor, Option, Bool, true, false, true≢false, not, ◌&&◌, ◌||◌, cond, List, [], ◌∷◌, ◌++◌, length, find, filter, Some, None, suc, ℕ}
+-- Rows of sorted lists: what is found, changed, placed and dropped. (These laws belong to
+-- qfs_laws_tables.)
+use Rattle.std.proofs.Common.{◌≡◌, ◌<◌, ◌≤◌, ◌∙◌, ap, sym, refl, arith, Bor, Option, Bool, true}
+use Rattle.std.proofs.Common.{false, true≢false, not, ◌&&◌, ◌||◌, cond, List, [], ◌∷◌, ◌++◌, length}
+use Rattle.std.proofs.Common.{find, filter, Some, None, suc, ℕ}
 use Rattle.std.proofs.lemmas.Bool.{and_parts}
 use Rattle.std.specs.List.{list_any}
 use Rattle.std.specs.Option.{is_some, option_copied}
@@ -8,7 +11,8 @@ use Rattle.std.specs.Ordering.{is_eq, ordering_reverse}
 use Rattle.std.specs.declared.cmp.Ordering.{Ordering}
 use Rattle.std.specs.declared.cmp.Ordering.TheVariants.{Less, Equal, Greater}
 use Rattle.qfs_base.specs.EachLaws.{each_weaker}
-use Rattle.qfs_base.specs.Table.{Each, IsRising, change_row, change_where, has_key, place, place_before, without}
+use Rattle.qfs_base.specs.Table.{Each, IsRising, change_row, change_where, has_key, place}
+use Rattle.qfs_base.specs.Table.{place_before, without}
 use Rattle.qfs_laws_tables.specs.EachRow.{none_found}
 use Rattle.qfs_laws_tables.specs.SomeRow.{any_each}
 use Rattle.qfs_table.specs.Keys.{IsOnly}

@@ -1,5 +1,6 @@
 -- The tables of condemned copies after a change. For the calls of `Entries`.
-use Rattle.std.proofs.Common.{◌≡◌, ◌<◌, ◌≤◌, ◌+◌, ◌∙◌, ap, sym, subst, arith, refl, ℕ, Bool, List, [], ◌∷◌, ◌++◌, find, Some, None}
+use Rattle.std.proofs.Common.{◌≡◌, ◌<◌, ◌≤◌, ◌+◌, ◌∙◌, ap, sym, subst, arith, refl, ℕ, Bool, List}
+use Rattle.std.proofs.Common.{[], ◌∷◌, ◌++◌, find, Some, None}
 use Rattle.std.specs.List.{list_any}
 use Rattle.qfs_base.specs.declared.image.CondemnedEntry.{CondemnedEntry}
 use Rattle.qfs_base.specs.EachLaws.{each_filter, each_weaker}
@@ -102,7 +103,8 @@ module _ {table : Contents CondemnedEntry} {copies : Contents CopyRow} {next : �
       (none_found (is_entry number) table.rows none) in
       record {
         in_order = subst (IsRising entry_cmp) (sym same) are.in_order;
-        numbers = subst (Each (λ (entry : CondemnedEntry). entry.condemned.number < next)) (sym same)
+        numbers = subst (Each (λ (entry : CondemnedEntry). entry.condemned.number < next))
+            (sym same)
             are.numbers;
         index = same_index _ copies.rows _ now.rows refl same are.index;
         room = omega (arith, are.room);

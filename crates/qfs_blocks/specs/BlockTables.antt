@@ -1,5 +1,7 @@
--- Slot records and condemned copies as the callers of `Blocks` see them, and what changes do to them.
-use Rattle.std.specs.Prelude.{ℕ, ◌<◌, ◌≤◌, ◌+◌, ◌-◌, Bool, true, false, ◌||◌, List, [], ◌∷◌, ◌++◌, Option, Some, None}
+-- Slot records and condemned copies as the callers of `Blocks` see them, and what changes do to
+-- them.
+use Rattle.std.specs.Prelude.{ℕ, ◌<◌, ◌≤◌, ◌+◌, ◌-◌, Bool, true, false, ◌||◌, List, [], ◌∷◌, ◌++◌}
+use Rattle.std.specs.Prelude.{Option, Some, None}
 use Rattle.std.specs.List.{list_any}
 use Rattle.qfs_base.specs.declared.chunk.BlockId.{BlockId}
 use Rattle.qfs_base.specs.declared.chunk.Copy.{Copy}
@@ -12,7 +14,8 @@ use Rattle.qfs_base.specs.Sizes.{LAST_U64}
 use Rattle.qfs_base.specs.Table.{Each, IsRising}
 use Rattle.qfs_model_meta.specs.Apply.{is_that_copy}
 use Rattle.qfs_model_meta.specs.Servers.{is_live}
-use Rattle.qfs_model_meta.specs.Slots.{change_slot, confirmed_slot, emptied_slot, failed_slot, granted_copy, slot_at, ungranted_slot}
+use Rattle.qfs_model_meta.specs.Slots.{change_slot, confirmed_slot, emptied_slot, failed_slot}
+use Rattle.qfs_model_meta.specs.Slots.{granted_copy, slot_at, ungranted_slot}
 use Rattle.qfs_table.specs.Tables.{Contents}
 use Rattle.qfs_blocks.specs.declared.index.CopyRow.{CopyRow}
 use Rattle.qfs_blocks.specs.CopyIndex.{IsCopyIndex}
@@ -58,7 +61,8 @@ entry_listed below block slot copy t true =
     }
 
 -- the tables after a copy of a slot was condemned, if there is one
-abbrev pub copy_condemned : List ServerView → ℕ → BlockId → ℕ → BlockTables → Option Copy → BlockTables
+abbrev pub copy_condemned : List ServerView → ℕ → BlockId → ℕ → BlockTables → Option Copy
+    → BlockTables
 copy_condemned servers below block slot t None = t
 copy_condemned servers below block slot t (Some copy) =
     entry_listed below block slot copy t (is_live servers copy)
@@ -68,22 +72,27 @@ abbrev pub record_changed : BlockId → ℕ → (SlotRecord → SlotRecord) → 
 record_changed block slot change t = record t { slots = change_slot block slot change t.slots }
 
 -- a pending grant is condemned and gone
-abbrev pub grant_given_up : List ServerView → ℕ → BlockId → ℕ → BlockTables → Option Grant → BlockTables
+abbrev pub grant_given_up : List ServerView → ℕ → BlockId → ℕ → BlockTables → Option Grant
+    → BlockTables
 grant_given_up servers below block slot t None = t
 grant_given_up servers below block slot t (Some grant) =
-    record_changed block slot ungranted_slot (copy_condemned servers below block slot t (Some grant.copy))
+    record_changed block slot ungranted_slot
+    (copy_condemned servers below block slot t (Some grant.copy))
 
 -- so is one whose server failed the put, which the slot remembers
-abbrev pub grant_failed : List ServerView → ℕ → BlockId → ℕ → BlockTables → Option Grant → BlockTables
+abbrev pub grant_failed : List ServerView → ℕ → BlockId → ℕ → BlockTables → Option Grant
+    → BlockTables
 grant_failed servers below block slot t None = t
 grant_failed servers below block slot t (Some grant) =
     record_changed block slot (failed_slot grant.copy.server)
     (grant_given_up servers below block slot t (Some grant))
 
 -- a pending grant becomes current, and the copy before it is condemned
-abbrev pub grant_confirmed : List ServerView → ℕ → BlockId → ℕ → BlockTables → SlotRecord → BlockTables
+abbrev pub grant_confirmed : List ServerView → ℕ → BlockId → ℕ → BlockTables → SlotRecord
+    → BlockTables
 grant_confirmed servers below block slot t state =
-    record_changed block slot confirmed_slot (copy_condemned servers below block slot t state.current)
+    record_changed block slot confirmed_slot
+    (copy_condemned servers below block slot t state.current)
 
 -- the current copy of a slot is condemned, and then its pending grant
 abbrev pub slot_emptied : List ServerView → ℕ → BlockId → ℕ → BlockTables → SlotRecord → BlockTables
@@ -100,7 +109,8 @@ is_known block slot copy t =
     || list_any (is_entry_of block slot copy) t.condemned
 
 -- a copy that was found on a server is condemned, unless it is known
-abbrev pub unknown_condemned : List ServerView → ℕ → BlockId → ℕ → Copy → BlockTables → Bool → BlockTables
+abbrev pub unknown_condemned : List ServerView → ℕ → BlockId → ℕ → Copy → BlockTables → Bool
+    → BlockTables
 unknown_condemned servers below block slot copy t true = t
 unknown_condemned servers below block slot copy t false =
     copy_condemned servers below block slot t (Some copy)

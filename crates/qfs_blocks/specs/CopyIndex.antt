@@ -1,5 +1,5 @@
--- The index of the condemned copies: by server, life, slot and version of what they are copies of, and
--- then by number. It has a row for each of them, and no others.
+-- The index of the condemned copies: by server, life, slot and version of what they are copies of,
+-- and then by number. It has a row for each of them, and no others.
 use Rattle.std.proofs.Common.{◌≡◌, ◌∙◌, ℕ, refl, sym, Bool, List}
 use Rattle.std.proofs.lemmas.Cmp.{nat_cmp_total, on_total, then_total}
 use Rattle.std.specs.Cmp.{IsTotalOrder}

@@ -1,6 +1,7 @@
--- Condemned copies as the tables keep them: the live leases on a copy's file that have numbers below
--- one block it.
-use Rattle.std.specs.Prelude.{◌≡◌, ℕ, nat_lt, ◌==◌, Bool, true, false, not, ◌&&◌, cond, List, find, filter, map, Option, Some, None}
+-- Condemned copies as the tables keep them: the live leases on a copy's file that have numbers
+-- below one block it.
+use Rattle.std.specs.Prelude.{◌≡◌, ℕ, nat_lt, ◌==◌, Bool, true, false, not, ◌&&◌, cond, List, find}
+use Rattle.std.specs.Prelude.{filter, map, Option, Some, None}
 use Rattle.std.specs.declared.cmp.Ordering.{Ordering}
 use Rattle.std.specs.declared.cmp.Ordering.TheVariants.{Equal, Greater}
 use Rattle.std.specs.Ordering.{nat_cmp}
@@ -61,14 +62,17 @@ AreOn server number entries =
 abbrev pub is_free : List Lease → CondemnedEntry → Bool
 is_free leases entry = not (is_held_below entry.condemned.block.file entry.below leases)
 
--- whether an entry may be ordered deleted: its server is up, it is live, and no live lease blocks it
+-- whether an entry may be ordered deleted: its server is up, it is live, and no live lease blocks
+-- it
 abbrev pub entry_may_go : List ServerView → List Lease → CondemnedEntry → Bool
 entry_may_go servers leases entry = is_listed servers entry.condemned.copy && is_free leases entry
 
 -- the first entry above a number that may be ordered deleted
-abbrev pub next_entry : List ServerView → List Lease → ℕ → List CondemnedEntry → Option CondemnedEntry
+abbrev pub next_entry : List ServerView → List Lease → ℕ → List CondemnedEntry
+    → Option CondemnedEntry
 next_entry servers leases after entries =
-    find (λ (entry : CondemnedEntry). nat_lt after entry.condemned.number && entry_may_go servers leases entry)
+    find (λ (entry : CondemnedEntry). nat_lt after entry.condemned.number
+    && entry_may_go servers leases entry)
     entries
 
 -- an entry whose deletion was ordered

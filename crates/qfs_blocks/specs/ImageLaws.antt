@@ -1,6 +1,8 @@
--- What the changes of the tables are in the metaserver's state: where its slots and condemned copies
--- are those of the tables, each change of the tables is the definition's change of the state.
-use Rattle.std.proofs.Common.{◌≡◌, ◌∙◌, ◌<◌, ◌≤◌, ◌+◌, ap, sym, refl, subst, arith, ℕ, nat_lt, Bool, true, false, not, ◌==◌, ◌&&◌, ◌||◌, cond, List, [], ◌∷◌, ◌++◌, map, filter, find, Option, Some, None}
+-- What the changes of the tables are in the metaserver's state: where its slots and condemned
+-- copies are those of the tables, each change of the tables is the definition's change of the state.
+use Rattle.std.proofs.Common.{◌≡◌, ◌∙◌, ◌<◌, ◌≤◌, ◌+◌, ap, sym, refl, subst, arith, ℕ, nat_lt, Bool}
+use Rattle.std.proofs.Common.{true, false, not, ◌==◌, ◌&&◌, ◌||◌, cond, List, [], ◌∷◌, ◌++◌, map}
+use Rattle.std.proofs.Common.{filter, find, Option, Some, None}
 use Rattle.std.proofs.lemmas.Bool.Decides.{nat_tests}
 use Rattle.qfs_base.specs.declared.chunk.BlockId.{BlockId}
 use Rattle.qfs_base.specs.declared.chunk.Copy.{Copy}
@@ -14,13 +16,18 @@ use Rattle.qfs_base.specs.Table.{Each, change_where, without}
 use Rattle.qfs_laws_slots.specs.RowKeys.{is_lease-is}
 use Rattle.qfs_laws_tables.specs.EachRow.{each_of_all}
 use Rattle.qfs_laws_tables.specs.Placed.{map-changed, map-filter}
-use Rattle.qfs_model_meta.specs.Apply.{confirm_slot, empty_slot, fail_grant, give_up, change_record, with_slots}
-use Rattle.qfs_model_meta.specs.Condemned.{condemn, condemn_any, condemned_row, is_numbered, list_if_live, mark_ordered, sweep, unblock, unblock_all}
+use Rattle.qfs_model_meta.specs.Apply.{confirm_slot, empty_slot, fail_grant, give_up, change_record}
+use Rattle.qfs_model_meta.specs.Apply.{with_slots}
+use Rattle.qfs_model_meta.specs.Condemned.{condemn, condemn_any, condemned_row, is_numbered}
+use Rattle.qfs_model_meta.specs.Condemned.{list_if_live, mark_ordered, sweep, unblock, unblock_all}
 use Rattle.qfs_model_meta.specs.Leases.{end_lease, give_lease, is_lease, leases_on}
 use Rattle.qfs_model_meta.specs.Servers.{is_live}
-use Rattle.qfs_model_meta.specs.Slots.{confirmed_slot, emptied_slot, failed_slot, granted_copy, ungranted_slot}
-use Rattle.qfs_blocks.specs.BlockTables.{BlockTables, copy_condemned, entry_listed, grant_confirmed, grant_failed, grant_given_up, record_changed, slot_emptied}
-use Rattle.qfs_blocks.specs.Entries.{is_entry, is_swept, mark_entry, new_entry, ordered_entry, row_of_entry, rows_of_entries, sweep_entry}
+use Rattle.qfs_model_meta.specs.Slots.{confirmed_slot, emptied_slot, failed_slot, granted_copy}
+use Rattle.qfs_model_meta.specs.Slots.{ungranted_slot}
+use Rattle.qfs_blocks.specs.BlockTables.{BlockTables, copy_condemned, entry_listed, grant_confirmed}
+use Rattle.qfs_blocks.specs.BlockTables.{grant_failed, grant_given_up, record_changed, slot_emptied}
+use Rattle.qfs_blocks.specs.Entries.{is_entry, is_swept, mark_entry, new_entry, ordered_entry}
+use Rattle.qfs_blocks.specs.Entries.{row_of_entry, rows_of_entries, sweep_entry}
 
 -- the state whose slots and condemned copies are those of the tables
 abbrev pub with_blocks : BlockTables → MetaImage → MetaImage
@@ -56,7 +63,8 @@ all_block next file (lease ∷ leases) each =
     (map (λ (l : Lease). l.lease) (cond b (lease ∷ filter on leases) (filter on leases)))
     ≡ map (λ (l : Lease). l.lease) (cond b (lease ∷ filter on leases) (filter on leases))) [
       | true ↦ ap (λ b. cond b
-          (lease.lease ∷ filter (λ n. nat_lt n next) (map (λ (l : Lease). l.lease) (filter on leases)))
+          (lease.lease ∷ filter (λ n. nat_lt n next)
+          (map (λ (l : Lease). l.lease) (filter on leases)))
           (filter (λ n. nat_lt n next) (map (λ (l : Lease). l.lease) (filter on leases)))) within
           ∙ ap (λ ns. lease.lease ∷ ns) rest
       | false ↦ rest

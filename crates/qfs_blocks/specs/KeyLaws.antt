@@ -1,6 +1,7 @@
--- The keys by which slot records are found compare with them as the records compare with each other,
--- and changes of a record leave its slot.
-use Rattle.std.proofs.Common.{◌≡◌, ◌<◌, ◌∙◌, ℕ, refl, sym, ap, arith, nat_lt, Bool, true, false, true≢false, cond, Option, Some, None}
+-- The keys by which rows are found compare with them as the rows compare with each other, and
+-- changes of a record leave its slot.
+use Rattle.std.proofs.Common.{◌≡◌, ◌<◌, ◌∙◌, ℕ, refl, sym, ap, arith, nat_lt, Bool, true, false}
+use Rattle.std.proofs.Common.{true≢false, cond, Option, Some, None}
 use Rattle.std.proofs.lemmas.Bool.Decides.{nat_tests}
 use Rattle.std.proofs.lemmas.Cmp.{nat_cmp_total, ranked}
 use Rattle.std.specs.Ordering.{is_lt, nat_cmp, ordering_then}
@@ -13,10 +14,11 @@ use Rattle.qfs_base.specs.declared.request.SlotId.{SlotId}
 use Rattle.qfs_base.specs.KeyLaws.{block_cmp_total}
 use Rattle.qfs_laws_slots.specs.Slots.{slot_cmp_total}
 use Rattle.qfs_model_meta.specs.LeasedGrants.{comes_after}
-use Rattle.qfs_model_meta.specs.Slots.{block_order, change_state, file_order, never_granted, slot_cmp, slot_id, slot_order}
+use Rattle.qfs_model_meta.specs.Slots.{block_order, change_state, file_order, never_granted}
+use Rattle.qfs_model_meta.specs.Slots.{slot_cmp, slot_id, slot_order}
 use Rattle.qfs_table.specs.Keys.{Falls, Follows, IsOnly}
 use Rattle.qfs_table.specs.KeyLaws.{front_falls, whole_alone, whole_falls}
-use Rattle.qfs_blocks.specs.Entries.{above_order, entry_cmp}
+use Rattle.qfs_blocks.specs.Entries.{above_order, entry_cmp, entry_order}
 use Rattle.qfs_blocks.specs.Records.{after_order}
 
 -- a slot as a row
@@ -62,6 +64,15 @@ passed_falls false true goes = (λ _. refl, λ _. refl)
 passed_falls false false goes = (λ _. refl, λ _. refl)
 passed_falls true true goes = (λ is. absurd cc, λ _. refl)
 passed_falls true false goes = absurd (true≢false (sym (goes refl)))
+
+-- a number is the whole key of an entry
+pub number_falls : (number : ℕ) → Follows entry_cmp (entry_order number)
+number_falls number a b =
+    whole_falls nat_cmp_total number a.condemned.number b.condemned.number
+
+pub number_alone : (number : ℕ) → IsOnly entry_cmp (entry_order number)
+number_alone number a b =
+    whole_alone nat_cmp_total number a.condemned.number b.condemned.number
 
 pub above_falls : (number : ℕ) → Follows entry_cmp (above_order number)
 above_falls number a b less =

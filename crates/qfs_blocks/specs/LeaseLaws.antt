@@ -1,6 +1,7 @@
 -- Condemned copies and leases: which leases block a copy after one was given or ended, and what a
 -- copy that was found on a server does to the state.
-use Rattle.std.proofs.Common.{◌≡◌, ◌∙◌, ◌≤◌, ap, sym, refl, arith, ℕ, nat_lt, Bool, true, false, not, ◌==◌, ◌||◌, cond, List, [], ◌∷◌, ◌++◌, map, filter, Some}
+use Rattle.std.proofs.Common.{◌≡◌, ◌∙◌, ◌≤◌, ap, sym, refl, arith, ℕ, nat_lt, Bool, true, false}
+use Rattle.std.proofs.Common.{not, ◌==◌, ◌||◌, cond, List, [], ◌∷◌, ◌++◌, map, filter, Some}
 use Rattle.std.proofs.lemmas.Bool.Decides.{nat_tests}
 use Rattle.std.specs.List.{list_any}
 use Rattle.qfs_base.specs.declared.chunk.BlockId.{BlockId}
@@ -15,7 +16,8 @@ use Rattle.qfs_laws_slots.specs.RowKeys.{is_lease-is}
 use Rattle.qfs_laws_tables.specs.EachRow.{each_of_all}
 use Rattle.qfs_laws_tables.specs.Placed.{map-filter}
 use Rattle.qfs_model_meta.specs.Apply.{condemn_stray, condemn_unknown, is_known_copy, is_that_copy}
-use Rattle.qfs_model_meta.specs.Condemned.{condemn_any, forget_if_risen, is_copy_of, is_on_server, unblock, unblock_all}
+use Rattle.qfs_model_meta.specs.Condemned.{condemn_any, forget_if_risen, is_copy_of, is_on_server}
+use Rattle.qfs_model_meta.specs.Condemned.{unblock, unblock_all}
 use Rattle.qfs_model_meta.specs.Leases.{end_lease, give_lease, is_lease, leases_on}
 use Rattle.qfs_model_meta.specs.Slots.{granted_copy, slot_at}
 use Rattle.qfs_blocks.specs.BlockTables.{BlockTables, is_known, unknown_condemned}

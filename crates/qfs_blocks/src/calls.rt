@@ -105,7 +105,8 @@ impl Blocks {
             (λ copy. copy ≡ (slot_at self.old.slots id.block id.slot).current) }
         ensures ok { OnOk result
             (self.new ≡ record_changed id.block id.slot confirmed_slot self.old) }
-        ensures pending { OnOk result (IsOk (pending_copy id.block id.slot version self.old.slots)) }
+        ensures pending { OnOk result
+            (IsOk (pending_copy id.block id.slot version self.old.slots)) }
         ensures error { IfErr result
             (λ error. pending_copy id.block id.slot version self.old.slots ≡ Err error) }
         ensures err { OnErr result (self.new ≡ self.old) }

@@ -108,9 +108,8 @@ pub struct Numbered {
 }
 
 impl Key<EntryRow> for Numbered {
-    ghost use Rattle.std.specs.Cmp.{nat_cmp_total};
     ghost use Rattle.qfs_blocks.specs.Entries.{entry_order};
-    ghost use Rattle.qfs_table.specs.KeyLaws.{whole_falls};
+    ghost use Rattle.qfs_blocks.specs.KeyLaws.{number_falls};
 
     ghost order = { λ key. entry_order key.number };
 
@@ -118,14 +117,13 @@ impl Key<EntryRow> for Numbered {
         self.number.cmp(&row.entry().condemned.number)
     }
 
-    ghost falls = { λ key a b. whole_falls nat_cmp_total key.number a.condemned.number b.condemned.number };
+    ghost falls = { λ key. number_falls key.number };
 }
 
 impl WholeKey<EntryRow> for Numbered {
-    ghost use Rattle.std.specs.Cmp.{nat_cmp_total};
-    ghost use Rattle.qfs_table.specs.KeyLaws.{whole_alone};
+    ghost use Rattle.qfs_blocks.specs.KeyLaws.{number_alone};
 
-    ghost alone = { λ key a b. whole_alone nat_cmp_total key.number a.condemned.number b.condemned.number };
+    ghost alone = { λ key. number_alone key.number };
 }
 
 /// The condemned copies above a number.

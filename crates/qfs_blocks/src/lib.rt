@@ -1,5 +1,5 @@
-//! The slots of blocks and the condemned copies, over sorted tables. Reading calls say what a change
-//! would meet; the changes take room that was reserved, and can't fail.
+//! The slots of blocks and the condemned copies, over sorted tables. Reading calls say what a
+//! change would meet; the changes take room that was reserved, and can't fail.
 #![tactic(auto)]
 
 mod blocks;

@@ -1,6 +1,5 @@
 //! Slot records and condemned copies as lists, and back.
 ghost use Rattle.std.specs.Prelude.{◌≡◌, ◌<◌, IfOk};
-ghost use Rattle.qfs_base.specs.declared.image.CondemnedEntry.{CondemnedEntry};
 ghost use Rattle.qfs_base.specs.Table.{Each, IsRising};
 ghost use Rattle.qfs_model_meta.specs.Slots.{slot_cmp};
 ghost use Rattle.qfs_blocks.specs.Entries.{entry_cmp};
@@ -68,7 +67,7 @@ impl Blocks {
     ) -> Result<Blocks, AllocError>
         requires slots { IsRising slot_cmp records }
         requires condemned { IsRising entry_cmp condemned }
-        requires numbers { Each (λ (entry : CondemnedEntry). entry.condemned.number < next) condemned }
+        requires numbers { Each (λ entry. entry.condemned.number < next) condemned }
         ensures slots { IfOk result (λ it. it.slots ≡ records) }
         ensures condemned { IfOk result (λ it. it.condemned ≡ condemned) }
         ensures next { IfOk result (λ it. it.next ≡ next) }

@@ -13,7 +13,8 @@ invariant_of-self c =
     let rows = c.self.inside.table.rows in
     let entry = c.args.entry in
     let seen = ap (λ (it : CondemnedEntries). it.next) c.self.view_is in
-    let high : c.self.inside.next ≤ entry.condemned.number = omega (arith, seen, c.requires.number) in
+    let high : c.self.inside.next ≤ entry.condemned.number =
+    omega (arith, seen, c.requires.number) in
     let placed = c.insert-2.ensures.rows ∙ ap (λ entry. place entry_cmp entry rows) c.new.ensures in
     let last = placed ∙ put_last entry c.self.inside.next rows c.self.invariant.numbers high in
     entries_put c.self.invariant c.insert-2.new.self c.insert.new.self entry high c.requires.last
@@ -33,7 +34,8 @@ returns-clause-entries c =
     let rows = c.self.inside.table.rows in
     let entry = c.args.entry in
     let seen = ap (λ (it : CondemnedEntries). it.next) c.self.view_is in
-    let high : c.self.inside.next ≤ entry.condemned.number = omega (arith, seen, c.requires.number) in
+    let high : c.self.inside.next ≤ entry.condemned.number =
+    omega (arith, seen, c.requires.number) in
     c.insert-2.ensures.rows ∙ ap (λ entry. place entry_cmp entry rows) c.new.ensures
     ∙ put_last entry c.self.inside.next rows c.self.invariant.numbers high
     ∙ ap (λ (it : CondemnedEntries). it.entries ++ entry ∷ []) c.self.view_is
@@ -43,7 +45,8 @@ returns-clause-spare c =
     let rows = c.self.inside.table.rows in
     let entry = c.args.entry in
     let seen = ap (λ (it : CondemnedEntries). it.next) c.self.view_is in
-    let high : c.self.inside.next ≤ entry.condemned.number = omega (arith, seen, c.requires.number) in
+    let high : c.self.inside.next ≤ entry.condemned.number =
+    omega (arith, seen, c.requires.number) in
     let last = c.insert-2.ensures.rows ∙ ap (λ entry. place entry_cmp entry rows) c.new.ensures
     ∙ put_last entry c.self.inside.next rows c.self.invariant.numbers high in
     omega (

@@ -5,7 +5,8 @@ use Rattle.qfs_base.specs.declared.image.SlotRecord.{SlotRecord}
 use Rattle.qfs_base.specs.Table.{IsRising, place}
 use Rattle.qfs_laws_slots.specs.Slots.{row_of, slot_cmp_total}
 use Rattle.qfs_laws_tables.specs.InOrder.{place_rises}
-use Rattle.qfs_model_meta.specs.Slots.{change_state, granted_slot, is_slot, slot_at, slot_cmp, with_slot}
+use Rattle.qfs_model_meta.specs.Slots.{change_state, granted_slot, is_slot, slot_at, slot_cmp}
+use Rattle.qfs_model_meta.specs.Slots.{with_slot}
 use Rattle.qfs_blocks.specs.BlockTables.{SlotRecords}
 use Rattle.qfs_blocks.specs.Records.{is_of}
 use Rattle.qfs_blocks.proofs.RecordLaws.{granted_found, unknown_slot}

@@ -16,4 +16,5 @@ returns-clause-found c =
 
 pub returns-clause-rising : goal.returns-clause-rising
 returns-clause-rising c =
-    subst (λ (it : SlotRecords). IsRising slot_cmp it.slots) c.self.view_is c.self.invariant.in_order
+    subst (λ (it : SlotRecords). IsRising slot_cmp it.slots) c.self.view_is
+    c.self.invariant.in_order

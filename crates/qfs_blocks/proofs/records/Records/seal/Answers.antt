@@ -3,7 +3,8 @@ use Rattle.std.proofs.Common.{ap, sym, subst, ◌∙◌}
 use Rattle.qfs_base.specs.Table.{IsRising, has_key}
 use Rattle.qfs_laws_slots.specs.Slots.{slot_cmp_total}
 use Rattle.qfs_laws_tables.specs.InOrder.{change_rises}
-use Rattle.qfs_model_meta.specs.Slots.{change_state, file_order, is_of_file, seal_file, sealed_slot, slot_cmp}
+use Rattle.qfs_model_meta.specs.Slots.{change_state, file_order, is_of_file, seal_file, sealed_slot}
+use Rattle.qfs_model_meta.specs.Slots.{slot_cmp}
 use Rattle.qfs_blocks.specs.BlockTables.{SlotRecords}
 use Rattle.qfs_blocks.specs.KeyLaws.{change_keeps}
 use Rattle.qfs_blocks.proofs.RowLaws.{keeps_behind}
