@@ -1,10 +1,12 @@
 -- Slot records that are found, granted and changed. For the calls of `Records`.
 use Rattle.std.proofs.Common.{◌≡◌, ◌∙◌, ap, sym, refl, subst, ℕ, Bool, true, false, true≢false}
-use Rattle.std.proofs.Common.{◌&&◌, List, find, filter, Option, Some, None}
+use Rattle.std.proofs.Common.{◌&&◌, ◌+◌, [], ◌∷◌, cond, flat_map, arith, List, find, filter, Option, Some, None}
+use Rattle.std.proofs.lemmas.List.Sums.{sum_by-append}
 use Rattle.std.specs.List.{list_any}
-use Rattle.std.specs.Option.{is_some, option_map}
+use Rattle.std.specs.Option.{is_some, option_map, option_to_list}
 use Rattle.std.specs.Prelude.{unwrap_or}
 use Rattle.qfs_base.specs.declared.chunk.BlockId.{BlockId}
+use Rattle.qfs_base.specs.declared.chunk.Copy.{Copy}
 use Rattle.qfs_base.specs.declared.image.SlotRecord.{SlotRecord}
 use Rattle.qfs_base.specs.declared.image.SlotRow.{SlotRow}
 use Rattle.qfs_base.specs.declared.request.SlotId.{SlotId}
@@ -14,7 +16,8 @@ use Rattle.qfs_laws_slots.specs.Slots.{is_slot-is, row_of, rows-found, slot_cmp_
 use Rattle.qfs_laws_tables.specs.SomeRow.{some-any}
 use Rattle.qfs_model_meta.specs.Slots.{change_state, is_slot, never_granted, slot_at, slot_cmp}
 use Rattle.qfs_model_meta.specs.Slots.{with_slot}
-use Rattle.qfs_blocks.specs.Records.{after_order, has_current_on, is_after, is_next_on, is_of}
+use Rattle.qfs_blocks.specs.Records.{after_order, has_current_on, is_after, is_next_on, is_of, one_on}
+use Rattle.qfs_model_meta.specs.Slots.{count_on, granted_copy, is_on}
 use Rattle.qfs_blocks.proofs.RowLaws.{find_alike, find_kept, key_passes, placed_changed}
 
 -- a grant of a slot that has a record
@@ -64,3 +67,22 @@ found_on server life after slots =
     find_kept (has_current_on server life) (has_key (after_order after)) slots
     ∙ find_alike _ (is_next_on server life after)
     (λ row. ap (λ b. b && has_current_on server life row) (key_passes (is_after after row))) slots
+
+-- the copies of the first of some rows count, and then those of the others
+pub counted_first : (server life : ℕ) (row : SlotRow) (rows : List SlotRow)
+    → count_on server life (row ∷ rows)
+    ≡ one_on server life row.state.current + one_on server life (granted_copy row.state.grant)
+    + count_on server life rows
+unfolding count_on
+counted_first server life row rows =
+    let on = is_on server life in
+    let current = λ (row : SlotRow). option_to_list row.state.current in
+    let granted = λ (row : SlotRow). option_to_list (granted_copy row.state.grant) in
+    let one = λ (copy : Copy). cond (on copy) 1 0 in
+    let first = sum_by-append one (current row) (flat_map current rows) in
+    let second = sum_by-append one (granted row) (flat_map granted rows) in
+    omega (arith, first, second)
+
+pub counted_none : (server life : ℕ) → count_on server life [] ≡ 0
+unfolding count_on
+counted_none server life = refl

@@ -1,9 +1,10 @@
 -- The records of slots as a table has them.
-use Rattle.std.specs.Prelude.{◌≡◌, ◌≤◌, ℕ, Bool, ◌&&◌, cond, List, find, Option, None}
+use Rattle.std.specs.Prelude.{◌≡◌, ◌≤◌, ℕ, Bool, ◌&&◌, cond, count_by, List, find, Option, None}
 use Rattle.std.specs.List.{list_any}
 use Rattle.std.specs.Option.{option_to_list}
 use Rattle.std.specs.declared.cmp.Ordering.{Ordering}
 use Rattle.std.specs.declared.cmp.Ordering.TheVariants.{Equal, Greater}
+use Rattle.qfs_base.specs.declared.chunk.Copy.{Copy}
 use Rattle.qfs_base.specs.declared.image.SlotRow.{SlotRow}
 use Rattle.qfs_base.specs.declared.request.SlotId.{SlotId}
 use Rattle.qfs_base.specs.Table.{IsRising}
@@ -25,6 +26,10 @@ after_order after row = cond (is_after after row) Equal Greater
 -- whether a row's current copy is on a server in a life
 abbrev pub has_current_on : ℕ → ℕ → SlotRow → Bool
 has_current_on server life row = list_any (is_on server life) (option_to_list row.state.current)
+
+-- one where there is a copy and it is on a server in a life, or else nothing
+abbrev pub one_on : ℕ → ℕ → Option Copy → ℕ
+one_on server life copy = count_by (is_on server life) (option_to_list copy)
 
 -- whether a row comes behind a slot, with its current copy on a server in a life
 abbrev pub is_next_on : ℕ → ℕ → Option SlotId → SlotRow → Bool

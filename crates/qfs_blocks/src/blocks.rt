@@ -1,8 +1,9 @@
 //! The slots of blocks, and the condemned copies.
-ghost use Rattle.std.specs.Prelude.{◌≡◌, ◌≤◌, ◌+◌, [], find, max, IsOk, OnOk, OnErr};
+ghost use Rattle.std.specs.Prelude.{◌≡◌, ◌≤◌, ◌+◌, [], find, max, min, IsOk, OnOk, OnErr};
 ghost use Rattle.std.specs.Option.{option_copied, option_map};
 ghost use Rattle.qfs_base.specs.declared.image.SlotRow.{SlotRow};
-ghost use Rattle.qfs_model_meta.specs.Slots.{is_slot, slot_at, slot_id};
+ghost use Rattle.qfs_base.specs.Sizes.{LAST_U32};
+ghost use Rattle.qfs_model_meta.specs.Slots.{count_on, is_slot, slot_at, slot_id};
 ghost use Rattle.qfs_blocks.specs.Entries.{condemned_of, next_entry};
 ghost use Rattle.qfs_blocks.specs.Records.{is_after, is_next_on};
 
@@ -104,6 +105,14 @@ impl Blocks {
             ≡ option_map slot_id (find (is_next_on server life after) self.now.slots) }
     {
         self.records.next_on(server, life, after)
+    }
+
+    /// How many current copies and grants are on a server in a life, where more than the last value
+    /// of 32 bits count as that. Each slot is passed once.
+    pub fn count_on(&self, server: ServerId, life: Life) -> u32
+        ensures { result ≡ min (count_on server life self.now.slots) LAST_U32 }
+    {
+        self.records.count_on(server, life)
     }
 
     /// The number that the next condemned copy gets.

@@ -1,17 +1,18 @@
 //! The records of slots, in their order.
-ghost use Rattle.std.specs.Prelude.{◌≡◌, ◌≤◌, ◌+◌, [], find, length, max, IsOk, IfOk, OnOk, OnErr};
+ghost use Rattle.std.specs.Prelude.{◌≡◌, ◌≤◌, ◌+◌, [], find, length, max, min, IsOk, IfOk, OnOk, OnErr};
 ghost use Rattle.std.specs.Option.{option_copied, option_map, is_some};
 ghost use Rattle.std.specs.List.{list_any};
 ghost use Rattle.qfs_base.specs.declared.image.SlotRow.{SlotRow};
+ghost use Rattle.qfs_base.specs.Sizes.{LAST_U32};
 ghost use Rattle.qfs_base.specs.Table.{IsRising, change_where};
-ghost use Rattle.qfs_model_meta.specs.Slots.{forget_file, granted_slot, is_of_block, seal_file, slot_at, slot_cmp, slot_id, with_slot};
+ghost use Rattle.qfs_model_meta.specs.Slots.{count_on, forget_file, granted_slot, is_of_block, seal_file, slot_at, slot_cmp, slot_id, with_slot};
 ghost use Rattle.qfs_blocks.specs.Records.{is_after, is_next_on, is_of, HasPlace};
 
 use crate::change::{GrantTo, Seal};
 use crate::key::{After, OfBlock, OfFile, OfSlot};
 use crate::lists::{record_list, record_rows};
 use crate::row::RecordRow;
-use crate::scan::{first_on, id_of};
+use crate::scan::{count_on, first_on, id_of};
 use crate::state::{NewGrant, granted, never_granted};
 use qfs_base::chunk::BlockId;
 use qfs_base::image::{RecordList, SlotRecord, SlotRow};
@@ -132,6 +133,13 @@ impl Records {
             ≡ option_map slot_id (find (is_next_on server life after) self.now.slots) }
     {
         first_on(self.table.run(&After { after }), server, life)
+    }
+
+    /// How many current copies and grants are on a server in a life. Each slot is passed once.
+    pub fn count_on(&self, server: ServerId, life: Life) -> u32
+        ensures { result ≡ min (count_on server life self.now.slots) LAST_U32 }
+    {
+        count_on(self.table.iter(), server, life)
     }
 
     /// Gives a slot a grant. A first record takes one from the room that is there.

@@ -1,12 +1,15 @@
 //! Searches over the rows of a table, which pass each row once.
-ghost use Rattle.std.specs.Prelude.{◌≡◌, find};
+ghost use Rattle.std.specs.Prelude.{◌≡◌, ◌≤◌, find, min};
 ghost use Rattle.std.specs.Option.{option_map};
-ghost use Rattle.qfs_model_meta.specs.Slots.{slot_id};
+ghost use Rattle.qfs_base.specs.Sizes.{LAST_U32};
+ghost use Rattle.qfs_model_meta.specs.Slots.{count_on, slot_id};
 ghost use Rattle.qfs_blocks.specs.Entries.{condemned_of, entry_may_go};
-ghost use Rattle.qfs_blocks.specs.Records.{has_current_on};
+ghost use Rattle.qfs_blocks.specs.Records.{has_current_on, one_on};
 
 use crate::row::{EntryRow, RecordRow};
 use crate::servers::is_listed;
+use crate::state::granted_copy;
+use qfs_base::chunk::Copy as ChunkCopy;
 use qfs_base::image::{CondemnedEntry, Servers};
 use qfs_base::numbers::{Life, ServerId};
 use qfs_base::reply::Condemned;
@@ -46,6 +49,32 @@ pub fn first_on(rows: Run<'_, RecordRow>, server: ServerId, life: Life) -> Optio
         }
     }
     None
+}
+
+/// One where there is a copy and it is on a server in a life, or else nothing.
+fn one_on(copy: Option<ChunkCopy>, server: ServerId, life: Life) -> u32
+    ensures one { result ≡ one_on server life copy }
+    ensures few { result ≤ 1 }
+{
+    match copy {
+        Some(copy) if copy.server == server && copy.life == life => 1,
+        _ => 0,
+    }
+}
+
+/// How many current copies and grants of these slots are on a server in a life. More than the last
+/// value of 32 bits count as that.
+pub fn count_on(rows: Run<'_, RecordRow>, server: ServerId, life: Life) -> u32
+    ensures { result ≡ min (count_on server life rows.entry) LAST_U32 }
+{
+    let mut count: u32 = 0;
+    for row in rows {
+        let state = row.state();
+        let current = one_on(state.current, server, life);
+        let granted = one_on(granted_copy(state.grant), server, life);
+        count = count.saturating_add(current + granted);
+    }
+    count
 }
 
 /// Whether a condemned copy may be ordered deleted.

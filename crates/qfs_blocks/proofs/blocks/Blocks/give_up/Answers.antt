@@ -1,9 +1,9 @@
 -- What the check leaves to show of `blocks::Blocks::give_up`.
-use Rattle.std.proofs.Common.{ap, sym, ◌∙◌, Some}
+use Rattle.std.proofs.Common.{ap, sym, ◌∙◌}
 use Rattle.qfs_base.specs.declared.image.SlotRecord.{SlotRecord}
-use Rattle.qfs_model_meta.specs.Slots.{change_slot, confirmed_slot, emptied_slot, failed_slot}
-use Rattle.qfs_model_meta.specs.Slots.{granted_copy, slot_at, ungranted_slot}
-use Rattle.qfs_blocks.specs.BlockTables.{copy_condemned, grant_failed, grant_given_up}
+use Rattle.qfs_model_meta.specs.Slots.{change_slot}
+use Rattle.qfs_model_meta.specs.Slots.{ungranted_slot}
+use Rattle.qfs_blocks.specs.BlockTables.{grant_given_up}
 use Rattle.qfs_blocks.specs.BlockTables.{record_changed}
 use Rattle.qfs_blocks.proofs.blocks.Blocks.give_up.Goals as goal
 

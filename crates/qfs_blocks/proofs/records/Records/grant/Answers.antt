@@ -1,11 +1,9 @@
 -- What the check leaves to show of `records::Records::grant`.
-use Rattle.std.proofs.Common.{ap, arith, find, length, sym, subst, ◌∙◌}
-use Rattle.std.specs.Option.{is_some}
-use Rattle.qfs_base.specs.declared.image.SlotRecord.{SlotRecord}
+use Rattle.std.proofs.Common.{ap, arith, length, sym, subst, ◌∙◌}
 use Rattle.qfs_base.specs.Table.{IsRising, place}
 use Rattle.qfs_laws_slots.specs.Slots.{row_of, slot_cmp_total}
 use Rattle.qfs_laws_tables.specs.InOrder.{place_rises}
-use Rattle.qfs_model_meta.specs.Slots.{change_state, granted_slot, is_slot, slot_at, slot_cmp}
+use Rattle.qfs_model_meta.specs.Slots.{change_state, granted_slot, slot_at, slot_cmp}
 use Rattle.qfs_model_meta.specs.Slots.{with_slot}
 use Rattle.qfs_blocks.specs.BlockTables.{SlotRecords}
 use Rattle.qfs_blocks.specs.Records.{is_of}
