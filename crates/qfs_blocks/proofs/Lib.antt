@@ -1,0 +1,6 @@
+pub mod EntryLaws
+pub mod IndexLaws
+pub mod RecordLaws
+pub mod RowLaws
+pub mod ServerLaws
+pub mod TableLaws
