@@ -51,7 +51,7 @@ fn push_range(out: &mut Vec<u8>, range: Option<Range>) -> Result<(), AllocError>
 }
 
 /// Appends a line of a first word alone.
-fn push_bare(out: &mut Vec<u8>, word: &[u8]) -> Result<(), AllocError>
+pub fn push_bare(out: &mut Vec<u8>, word: &[u8]) -> Result<(), AllocError>
     ensures { OnOk result (out.new.items ≡ out.old.items ++ line word.now []) }
 {
     out.extend_from_slice(word)?;
@@ -59,7 +59,7 @@ fn push_bare(out: &mut Vec<u8>, word: &[u8]) -> Result<(), AllocError>
 }
 
 /// Appends a line of a first word and a number.
-fn push_numbered(out: &mut Vec<u8>, word: &[u8], number: u32) -> Result<(), AllocError>
+pub fn push_numbered(out: &mut Vec<u8>, word: &[u8], number: u32) -> Result<(), AllocError>
     ensures { OnOk result (out.new.items ≡ out.old.items ++ line word.now (decimal number ∷ [])) }
 {
     out.extend_from_slice(word)?;
@@ -68,7 +68,7 @@ fn push_numbered(out: &mut Vec<u8>, word: &[u8], number: u32) -> Result<(), Allo
 }
 
 /// Appends a line of a first word and two numbers.
-fn push_pair(out: &mut Vec<u8>, word: &[u8], first: u32, second: u32) -> Result<(), AllocError>
+pub fn push_pair(out: &mut Vec<u8>, word: &[u8], first: u32, second: u32) -> Result<(), AllocError>
     ensures { OnOk result (out.new.items
         ≡ out.old.items ++ line word.now (decimal first ∷ decimal second ∷ [])) }
 {
