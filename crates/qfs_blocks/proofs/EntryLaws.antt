@@ -1,5 +1,5 @@
 -- Condemned copies that are found, put and swept. For the calls of `Entries`.
-use Rattle.std.proofs.Common.{◌≡◌, ◌<◌, ◌≤◌, ◌+◌, ◌∙◌, ap, sym, refl, arith, ℕ, nat_lt, Bool, true}
+use Rattle.std.proofs.Common.{◌≡◌, ◌<◌, ◌≤◌, ◌+◌, ◌∙◌, ap, sym, refl, arith, ℕ, nat_lt, true}
 use Rattle.std.proofs.Common.{false, true≢false, ◌&&◌, List, [], ◌∷◌, ◌++◌, find, filter, Option}
 use Rattle.std.proofs.Common.{Some, None}
 use Rattle.std.proofs.lemmas.Cmp.{nat_cmp_total, on_total, ranked}

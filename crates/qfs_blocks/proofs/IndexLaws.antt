@@ -1,9 +1,9 @@
 -- The index of condemned copies after one was condemned or taken off, and what a look into it
 -- tells. For the calls of `Entries`.
 use Rattle.std.proofs.Common.{◌≡◌, ◌<◌, ◌∙◌, ap, sym, refl, arith, ℕ, nat_le, ◌==◌}
-use Rattle.std.proofs.Common.{Bool, true, false, true≢false, not, ◌&&◌, ◌||◌, cond, List, [], ◌∷◌}
+use Rattle.std.proofs.Common.{Bool, true, false, true≢false, not, ◌&&◌, ◌||◌, List, [], ◌∷◌}
 use Rattle.std.proofs.Common.{◌++◌}
-use Rattle.std.proofs.Common.{find, filter, Some, None}
+use Rattle.std.proofs.Common.{find, Some, None}
 use Rattle.std.proofs.lemmas.Bool.{and_parts}
 use Rattle.std.proofs.lemmas.Bool.Decides.{nat_tests}
 use Rattle.std.proofs.lemmas.Cmp.{ranked, tied_itself, nat_cmp_total}
@@ -18,16 +18,15 @@ use Rattle.qfs_base.specs.declared.chunk.BlockId.{BlockId}
 use Rattle.qfs_base.specs.declared.chunk.Copy.{Copy}
 use Rattle.qfs_base.specs.declared.image.CondemnedEntry.{CondemnedEntry}
 use Rattle.qfs_base.specs.EachLaws.{each_weaker}
-use Rattle.qfs_base.specs.Key.{block_cmp}
 use Rattle.qfs_base.specs.Table.{Each, IsRising, has_key, place, without}
 use Rattle.qfs_laws_tables.specs.EachRow.{each_of_all, found_has}
-use Rattle.qfs_laws_tables.specs.Keys.{equal-is, key-is}
+use Rattle.qfs_laws_tables.specs.Keys.{key-is}
 use Rattle.qfs_laws_tables.specs.Placed.{Apart, any-placed}
 use Rattle.qfs_laws_tables.specs.SomeRow.{any_of_append, found-any, none_any, some-any}
 use Rattle.qfs_model_meta.specs.Slots.{same_block, same_copy}
 use Rattle.qfs_blocks.specs.declared.index.CopyRow.{CopyRow}
 use Rattle.qfs_blocks.specs.CopyIndex.{IsCopyIndex, copy_cmp, copy_key, copy_row, copy_total}
-use Rattle.qfs_blocks.specs.CopyIndex.{home_cmp, place_cmp, server_order}
+use Rattle.qfs_blocks.specs.CopyIndex.{place_cmp, server_order}
 use Rattle.qfs_blocks.specs.Entries.{entry_cmp, entry_order, is_entry, is_entry_of, is_entry_on}
 use Rattle.qfs_blocks.specs.KeyLaws.{number_alone}
 use Rattle.qfs_blocks.proofs.RowLaws.{alone, any_alike, any_kept, any_none, one_there, only_one}

@@ -1,17 +1,16 @@
 -- Slot records that are found, granted and changed. For the calls of `Records`.
-use Rattle.std.proofs.Common.{◌≡◌, ◌∙◌, ap, sym, refl, subst, ℕ, Bool, true, false, true≢false}
-use Rattle.std.proofs.Common.{◌&&◌, ◌+◌, [], ◌∷◌, cond, flat_map, arith, List, find, filter, Option, Some, None}
+use Rattle.std.proofs.Common.{◌≡◌, ◌∙◌, ap, sym, refl, ℕ, true, false, true≢false}
+use Rattle.std.proofs.Common.{◌&&◌, ◌+◌, [], ◌∷◌, cond, flat_map, arith, List, find, filter}
+use Rattle.std.proofs.Common.{Option, Some, None}
 use Rattle.std.proofs.lemmas.List.Sums.{sum_by-append}
-use Rattle.std.specs.List.{list_any}
 use Rattle.std.specs.Option.{is_some, option_map, option_to_list}
 use Rattle.std.specs.Prelude.{unwrap_or}
-use Rattle.qfs_base.specs.declared.chunk.BlockId.{BlockId}
 use Rattle.qfs_base.specs.declared.chunk.Copy.{Copy}
 use Rattle.qfs_base.specs.declared.image.SlotRecord.{SlotRecord}
 use Rattle.qfs_base.specs.declared.image.SlotRow.{SlotRow}
 use Rattle.qfs_base.specs.declared.request.SlotId.{SlotId}
 use Rattle.qfs_base.specs.EachLaws.{each_weaker}
-use Rattle.qfs_base.specs.Table.{Each, IsRising, change_where, has_key}
+use Rattle.qfs_base.specs.Table.{IsRising, change_where, has_key}
 use Rattle.qfs_laws_slots.specs.Slots.{is_slot-is, row_of, rows-found, slot_cmp_total}
 use Rattle.qfs_laws_tables.specs.SomeRow.{some-any}
 use Rattle.qfs_model_meta.specs.Slots.{change_state, is_slot, never_granted, slot_at, slot_cmp}

@@ -2,7 +2,7 @@
 -- qfs_laws_tables.)
 use Rattle.std.proofs.Common.{◌≡◌, ◌<◌, ◌≤◌, ◌∙◌, ap, sym, refl, arith, Bor, Option, Bool, true}
 use Rattle.std.proofs.Common.{false, true≢false, not, ◌&&◌, ◌||◌, cond, List, [], ◌∷◌, ◌++◌, length}
-use Rattle.std.proofs.Common.{find, filter, Some, None, suc, ℕ}
+use Rattle.std.proofs.Common.{find, filter, Some, None, suc}
 use Rattle.std.proofs.lemmas.Bool.{and_parts}
 use Rattle.std.specs.List.{list_any}
 use Rattle.std.specs.Option.{is_some, option_copied}

@@ -1,6 +1,6 @@
 -- The tables of condemned copies after a change. For the calls of `Entries`.
-use Rattle.std.proofs.Common.{◌≡◌, ◌<◌, ◌≤◌, ◌+◌, ◌∙◌, ap, sym, subst, arith, refl, ℕ, Bool, List}
-use Rattle.std.proofs.Common.{[], ◌∷◌, ◌++◌, find, Some, None}
+use Rattle.std.proofs.Common.{◌≡◌, ◌<◌, ◌≤◌, ◌+◌, ◌∙◌, ap, sym, subst, arith, refl, ℕ, List}
+use Rattle.std.proofs.Common.{find, Some, None}
 use Rattle.std.specs.List.{list_any}
 use Rattle.qfs_base.specs.declared.image.CondemnedEntry.{CondemnedEntry}
 use Rattle.qfs_base.specs.EachLaws.{each_filter, each_weaker}

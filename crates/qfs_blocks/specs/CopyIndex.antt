@@ -12,7 +12,7 @@ use Rattle.qfs_base.specs.declared.chunk.Copy.{Copy}
 use Rattle.qfs_base.specs.declared.image.CondemnedEntry.{CondemnedEntry}
 use Rattle.qfs_base.specs.Key.{block_cmp}
 use Rattle.qfs_base.specs.KeyLaws.{block_cmp_total}
-use Rattle.qfs_table.specs.Keys.{Falls, Follows}
+use Rattle.qfs_table.specs.Keys.{Follows}
 use Rattle.qfs_table.specs.KeyLaws.{front_falls}
 use Rattle.qfs_blocks.specs.declared.index.CopyRow.{CopyRow}
 

@@ -1,8 +1,8 @@
 -- What the changes of the tables are in the metaserver's state: where its slots and condemned
 -- copies are those of the tables, each change of the tables is the definition's change of the state.
-use Rattle.std.proofs.Common.{◌≡◌, ◌∙◌, ◌<◌, ◌≤◌, ◌+◌, ap, sym, refl, subst, arith, ℕ, nat_lt, Bool}
-use Rattle.std.proofs.Common.{true, false, not, ◌==◌, ◌&&◌, ◌||◌, cond, List, [], ◌∷◌, ◌++◌, map}
-use Rattle.std.proofs.Common.{filter, find, Option, Some, None}
+use Rattle.std.proofs.Common.{◌≡◌, ◌∙◌, ◌<◌, ◌+◌, ap, refl, arith, ℕ, nat_lt, Bool}
+use Rattle.std.proofs.Common.{true, false, not, ◌==◌, ◌&&◌, cond, List, [], ◌∷◌, ◌++◌, map}
+use Rattle.std.proofs.Common.{filter, Option, Some, None}
 use Rattle.std.proofs.lemmas.Bool.Decides.{nat_tests}
 use Rattle.qfs_base.specs.declared.chunk.BlockId.{BlockId}
 use Rattle.qfs_base.specs.declared.chunk.Copy.{Copy}
@@ -12,15 +12,14 @@ use Rattle.qfs_base.specs.declared.image.Grant.{Grant}
 use Rattle.qfs_base.specs.declared.image.Lease.{Lease}
 use Rattle.qfs_base.specs.declared.image.MetaImage.{MetaImage}
 use Rattle.qfs_base.specs.declared.image.SlotRecord.{SlotRecord}
-use Rattle.qfs_base.specs.Table.{Each, change_where, without}
-use Rattle.qfs_laws_slots.specs.RowKeys.{is_lease-is}
+use Rattle.qfs_base.specs.Table.{Each}
 use Rattle.qfs_laws_tables.specs.EachRow.{each_of_all}
 use Rattle.qfs_laws_tables.specs.Placed.{map-changed, map-filter}
 use Rattle.qfs_model_meta.specs.Apply.{confirm_slot, empty_slot, fail_grant, give_up, change_record}
 use Rattle.qfs_model_meta.specs.Apply.{with_slots}
 use Rattle.qfs_model_meta.specs.Condemned.{condemn, condemn_any, condemned_row, is_numbered}
-use Rattle.qfs_model_meta.specs.Condemned.{list_if_live, mark_ordered, sweep, unblock, unblock_all}
-use Rattle.qfs_model_meta.specs.Leases.{end_lease, give_lease, is_lease, leases_on}
+use Rattle.qfs_model_meta.specs.Condemned.{list_if_live, mark_ordered, sweep}
+use Rattle.qfs_model_meta.specs.Leases.{leases_on}
 use Rattle.qfs_model_meta.specs.Servers.{is_live}
 use Rattle.qfs_model_meta.specs.Slots.{confirmed_slot, emptied_slot, failed_slot, granted_copy}
 use Rattle.qfs_model_meta.specs.Slots.{ungranted_slot}

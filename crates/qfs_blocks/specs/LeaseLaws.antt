@@ -1,6 +1,6 @@
 -- Condemned copies and leases: which leases block a copy after one was given or ended, and what a
 -- copy that was found on a server does to the state.
-use Rattle.std.proofs.Common.{◌≡◌, ◌∙◌, ◌≤◌, ap, sym, refl, arith, ℕ, nat_lt, Bool, true, false}
+use Rattle.std.proofs.Common.{◌≡◌, ◌∙◌, ◌≤◌, ap, refl, arith, ℕ, nat_lt, Bool, true, false}
 use Rattle.std.proofs.Common.{not, ◌==◌, ◌||◌, cond, List, [], ◌∷◌, ◌++◌, map, filter, Some}
 use Rattle.std.proofs.lemmas.Bool.Decides.{nat_tests}
 use Rattle.std.specs.List.{list_any}

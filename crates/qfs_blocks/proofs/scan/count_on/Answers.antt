@@ -1,5 +1,5 @@
 -- What the check leaves to show of `scan::count_on`.
-use Rattle.std.proofs.Common.{◌≡◌, [], ap, arith, refl, ◌∙◌}
+use Rattle.std.proofs.Common.{ap, arith, ◌∙◌}
 use Rattle.qfs_base.specs.declared.image.SlotRecord.{SlotRecord}
 use Rattle.qfs_model_meta.specs.Slots.{count_on, granted_copy}
 use Rattle.qfs_blocks.specs.Records.{one_on}
