@@ -2,17 +2,19 @@
 //! appended on want of memory.
 #![tactic(auto, unfolding(qfs_model_script::specs::ScriptText::term_word, qfs_model_script::specs::ScriptText::audit_word, qfs_model_script::specs::ScriptText::order_lines))]
 
-ghost use Rattle.std.specs.Prelude.{◌≡◌, ◌++◌, ◌∷◌, [], ◌+◌, ◌≤◌, codes, decimal, length, IfOk, OnOk, OnErr};
+ghost use Rattle.std.specs.Prelude.{◌≡◌, ◌++◌, ◌∷◌, [], ◌+◌, ◌≤◌, codes, decimal, length, drop, IfOk, OnOk, OnErr};
 ghost use Rattle.qfs_model_script.specs.InScript.{actors_of};
 ghost use Rattle.qfs_model_script.specs.Limits.{MOST_ACTORS};
 ghost use Rattle.qfs_model_script.specs.ScriptText.{term_word, audit_word, head_lines, actor_lines, phase_lines, order_lines, script_text};
 ghost use Rattle.qfs_model_text.specs.Line.{line};
+ghost use Rattle.qfs_print.specs.ReadBack.{IsReadBack};
 ghost use Rattle.qfs_print.specs.Texts.{actors_in, text_of_lines};
 
 use crate::commands::{push_bare, push_commands, push_numbered, push_pair};
 use qfs_base::layout::Layout;
 use qfs_base::order::Order;
 use qfs_base::script::{Commands, Phase, Script};
+use qfs_laws_grammar::printed_scripts_are_read_back;
 use qfs_report::push_order;
 use std::alloc::{AllocError, Global};
 
@@ -130,13 +132,8 @@ fn text_of(alloc: Global, script: &Script) -> Result<Vec<u8>, AllocError>
     Ok(text)
 }
 
-/// Appends the text of a script of at most 64 actors to `out`: the lines of its head, of its phases
-/// with their actors and commands, and of its order where one is given. There is one blank between
-/// two words, and there are no empty lines and no remarks. Numbers are decimal and without leading
-/// zeros, bytes are told by two small digits each, and the order is told by the longest runs of
-/// equal steps. Time and memory grow with the bytes of the text. On want of memory `out` stays as
-/// it was.
-pub fn print(alloc: Global, script: &Script, out: &mut Vec<u8>) -> Result<(), AllocError>
+/// Appends the text of a script. On want of memory `out` stays as it was.
+fn push_text(alloc: Global, script: &Script, out: &mut Vec<u8>) -> Result<(), AllocError>
     requires few { length (actors_of script.now) ≤ MOST_ACTORS }
     ensures ok { OnOk result (out.new.items ≡ out.old.items ++ script_text script.now) }
     ensures err { OnErr result (out.new.items ≡ out.old.items) }
@@ -147,4 +144,24 @@ pub fn print(alloc: Global, script: &Script, out: &mut Vec<u8>) -> Result<(), Al
         return Ok(());
     }
     out.append(&mut text)
+}
+
+/// Appends the text of a script of at most 64 actors to `out`: the lines of its head, of its phases
+/// with their actors and commands, and of its order where one is given. There is one blank between
+/// two words, and there are no empty lines and no remarks. Numbers are decimal and without leading
+/// zeros, bytes are told by two small digits each, and the order is told by the longest runs of
+/// equal steps. Time and memory grow with the bytes of the text. On want of memory `out` stays as
+/// it was.
+///
+/// What was appended is read back to the same script, if this keeps all ranges and limits and its
+/// text is no longer than a text may be; for a replay too, if it has an order.
+pub fn print(alloc: Global, script: &Script, out: &mut Vec<u8>) -> Result<(), AllocError>
+    requires few { length (actors_of script.now) ≤ MOST_ACTORS }
+    ensures ok { OnOk result (out.new.items ≡ out.old.items ++ script_text script.now) }
+    ensures read_back { OnOk result
+        (IsReadBack script.now (drop (length out.old.items) out.new.items)) }
+    ensures err { OnErr result (out.new.items ≡ out.old.items) }
+{
+    printed_scripts_are_read_back();
+    push_text(alloc, script, out)
 }
