@@ -31,11 +31,9 @@ pub fn path(alloc: Global, text: &[u8]) -> Result<Path, Fail> {
 
 /// Bytes that are shown as they are.
 pub fn whole(alloc: Global, bytes: &[u8]) -> Result<Excerpt, Fail> {
-    let shown = Listing::from_slice(alloc, bytes)?;
-    Ok(Excerpt {
-        len: bytes.len() as u32,
-        shown: Shown::Whole(shown),
-    })
+    let len = u32::try_from(bytes.len())?;
+    let shown = Shown::Whole(Listing::from_slice(alloc, bytes)?);
+    Ok(Excerpt { len, shown })
 }
 
 /// Puts a reply of an actor's command behind the others.

@@ -66,7 +66,7 @@ fn add_turns(order: &mut Order, turns: [(u16, u32); 4]) -> Result<(), Fail> {
 
 /// A put, and a get of its bytes.
 fn add_put_and_get(alloc: Global, replies: &mut ReplyList, bytes: &[u8]) -> Result<(), Fail> {
-    let len = bytes.len() as u32;
+    let len = u32::try_from(bytes.len())?;
     add_reply(replies, 1, 1, Reply::Stored { place: 1, len })?;
     let read = whole(alloc, bytes)?;
     add_reply(replies, 1, 2, Reply::Read { place: 2, read })
