@@ -1,16 +1,14 @@
 -- What is found of the joined tree: by a path, and by a file's number.
-use Rattle.std.proofs.Common.{Bool, Bor, List, None, Option, Some, [], ap, arith, cond, false, filter, find, is_some, map, not, refl, subst, suc, sym, true, true≢false, unwrap_or, zero, ℕ, ◌==◌, ◌||◌, ◌&&◌, ◌<◌, ◌^◌, ◌∙◌, ◌∷◌, ◌≡◌, ◌≢◌}
+use Rattle.std.proofs.Common.{Bool, Bor, List, None, Option, Some, [], ap, arith, cond, false, find, is_some, map, refl, subst, suc, sym, true, true≢false, unwrap_or, zero, ℕ, ◌==◌, ◌||◌, ◌&&◌, ◌<◌, ◌^◌, ◌∙◌, ◌∷◌, ◌≡◌, ◌≢◌}
 use Rattle.std.proofs.lemmas.Bool.{and_from, and_parts, eq-eqb, eqb-true, or_left}
 use Rattle.std.proofs.lemmas.Bool.Decides.{nat_tests}
 use Rattle.std.specs.List.{list_any}
 use Rattle.std.specs.Option.{option_copied, option_map}
-use Rattle.std.specs.Ordering.{is_eq, nat_cmp}
-use Rattle.std.specs.Prelude.{IsSome, IsTrue}
+use Rattle.std.specs.Prelude.{IsSome}
 use Rattle.qfs_base.specs.NameTree.{PathNames, look_refusal, stands_at}
-use Rattle.qfs_base.specs.Table.{Each, has_key}
 use Rattle.qfs_base.specs.declared.image.TreeRow.{TreeRow}
 use Rattle.qfs_base.specs.declared.lists.NameKind.TheVariants as Is
-use Rattle.qfs_laws_tables.specs.EachRow.{each_of_all, found_has, none_found}
+use Rattle.qfs_laws_tables.specs.EachRow.{each_of_all, found_has}
 use Rattle.qfs_laws_tables.specs.Keys.{key-is}
 use Rattle.qfs_laws_tables.specs.SomeRow.{found-any, some-any}
 use Rattle.qfs_laws_tree.specs.Files.{closed-root, not-closed, unclosed-rows}
@@ -73,27 +71,43 @@ stands-own row some =
 closed-stands : (file : ℕ) (row : NameRow) → closed_of file row ≡ true → stands_test file (as_row row) ≡ true
 unfolding image.is_closed_row image.is_unclosed_row image.has_file
 closed-stands file row is =
-    let p = and_parts _ _ is in and_from _ _ (or_left _ _ p.0) p.1
+    let closed = image.is_closed (row_kind row) in
+    let p = and_parts closed (of_file file row) is in
+    and_from (closed || is_open row) (of_file file row) (or_left closed (is_open row) p.0) p.1
 
 open-row : (row : NameRow) → is_open row ≡ true → image.is_unclosed_row (as_row row) ≡ true
 unfolding image.is_unclosed_row
 open-row row is = is
 
--- the unclosed file of an actor among joined rows
-open-rows : (files : List FileRow) (actor file : ℕ) (rows : List NameRow)
-    → find (λ (row : TreeRow). image.is_unclosed_of actor row && image.has_file file row) (joined files rows)
+-- nothing comes of nothing
+either-none : {X Y : Type 0} (f : X → Y) (b : Bool) → cond b (option_map f None) None ≡ None
+either-none f true = refl
+either-none f false = refl
+
+-- the unclosed file of an actor is the one found among joined rows, if it is the actor's
+abbrev pub FindsOpen : List FileRow → ℕ → ℕ → List NameRow → Type 0
+FindsOpen files actor file rows =
+    find (λ (row : TreeRow). image.is_unclosed_of actor row && image.has_file file row) (joined files rows)
     ≡ cond ((known_of files file).actor == actor)
     (option_map (joined_row files) (find (is_open_of file) rows)) None
+
+open-step : (files : List FileRow) (actor file : ℕ) (row : NameRow) (rows : List NameRow)
+    → FindsOpen files actor file rows → FindsOpen files actor file (row ∷ rows)
 unfolding image.is_unclosed_of image.is_unclosed_row image.has_file
-open-rows files actor file [] = sym (both ((known_of files file).actor == actor))
-  where
-    both : (b : Bool) → cond b (option_map (joined_row files) None) None ≡ None
-    both true = refl
-    both false = refl
-open-rows files actor file (row ∷ rows) =
+open-step files actor file row rows rest =
     one (of_file file row) refl (is_open row) ((known_of files file).actor == actor) refl
   where
-    rest = open-rows files actor file rows
+    and-false : (b : Bool) → (b && false) ≡ false
+    and-false true = refl
+    and-false false = refl
+
+    last : (mine : Bool) → ((known_of files file).actor == actor) ≡ mine
+        → cond (mine && true) (Some (joined_row files row))
+        (find (λ (row : TreeRow). image.is_unclosed_of actor row && image.has_file file row) (joined files rows))
+        ≡ cond mine (Some (joined_row files row)) None
+    last true e = refl
+    last false e =
+        rest ∙ ap (λ b. cond b (option_map (joined_row files) (find (is_open_of file) rows)) None) e
 
     one : (own : Bool) → of_file file row ≡ own → (unclosed mine : Bool) → ((known_of files file).actor == actor) ≡ mine
         → cond ((unclosed && ((known_of files row.file).actor == actor)) && own) (Some (joined_row files row))
@@ -113,17 +127,11 @@ open-rows files actor file (row ∷ rows) =
         ap (λ b. cond (b && true) (Some (joined_row files row)) (find (λ (row : TreeRow). image.is_unclosed_of actor row && image.has_file file row) (joined files rows)))
         same ∙ last mine e
 
-    and-false : (b : Bool) → (b && false) ≡ false
-    and-false true = refl
-    and-false false = refl
-
-    last : (mine : Bool) → ((known_of files file).actor == actor) ≡ mine
-        → cond (mine && true) (Some (joined_row files row))
-        (find (λ (row : TreeRow). image.is_unclosed_of actor row && image.has_file file row) (joined files rows))
-        ≡ cond mine (Some (joined_row files row)) None
-    last true e = refl
-    last false e =
-        rest ∙ ap (λ b. cond b (option_map (joined_row files) (find (is_open_of file) rows)) None) e
+open-rows : (files : List FileRow) (actor file : ℕ) (rows : List NameRow)
+    → FindsOpen files actor file rows
+open-rows files actor file [] = sym (either-none (joined_row files) ((known_of files file).actor == actor))
+open-rows files actor file (row ∷ rows) =
+    open-step files actor file row rows (open-rows files actor file rows)
 
 -- unclosed files among the rows of names alone
 open-as : (file : ℕ) (rows : List NameRow)
@@ -171,6 +179,12 @@ closed-or-open file (row ∷ rows) stands none =
         → find (is_open_of file) rows ≡ None
     later true e = e
     later false e = e
+
+-- whether there is a reference to what was found
+pub seen-there : {T : Type 0} (o : Option T) (seen : Option (Bor T)) → option_copied seen ≡ o
+    → is_some seen ≡ is_some o
+seen-there o None is = ap is_some is
+seen-there o (Some at) is = ap is_some is
 
 -- what a look at a reference tells of what was found
 pub seen-none : {T : Type 0} (f : NameRow → T) (o : Option NameRow) (seen : Option (Bor T))
@@ -221,7 +235,7 @@ pub looked-number : (path : PathNames) (rows : List NameRow)
 unfolding image.row_at
 looked-number path rows looks =
     let k = kind-row (map as_row rows) path Is.Closed (closed-root (map as_row rows) path looks)
-        (look-closed (image.standing (map as_row rows)) path looks) in
+    (look-closed (image.standing (map as_row rows)) path looks) in
     subst (λ n. 0 < n) (ap (λ o. (unwrap_or o (image.directory_row [])).file) (sym k.1))
     (closed-number k.0.file k.0.closed k.3)
 
@@ -257,6 +271,16 @@ stands-joined files file rows =
     (λ file. (known_of files file).len) file rows
     ∙ sym (stands-any file (map as_row rows))
 
+-- nothing stands under the number 0
+any-some : (more : List NameRow) → list_any (stands_test 0) (map as_row more) ≡ true → 0 < 0
+any-some [] any = absurd (true≢false (sym any))
+any-some (row ∷ more) any =
+    (elim (stands_test 0 (as_row row)) as (λ b. stands_test 0 (as_row row) ≡ b
+    → (b || list_any (stands_test 0) (map as_row more)) ≡ true → 0 < 0) [
+      | true ↦ λ is _. let s = stands-some 0 (as_row row) is in omega arith
+      | false ↦ λ _ rest. any-some more rest
+    ]) refl any
+
 -- what is known of a file has its number, where the file stands or is none
 module _ (rows : List NameRow) (files : List FileRow) (next : ℕ) (h : IsTied rows files next) where
   pub known-none : (file : ℕ) → image.file_stands file (map as_row rows) ≡ false
@@ -287,15 +311,6 @@ module _ (rows : List NameRow) (files : List FileRow) (next : ℕ) (h : IsTied r
       off : (b : Bool) → image.file_stands 0 (map as_row rows) ≡ b → b ≡ false
       off true is = absurd (let s = any-some rows (sym (stands-any 0 (map as_row rows)) ∙ is) in omega arith)
       off false is = refl
-
-      any-some : (more : List NameRow) → list_any (stands_test 0) (map as_row more) ≡ true → 0 < 0
-      any-some [] any = absurd (true≢false (sym any))
-      any-some (row ∷ more) any =
-          (elim (stands_test 0 (as_row row)) as (λ b. stands_test 0 (as_row row) ≡ b
-          → (b || list_any (stands_test 0) (map as_row more)) ≡ true → 0 < 0) [
-            | true ↦ λ is _. let s = stands-some 0 (as_row row) is in omega arith
-            | false ↦ λ _ rest. any-some more rest
-          ]) refl any
 
   -- a row with what is known of its file, which has its number
   known-row : (row : NameRow) → (known_of files row.file).file ≡ row.file
@@ -370,11 +385,7 @@ module _ (rows : List NameRow) (files : List FileRow) (next : ℕ) (h : IsTied r
   unclosed-none actor file none =
       unclosed-joined actor file
       ∙ ap (λ o. cond ((known_of files file).actor == actor) (option_map (joined_row files) o) None) none
-      ∙ both ((known_of files file).actor == actor)
-    where
-      both : (b : Bool) → cond b (option_map (joined_row files) None) None ≡ None
-      both true = refl
-      both false = refl
+      ∙ either-none (joined_row files) ((known_of files file).actor == actor)
 
   -- ---- closed files
 
@@ -426,14 +437,13 @@ module _ (rows : List NameRow) (files : List FileRow) (next : ℕ) (h : IsTied r
           ≡ Some (as_row row)
       there = open-as file rows ∙ ap (option_map as_row) found
 
-      unclosed = unclosed-rows (2 ^ 32) file
-          (λ (row : TreeRow). image.is_unclosed_row row && image.has_file file row) (map as_row rows)
-          (as_row row) tree there (found-own file rows row found) (open-row row (and_parts _ _
-          (found-passes (is_open_of file) rows row found)).0)
-
       none : (o : Option NameRow) → find (closed_of file) rows ≡ o → o ≡ None
       none None e = refl
       none (Some other) e =
+          let unclosed = unclosed-rows (2 ^ 32) file
+          (λ (row : TreeRow). image.is_unclosed_row row && image.has_file file row)
+          (map as_row rows) (as_row row) tree there (found-own file rows row found)
+          (open-row row (and_parts _ _ (found-passes (is_open_of file) rows row found)).0) in
           absurd (true≢false (sym (ap is_some (closed-as file rows ∙ ap (option_map as_row) e))
           ∙ not-closed file (map as_row rows) unclosed.0))
 

@@ -1,5 +1,5 @@
 -- The rows of the name tree joined with what is known of their files.
-use Rattle.std.proofs.Common.{Bool, List, None, Some, [], ap, arith, cond, false, filter, find, map, not, refl, subst, sym, true, unwrap_or, ℕ, ◌==◌, ◌∙◌, ◌∷◌, ◌≡◌, ◌≢◌}
+use Rattle.std.proofs.Common.{List, [], ap, arith, false, map, not, refl, subst, sym, true, unwrap_or, ℕ, ◌∙◌, ◌∷◌, ◌≡◌, ◌≢◌}
 use Rattle.std.proofs.lemmas.Bool.{eqb-true}
 use Rattle.std.proofs.lemmas.Bool.Decides.{nat_tests}
 use Rattle.std.specs.Ordering.{is_eq, nat_cmp}
@@ -13,11 +13,12 @@ use Rattle.qfs_laws_tables.specs.EachRow.{each_of_all}
 use Rattle.qfs_laws_tables.specs.Keys.{key-is}
 use Rattle.qfs_laws_tables.specs.Placed.{find-apart, find-placed}
 use Rattle.qfs_model_meta.specs.TreeRows as image
+use Rattle.qfs_names.proofs.FindLaws.{find-kept}
 use Rattle.qfs_names.specs.ImageRows.{rows-added, rows-closed, rows-moved, rows-standing, rows-taken, rows-without_file}
 use Rattle.qfs_names.specs.Names.{at_path, close_file, directory_at, file_at, row_path, standing_of, take_file}
 use Rattle.qfs_names.specs.Trees.{as_row, maker_of, none_of}
 use Rattle.qfs_names.specs.declared.row.NameRow.{NameRow}
-use Rattle.qfs_namespace.specs.Joined.{file_cmp, is_of, joined, joined_row, known_of, no_file}
+use Rattle.qfs_namespace.specs.Joined.{file_cmp, is_of, joined, known_of, no_file}
 use Rattle.qfs_namespace.specs.Namespaces.{IsWritten, Namespace, name_in_row}
 use Rattle.qfs_namespace.specs.declared.file.FileRow.{FileRow}
 
@@ -66,27 +67,11 @@ known-other new files file off =
     (find-apart file_cmp (is_of file) new files (apart-key file new.file off)
     (λ row tie. apart-key file row.file (λ e. off (sym (tied new.file row.file tie) ∙ e))))
 
--- what is found among the rows that are kept, where all that it may be are kept
-pub find-kept : {X : Type 0} (test keep : X → Bool) → ((x : X) → test x ≡ true → keep x ≡ true)
-    → (xs : List X) → find test (filter keep xs) ≡ find test xs
-find-kept test keep kept [] = refl
-find-kept test keep kept (x ∷ xs) =
-    (elim (keep x) as (λ k. keep x ≡ k
-    → find test (cond k (x ∷ filter keep xs) (filter keep xs)) ≡ cond (test x) (Some x) (find test xs)) [
-      | true ↦ λ _. ap (cond (test x) (Some x)) (find-kept test keep kept xs)
-      | false ↦ λ off.
-          find-kept test keep kept xs ∙ sym (ap (λ b. cond b (Some x) (find test xs)) (fails off))
-    ]) refl
-  where
-    fails : keep x ≡ false → test x ≡ false
-    fails off = (elim (test x) as (λ b. test x ≡ b → b ≡ false)
-        [ true ↦ λ is. sym (kept x is) ∙ off | false ↦ λ _. refl ]) refl
-
 pub known-without : (gone : ℕ) (files : List FileRow) (file : ℕ) → file ≢ gone
     → known_of (without (is_of gone) files) file ≡ known_of files file
 known-without gone files file off =
-    ap (λ o. unwrap_or o no_file) (find-kept (is_of file) _ (λ row is. kept row.file
-    (eqb-true row.file file (sym (key-is file row.file) ∙ is))) files)
+    ap (λ o. unwrap_or o no_file) (find-kept (is_of file) (λ row. not (is_of gone row)) files
+    (each_of_all _ (λ row is. kept row.file (eqb-true row.file file (sym (key-is file row.file) ∙ is))) files))
   where
     kept : (n : ℕ) → n ≡ file → not (is_eq (nat_cmp gone n)) ≡ true
     kept n e = ap not (apart-key gone n (λ g. off (sym e ∙ g)))

@@ -1,5 +1,5 @@
 -- Files are known by number exactly where they stand in the tree, through each change.
-use Rattle.std.proofs.Common.{Bool, List, None, Some, [], ap, arith, cond, false, filter, find, map, not, refl, subst, suc, sym, true, true≢false, zero, ℕ, ◌==◌, ◌||◌, ◌&&◌, ◌+◌, ◌<◌, ◌≤◌, ◌^◌, ◌∙◌, ◌∷◌, ◌≡◌, ◌≢◌}
+use Rattle.std.proofs.Common.{Bool, List, None, [], ap, arith, false, map, not, refl, subst, suc, sym, true, true≢false, zero, ℕ, ◌==◌, ◌||◌, ◌+◌, ◌<◌, ◌^◌, ◌∙◌, ◌∷◌, ◌≡◌, ◌≢◌}
 use Rattle.std.proofs.lemmas.Bool.{eqb-true, not-true, or_parts}
 use Rattle.std.proofs.lemmas.Bool.Decides.{nat_tests}
 use Rattle.std.specs.List.{list_any}
@@ -7,11 +7,10 @@ use Rattle.std.specs.Ordering.{is_eq, nat_cmp}
 use Rattle.std.specs.Prelude.{IsTrue}
 use Rattle.std.specs.declared.cmp.Ordering.TheVariants.{Equal}
 use Rattle.qfs_base.specs.EachLaws.{each_filter, each_weaker}
-use Rattle.qfs_base.specs.NameTree.{PathNames, add_refusal, look_refusal, rename_refusal, rmdir_refusal, added, renamed, row_cmp, taken}
+use Rattle.qfs_base.specs.NameTree.{PathNames, add_refusal, look_refusal, rename_refusal, rmdir_refusal, added, renamed, taken}
 use Rattle.qfs_base.specs.Path.{IsPath}
 use Rattle.qfs_base.specs.Table.{Each, place, without}
 use Rattle.qfs_base.specs.declared.image.TreeRow.{TreeRow}
-use Rattle.qfs_laws_slots.specs.RowKeys.{has_file-is}
 use Rattle.qfs_laws_tables.specs.EachRow.{each_of_all, each_passes, each_place}
 use Rattle.qfs_laws_tables.specs.Keys.{key-is}
 use Rattle.qfs_laws_tables.specs.Placed.{any-placed}
@@ -21,12 +20,12 @@ use Rattle.qfs_laws_tree.specs.Move.{move-back, move-onward}
 use Rattle.qfs_laws_tree.specs.Stands.{closing-back, closing-onward, directory-off, emptied-onward, removed-gone, removed-onward, taken-back, without_file-gone, without_file-onward}
 use Rattle.qfs_laws_tree.specs.Tree.{HasTree}
 use Rattle.qfs_laws_tree.specs.TreeChanges.{any-added, stands-any, stands-some, stands_test}
-use Rattle.qfs_model_meta.specs.TreeRows.{add_row, close_file, directory_row, file_row, file_stands, has_file, is_closed, is_closed_row, is_unclosed, is_unclosed_row, kind_of, move_path, row_at, standing, take_file, take_path}
+use Rattle.qfs_model_meta.specs.TreeRows.{add_row, close_file, directory_row, file_stands, has_file, is_closed, is_closed_row, is_unclosed, is_unclosed_row, kind_of, row_at, standing}
 use Rattle.qfs_names.specs.ImageRows.{rows-added, rows-closed, rows-moved, rows-taken, rows-without_file}
 use Rattle.qfs_names.specs.Names as names
 use Rattle.qfs_names.specs.Trees.{as_row, maker_of, none_of}
 use Rattle.qfs_names.specs.declared.row.NameRow.{NameRow}
-use Rattle.qfs_namespace.specs.Joined.{file_cmp, is_of, joined}
+use Rattle.qfs_namespace.specs.Joined.{file_cmp, is_of}
 use Rattle.qfs_namespace.specs.Namespaces.{IsTied}
 use Rattle.qfs_namespace.specs.declared.file.FileRow.{FileRow}
 use Rattle.qfs_namespace.proofs.FindLaws.{stands-own}
@@ -241,10 +240,12 @@ module _ (rows : List NameRow) (files : List FileRow) (next : ℕ) (h : IsTied r
       none-of next some rows
       (sym (stands-any next (map as_row rows)) ∙ sym (h.stand next) ∙ none-known files h.numbers)
     where
+      differs : (a b : ℕ) → b < a → (b == a) ≡ false
+      differs a b less = grind (arith, nat_tests)
+
       none-known : (more : List FileRow) → Each (λ (row : FileRow). row.file < next) more
           → list_any (is_of next) more ≡ false
       none-known [] each = refl
       none-known (row ∷ more) each =
-          ap (λ b. b || list_any (is_of next) more)
-          (key-is next row.file ∙ (let l = each.0 in grind (arith, nat_tests)))
-          ∙ none-known more each.1
+          let off : is_of next row ≡ false = key-is next row.file ∙ differs next row.file each.0 in
+          ap (λ b. b || list_any (is_of next) more) off ∙ none-known more each.1

@@ -1,4 +1,4 @@
-use Rattle.std.proofs.Common.{None, Some, ap, find, sym, ◌∙◌}
+use Rattle.std.proofs.Common.{ap, find, sym, ◌∙◌}
 use Rattle.std.specs.Option.{option_copied, option_map}
 use Rattle.qfs_model_meta.specs.TreeRows.{closed_file}
 use Rattle.qfs_names.specs.Names.{is_open_of, row_path}

@@ -1,15 +1,11 @@
-use Rattle.std.proofs.Common.{List, None, ap, arith, length, map, subst, sym, ℕ, ◌+◌, ◌-◌, ◌<◌, ◌^◌, ◌∙◌, ◌≡◌, ◌≤◌}
-use Rattle.qfs_base.specs.NameTree.{rename_refusal, renamed}
+use Rattle.std.proofs.Common.{List, None, ap, arith, length, map, subst, sym, ◌∙◌, ◌≡◌, ◌≤◌}
+use Rattle.qfs_base.specs.NameTree.{rename_refusal}
 use Rattle.qfs_base.specs.Path.{IsPath}
 use Rattle.qfs_model_meta.specs.TreeRows as image
 use Rattle.qfs_names.specs.Moves.{IsMove}
-use Rattle.qfs_names.specs.Names as names
-use Rattle.qfs_names.specs.Trees.{as_row}
 use Rattle.qfs_names.specs.declared.row.NameRow.{NameRow}
-use Rattle.qfs_namespace.specs.Joined.{file_cmp, is_of, joined}
+use Rattle.qfs_namespace.specs.Joined.{joined}
 use Rattle.qfs_namespace.specs.Namespaces.{IsTied, Namespace, name_in_row}
-use Rattle.qfs_namespace.specs.declared.file.FileRow.{FileRow}
-use Rattle.qfs_namespace.proofs.FindLaws.{zero-known}
 use Rattle.qfs_namespace.proofs.JoinLaws.{as-rows, joined-moved, names-joined, standing-joined, written-from}
 use Rattle.qfs_namespace.proofs.TieLaws.{tied-moved}
 use Rattle.qfs_namespace.proofs.namespace.Namespace.move_path.Goals as goal

@@ -1,13 +1,9 @@
-use Rattle.std.proofs.Common.{List, None, ap, arith, map, subst, sym, ℕ, ◌+◌, ◌-◌, ◌<◌, ◌^◌, ◌∙◌, ◌≡◌, ◌≤◌}
+use Rattle.std.proofs.Common.{List, None, ap, arith, subst, sym, ◌∙◌, ◌≡◌}
 use Rattle.qfs_base.specs.NameTree.{rmdir_refusal}
 use Rattle.qfs_model_meta.specs.TreeRows as image
-use Rattle.qfs_names.specs.Names as names
-use Rattle.qfs_names.specs.Trees.{as_row}
 use Rattle.qfs_names.specs.declared.row.NameRow.{NameRow}
-use Rattle.qfs_namespace.specs.Joined.{file_cmp, is_of, joined}
-use Rattle.qfs_namespace.specs.Namespaces.{IsTied, Namespace, name_in_row}
-use Rattle.qfs_namespace.specs.declared.file.FileRow.{FileRow}
-use Rattle.qfs_namespace.proofs.FindLaws.{zero-known}
+use Rattle.qfs_namespace.specs.Joined.{joined}
+use Rattle.qfs_namespace.specs.Namespaces.{IsTied, Namespace}
 use Rattle.qfs_namespace.proofs.JoinLaws.{as-rows, joined-taken, standing-joined, written-from}
 use Rattle.qfs_namespace.proofs.TieLaws.{tied-emptied}
 use Rattle.qfs_namespace.proofs.namespace.Namespace.take_directory.Goals as goal
