@@ -17,12 +17,13 @@ use Rattle.qfs_laws_tree.specs.Stands.{at_path-off}
 use Rattle.qfs_laws_tree.specs.Tree.{HasTree, file-one}
 use Rattle.qfs_laws_tree.specs.TreeFacts.{kind_in, path-self}
 use Rattle.qfs_names.proofs.FindLaws.{find-changed, find-kept, find-mapped, find-placed_on, found-alone}
-use Rattle.qfs_names.proofs.NameLaws.{as-rises, as-same, at-is, standing-is}
+use Rattle.qfs_names.proofs.NameLaws.{as-rises, as-same, at-is}
+use Rattle.qfs_names.specs.ImageRows.{rows-standing}
 use Rattle.qfs_names.specs.declared.row.NameRow.{NameRow}
 use Rattle.qfs_names.specs.declared.row.UnclosedRow.{UnclosedRow}
 use Rattle.qfs_names.specs.Names.{close_file, closed_row, directory_at, file_at, is_open, is_open_of, of_file, path_row, row_path, standing_of, take_file}
 use Rattle.qfs_names.specs.PathLaws.{rows_total}
-use Rattle.qfs_names.specs.Trees.{HoldsOpen, as_row, file_cmp, has_number}
+use Rattle.qfs_names.specs.Trees.{HoldsOpen, as_row, file_cmp, has_number, maker_of, none_of}
 
 -- ---- numbers as keys
 
@@ -227,7 +228,7 @@ index-taken paths path kind rows h root at shut holds file =
     (and_parts (is_open row) (of_file file row) is).0) rows
     (each_of_map (λ (row : TreeRow). (path_eq row.path path && is_unclosed (kind_in row)) ≡ false) as_row rows
     (at_path-off (map as_row rows) path kind (λ (row : TreeRow). is_unclosed (kind_in row)) h.in_order
-    root (ap (λ s. kind_at s path) (sym (standing-is rows)) ∙ at)
+    root (ap (λ s. kind_at s path) (sym (rows-standing maker_of none_of none_of rows)) ∙ at)
     (λ row _ is. ap is_unclosed is ∙ shut))))))
   where
     stays : (a b : Bool) → (a && b) ≡ false → b ≡ true → not a ≡ true

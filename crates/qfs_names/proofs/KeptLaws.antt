@@ -23,11 +23,12 @@ use Rattle.qfs_laws_tree.specs.TreeFacts.{add-free, look-closed, none-at, rmdir-
 use Rattle.qfs_names.proofs.FindLaws.{change-agree, filter-agree}
 use Rattle.qfs_names.proofs.IndexLaws.{index-closed, index-directory, index-file, index-taken, index-without, number-is, open-some, own-rows}
 use Rattle.qfs_names.proofs.MoveLaws.{index-moved}
-use Rattle.qfs_names.proofs.NameLaws.{as-added, as-closed, as-moved, as-taken, as-without_file, at-is, none-count, row-is, standing-is, tree-put}
+use Rattle.qfs_names.proofs.NameLaws.{at-is, none-count, row-is, tree-put}
+use Rattle.qfs_names.specs.ImageRows.{rows-added, rows-closed, rows-moved, rows-standing, rows-taken, rows-without_file}
 use Rattle.qfs_names.specs.declared.row.NameRow.{NameRow}
 use Rattle.qfs_names.specs.declared.row.UnclosedRow.{UnclosedRow}
 use Rattle.qfs_names.specs.Names.{at_path, close_file, closed_row, directory_at, file_at, is_open, is_open_of, moved_rows, of_file, open_paths, path_row, row_of, row_path, standing_of, take_file}
-use Rattle.qfs_names.specs.Trees.{Contents, HoldsOpen, IsNames, as_row, file_cmp, has_number}
+use Rattle.qfs_names.specs.Trees.{Contents, HoldsOpen, IsNames, as_row, file_cmp, has_number, maker_of, none_of}
 use Rattle.qfs_table.specs.Tables as table
 use Rattle.std.proofs.lemmas.Bool.{and_parts}
 
@@ -37,7 +38,7 @@ Paths = table.Contents UnclosedRow
 -- a refusal by the rows is one by those of an image
 there : (P : List Standing → Type 0) (rows : List NameRow) → P (standing_of rows)
     → P (image.standing (map as_row rows))
-there P rows holds = subst P (standing-is rows) holds
+there P rows holds = subst P (rows-standing maker_of none_of none_of rows) holds
 
 -- nothing is at the place of a new row
 pub apart-of : (rows : List NameRow) (new : NameRow)
@@ -62,7 +63,7 @@ module _ (names now : Contents) (unclosed : Paths) (spare : ℕ) (was : IsNames 
       → now.rows ≡ added row_path (file_at path file) names.rows
       → HasTree (2 ^ 32) (map as_row now.rows)
   put path file is low free fresh rows =
-      subst (HasTree (2 ^ 32)) (sym (ap (map as_row) rows ∙ as-added (file_at path file) names.rows))
+      subst (HasTree (2 ^ 32)) (sym (ap (map as_row) rows ∙ rows-added maker_of none_of none_of (file_at path file) names.rows))
       (tree-put (as_row (file_at path file)) (map as_row names.rows)
       (there (λ s. add_refusal s path ≡ None) names.rows free)
       (row-is path file is (apart-of names.rows (file_at path file) free).0 low)
@@ -139,7 +140,7 @@ module _ (names now : Contents) (unclosed : Paths) (spare : ℕ) (was : IsNames 
       → left.rows ≡ without (has_number file) unclosed.rows → left.spare ≡ unclosed.spare
       → now.rows ≡ close_file file names.rows → now.spare ≡ names.spare → IsNames now left spare
   kept-closed left file found is paths paths_spare rows rows_spare = record {
-    tree = subst (HasTree (2 ^ 32)) (sym (ap (map as_row) rows ∙ as-closed file names.rows))
+    tree = subst (HasTree (2 ^ 32)) (sym (ap (map as_row) rows ∙ rows-closed maker_of none_of none_of file names.rows))
         (tree-closed (2 ^ 32) file (map as_row names.rows) (open-at file found is).0 was.tree);
     index = λ number. ap (find (has_number number)) paths
         ∙ index-closed unclosed.rows file names.rows was.index number
@@ -153,7 +154,7 @@ module _ (names now : Contents) (unclosed : Paths) (spare : ℕ) (was : IsNames 
       → left.rows ≡ without (has_number file) unclosed.rows → left.spare ≡ unclosed.spare
       → now.rows ≡ take_file file names.rows → now.spare ≡ names.spare → IsNames now left spare
   kept-without left file found is paths paths_spare rows rows_spare = record {
-    tree = subst (HasTree (2 ^ 32)) (sym (ap (map as_row) rows ∙ as-without_file file names.rows))
+    tree = subst (HasTree (2 ^ 32)) (sym (ap (map as_row) rows ∙ rows-without_file maker_of none_of none_of file names.rows))
         (tree-without_file (2 ^ 32) file (map as_row names.rows) (open-at file found is).0 was.tree);
     index = λ number. ap (find (has_number number)) paths
         ∙ index-without unclosed.rows file names.rows was.index number
@@ -167,7 +168,7 @@ module _ (names now : Contents) (unclosed : Paths) (spare : ℕ) (was : IsNames 
       → IsNames now unclosed spare
   kept-emptied path free rows rows_spare =
       let free_there = there (λ s. rmdir_refusal s path ≡ None) names.rows free in record {
-        tree = subst (HasTree (2 ^ 32)) (sym (ap (map as_row) rows ∙ as-taken path names.rows))
+        tree = subst (HasTree (2 ^ 32)) (sym (ap (map as_row) rows ∙ rows-taken maker_of none_of none_of path names.rows))
             (tree-emptied (2 ^ 32) path (map as_row names.rows) free_there was.tree);
         index = subst (HoldsOpen unclosed.rows) (sym rows)
             (index-taken unclosed.rows path Is.Directory names.rows was.tree
@@ -185,7 +186,7 @@ module _ (names now : Contents) (unclosed : Paths) (spare : ℕ) (was : IsNames 
       → IsNames now unclosed spare
   kept-removed path free rows rows_spare =
       let free_there = there (λ s. look_refusal s path ≡ None) names.rows free in record {
-        tree = subst (HasTree (2 ^ 32)) (sym (ap (map as_row) rows ∙ as-taken path names.rows))
+        tree = subst (HasTree (2 ^ 32)) (sym (ap (map as_row) rows ∙ rows-taken maker_of none_of none_of path names.rows))
             (tree-removed (2 ^ 32) path (map as_row names.rows) free_there was.tree);
         index = subst (HoldsOpen unclosed.rows) (sym rows)
             (index-taken unclosed.rows path Is.Closed names.rows was.tree
@@ -204,7 +205,7 @@ module _ (names now : Contents) (unclosed : Paths) (spare : ℕ) (was : IsNames 
       → then.rows ≡ place_all file_cmp (open_paths (moved_rows from to names.rows)) unclosed.rows
       → less ≤ now.spare → less ≤ then.spare → IsNames now then less
   kept-moved then less from to is free rows paths room index_room = record {
-    tree = subst (HasTree (2 ^ 32)) (sym (ap (map as_row) rows ∙ as-moved from to names.rows))
+    tree = subst (HasTree (2 ^ 32)) (sym (ap (map as_row) rows ∙ rows-moved maker_of none_of none_of from to names.rows))
         (move-tree from to (map as_row names.rows) (2 ^ 32) is
         (there (λ s. rename_refusal s from to ≡ None) names.rows free) was.tree);
     index = λ number. ap (find (has_number number)) paths

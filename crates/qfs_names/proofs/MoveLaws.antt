@@ -22,13 +22,13 @@ use Rattle.qfs_laws_tree.specs.TreeChanges.{stands-any, stands_test}
 use Rattle.qfs_laws_tree.specs.TreeFacts.{or-none, within-is}
 use Rattle.qfs_names.proofs.FindLaws.{find-one, find-placed_all_off, find-placed_all_on}
 use Rattle.qfs_names.proofs.IndexLaws.{is-number, number-is, ones-of, tied-number}
-use Rattle.qfs_names.proofs.NameLaws.{as-moved, standing-is}
+use Rattle.qfs_names.specs.ImageRows.{rows-moved, rows-standing}
 use Rattle.qfs_names.specs.declared.row.NameRow.{NameRow}
 use Rattle.qfs_names.specs.declared.row.UnclosedRow.{UnclosedRow}
 use Rattle.qfs_names.specs.Moves.{CanMove}
 use Rattle.qfs_names.specs.Names.{at_path, is_deep, is_open, is_open_of, moved_rows, of_file, open_paths, path_row, row_path, standing_of}
 use Rattle.qfs_names.specs.PathLaws.{rows_total}
-use Rattle.qfs_names.specs.Trees.{HoldsOpen, as_row, file_cmp, has_number}
+use Rattle.qfs_names.specs.Trees.{HoldsOpen, as_row, file_cmp, has_number, maker_of, none_of}
 
 -- ---- each row that is moved, that stays, or whose path is kept by file
 
@@ -171,7 +171,7 @@ index-moved paths from to rows is free h holds file = one (find (is_open_of file
         (λ row off _. off) rows each)))))
 
     free-there : rename_refusal (image.standing (map as_row rows)) from to ≡ None
-    free-there = ap (λ s. rename_refusal s from to) (sym (standing-is rows)) ∙ free
+    free-there = ap (λ s. rename_refusal s from to) (sym (rows-standing maker_of none_of none_of rows)) ∙ free
 
     -- the file stands after the move
     stands : (row : NameRow) → find (is_open_of file) rows ≡ Some row → is_open_of file row ≡ true
@@ -193,7 +193,7 @@ index-moved paths from to rows is free h holds file = one (find (is_open_of file
         (λ row stays. (and_parts (image.is_closed_row (as_row row) || image.is_unclosed_row (as_row row))
         (of_file file row) stays).1) all)
         (sym (any_mapped as_row (stands_test file) all)
-        ∙ ap (list_any (stands_test file)) (as-moved from to rows) ∙ after)
+        ∙ ap (list_any (stands_test file)) (rows-moved maker_of none_of none_of from to rows) ∙ after)
 
     -- then it is found there
     there : (row then : NameRow) → find (is_open_of file) rows ≡ Some row

@@ -43,12 +43,6 @@ within-is_eq top path =
 
 -- ---- as rows of an image
 
-pub standing-is : (rows : List NameRow)
-    → standing_of rows ≡ image.standing (map as_row rows)
-unfolding image.standing
-standing-is [] = refl
-standing-is (row ∷ rows) = (λ i. record { path = row.path; kind = row_kind row } ∷ standing-is rows i)
-
 pub as-rises : (rows : List NameRow) → IsRising (row_cmp image.row_path) (map as_row rows)
     → IsRising (row_cmp row_path) rows
 as-rises [] rising = tt
@@ -58,65 +52,6 @@ as-rises (row ∷ rows) rising = (each_of_map _ as_row rows rising.0, as-rises r
 pub as-same : (a b : NameRow) → as_row a ≡ as_row b → a ≡ b
 as-same a b e =
     (λ i. record { path = (e i).path; file = (e i).file; closed = (e i).closed })
-
-pub as-added : (new : NameRow) (rows : List NameRow)
-    → map as_row (added row_path new rows) ≡ image.add_row (as_row new) (map as_row rows)
-unfolding added image.add_row
-as-added new rows =
-    map-placed as_row (row_cmp row_path) (row_cmp image.row_path) (λ a b. refl) new rows
-
-pub as-taken : (path : PathNames) (rows : List NameRow)
-    → map as_row (taken row_path path rows) ≡ image.take_path path (map as_row rows)
-unfolding taken image.take_path
-as-taken path rows = map-filter as_row _ _ rows (each_of_all _ (λ row. refl) rows)
-
-pub as-without_file : (file : ℕ) (rows : List NameRow)
-    → map as_row (take_file file rows) ≡ image.take_file file (map as_row rows)
-unfolding image.take_file image.has_file
-as-without_file file rows = map-filter as_row _ _ rows (each_of_all _ (λ row. refl) rows)
-
-pub as-closed : (file : ℕ) (rows : List NameRow)
-    → map as_row (close_file file rows) ≡ image.close_file file (map as_row rows)
-unfolding image.close_file image.close_row image.has_file
-as-closed file rows =
-    map-changed as_row (of_file file) (λ (row : TreeRow). of_number row) closed_row
-    (λ (row : TreeRow). record row { closed = true }) rows
-    (each_of_all _ (λ row. (refl, λ _. refl)) rows)
-  where
-    of_number : TreeRow → Bool
-    of_number row = has_key (λ (row : TreeRow). nat_cmp file row.file) row
-
-pub as-moved : (from to : PathNames) (rows : List NameRow)
-    → map as_row (renamed row_path at_path from to rows) ≡ image.move_path from to (map as_row rows)
-unfolding renamed image.move_path
-as-moved from to rows =
-    map-placed_all as_row (row_cmp row_path) (row_cmp image.row_path) (λ a b. refl)
-    (map (λ (row : NameRow). at_path (moved from to row.path) row)
-    (filter (λ (row : NameRow). is_within from row.path) rows))
-    (without (λ (row : NameRow). is_within from row.path) rows)
-    ∙ (λ i. place_all (row_cmp image.row_path) (news rows i) (others i))
-  where
-    others : map as_row (without (λ (row : NameRow). is_within from row.path) rows)
-        ≡ without (λ (row : TreeRow). is_within from row.path) (map as_row rows)
-    others = map-filter as_row _ _ rows (each_of_all _ (λ row. refl) rows)
-
-    news : (rows : List NameRow)
-        → map as_row (map (λ (row : NameRow). at_path (moved from to row.path) row)
-        (filter (λ (row : NameRow). is_within from row.path) rows))
-        ≡ map (λ (row : TreeRow). image.at_path (moved from to row.path) row)
-        (filter (λ (row : TreeRow). is_within from row.path) (map as_row rows))
-    news [] = refl
-    news (row ∷ rows) =
-        elim (is_within from row.path) as (λ b.
-        map as_row (map (λ (row : NameRow). at_path (moved from to row.path) row)
-        (cond b (row ∷ filter (λ (row : NameRow). is_within from row.path) rows)
-        (filter (λ (row : NameRow). is_within from row.path) rows)))
-        ≡ map (λ (row : TreeRow). image.at_path (moved from to row.path) row)
-        (cond b (as_row row ∷ filter (λ (row : TreeRow). is_within from row.path) (map as_row rows))
-        (filter (λ (row : TreeRow). is_within from row.path) (map as_row rows)))) [
-          | true ↦ (λ i. as_row (at_path (moved from to row.path) row) ∷ news rows i)
-          | false ↦ news rows
-        ]
 
 -- ---- a row more
 

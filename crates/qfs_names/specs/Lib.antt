@@ -1,6 +1,7 @@
 -- What the contracts of the tree cite.
-pub mod Names
 pub mod Answers
+pub mod ImageRows
 pub mod Moves
+pub mod Names
 pub mod PathLaws
 pub mod Trees

@@ -7,6 +7,7 @@ use Rattle.std.specs.declared.cmp.Ordering.{Ordering}
 use Rattle.qfs_base.specs.declared.image.TreeRow.{TreeRow}
 use Rattle.qfs_base.specs.Table.{has_key}
 use Rattle.qfs_laws_tree.specs.Tree.{HasTree}
+use Rattle.qfs_names.specs.ImageRows.{with_maker}
 use Rattle.qfs_names.specs.declared.row.NameRow.{NameRow}
 use Rattle.qfs_names.specs.declared.row.UnclosedRow.{UnclosedRow}
 use Rattle.qfs_names.specs.Names.{is_open_of, path_row}
@@ -21,16 +22,11 @@ abbrev pub maker_of : ℕ → ℕ
 maker_of zero = 0
 maker_of (suc n) = 1
 
+abbrev pub none_of : ℕ → ℕ
+none_of file = 0
+
 abbrev pub as_row : NameRow → TreeRow
-as_row row =
-    record {
-      path = row.path;
-      file = row.file;
-      closed = row.closed;
-      actor = maker_of row.file;
-      command = 0;
-      len = 0;
-    }
+as_row row = with_maker maker_of none_of none_of row
 
 -- the order of unclosed files
 abbrev pub file_cmp : UnclosedRow → UnclosedRow → Ordering

@@ -101,10 +101,7 @@ impl Tree {
         if let Some(refusal) = self.look_refusal(path) {
             return Err(TreeError::Refused(refusal));
         }
-        match self.row_named(path.names.as_slice()) {
-            Some(row) => Ok(row.file),
-            None => Ok(0),
-        }
+        Ok(self.file_at(path))
     }
 
     /// The names right below a directory, in the order of their bytes.

@@ -1,11 +1,13 @@
 //! The tree, and what stands in it.
-ghost use Rattle.std.specs.Prelude.{◌≡◌, ◌≤◌, ◌+◌, [], filter, find, max, IfOk, OnOk, OnErr, IsOk};
+ghost use Rattle.std.specs.Prelude.{◌≡◌, ◌≤◌, ◌+◌, ◌^◌, [], filter, map, find, max, IfOk, OnOk, OnErr, IsOk};
 ghost use Rattle.std.specs.Option.{option_copied, option_map};
 ghost use Rattle.std.specs.Ordering.{is_lt};
 ghost use Rattle.qfs_base.specs.NameTree.{is_within, kind_at, path_cmp, row_cmp, stands_at};
 ghost use Rattle.qfs_base.specs.Table.{IsRising};
 ghost use Rattle.qfs_names.specs.declared.row.NameRow.{NameRow};
-ghost use Rattle.qfs_names.specs.Names.{row_path, standing_of, is_open_of, within_order};
+ghost use Rattle.qfs_laws_tree.specs.Tree.{HasTree};
+ghost use Rattle.qfs_names.specs.Names.{row_at, row_path, standing_of, is_open_of, within_order};
+ghost use Rattle.qfs_names.specs.Trees.{as_row};
 
 use crate::key::{AtPath, ByFile, WithinPath};
 use crate::kinds::kind_at_row;
@@ -141,6 +143,23 @@ impl Tree {
         match self.row_named(names) {
             Some(row) => Some(kind_at_row(row)),
             None => None,
+        }
+    }
+
+    /// The rows form a name tree, in which each file stands once: for those who tie more to them.
+    pub fn form_tree(&self)
+        ensures { HasTree (2 ^ 32) (map as_row self.now.rows) }
+    {
+        let _names = &self.names;
+    }
+
+    /// The file at a path, or 0 where a directory or nothing stands there.
+    pub fn file_at(&self, path: &Path) -> FileId
+        ensures { result ≡ (row_at self.now.rows path.now).file }
+    {
+        match self.row_named(path.names.as_slice()) {
+            Some(row) => row.file,
+            None => 0,
         }
     }
 
