@@ -21,9 +21,9 @@ use Rattle.qfs_names.specs.Names.{directory_at, is_open, is_open_of, of_file, ro
 use Rattle.qfs_names.specs.Trees.{as_row}
 use Rattle.qfs_names.specs.declared.row.NameRow.{NameRow}
 use Rattle.qfs_names.proofs.FindLaws.{find-mapped}
-use Rattle.qfs_namespace.specs.Joined.{file_in, is_of, joined, joined_row, known_of, no_file}
+use Rattle.qfs_namespace.specs.Joined.{known_in, is_known_as, joined, joined_row, known_of, no_file}
 use Rattle.qfs_namespace.specs.Namespaces.{IsTied}
-use Rattle.qfs_namespace.specs.declared.file.FileRow.{FileRow}
+use Rattle.qfs_namespace.specs.declared.file.KnownFile.{KnownFile}
 
 own-key : (file : ℕ) (row : NameRow) → of_file file row ≡ true → row.file ≡ file
 own-key file row is = eqb-true row.file file (sym (key-is file row.file) ∙ is)
@@ -85,13 +85,13 @@ either-none f true = refl
 either-none f false = refl
 
 -- the unclosed file of an actor is the one found among joined rows, if it is the actor's
-abbrev pub FindsOpen : List FileRow → ℕ → ℕ → List NameRow → Type 0
+abbrev pub FindsOpen : List KnownFile → ℕ → ℕ → List NameRow → Type 0
 FindsOpen files actor file rows =
     find (λ (row : TreeRow). image.is_unclosed_of actor row && image.has_file file row) (joined files rows)
     ≡ cond ((known_of files file).actor == actor)
     (option_map (joined_row files) (find (is_open_of file) rows)) None
 
-open-step : (files : List FileRow) (actor file : ℕ) (row : NameRow) (rows : List NameRow)
+open-step : (files : List KnownFile) (actor file : ℕ) (row : NameRow) (rows : List NameRow)
     → FindsOpen files actor file rows → FindsOpen files actor file (row ∷ rows)
 unfolding image.is_unclosed_of image.is_unclosed_row image.has_file
 open-step files actor file row rows rest =
@@ -127,7 +127,7 @@ open-step files actor file row rows rest =
         ap (λ b. cond (b && true) (Some (joined_row files row)) (find (λ (row : TreeRow). image.is_unclosed_of actor row && image.has_file file row) (joined files rows)))
         same ∙ last mine e
 
-open-rows : (files : List FileRow) (actor file : ℕ) (rows : List NameRow)
+open-rows : (files : List KnownFile) (actor file : ℕ) (rows : List NameRow)
     → FindsOpen files actor file rows
 open-rows files actor file [] = sym (either-none (joined_row files) ((known_of files file).actor == actor))
 open-rows files actor file (row ∷ rows) =
@@ -141,7 +141,7 @@ unfolding image.is_unclosed_row image.has_file
 open-as file rows = find-mapped as_row (is_open_of file) _ rows (each_of_all _ (λ row. refl) rows)
 
 -- closed files among joined rows, and among those of names alone
-closed-joined : (files : List FileRow) (file : ℕ) (rows : List NameRow)
+closed-joined : (files : List KnownFile) (file : ℕ) (rows : List NameRow)
     → image.closed_file file (joined files rows) ≡ option_map (joined_row files) (find (closed_of file) rows)
 unfolding image.closed_file image.is_closed_row image.has_file
 closed-joined files file rows =
@@ -201,7 +201,7 @@ seen-some f None (Some at) is some = absurd (cc)
 
 -- ---- by a path
 
-pub found-at : (files : List FileRow) (path : PathNames) (rows : List NameRow)
+pub found-at : (files : List KnownFile) (path : PathNames) (rows : List NameRow)
     → find (stands_at image.row_path path) (joined files rows)
     ≡ option_map (joined_row files) (find (stands_at row_path path) rows)
 found-at files path rows =
@@ -263,7 +263,7 @@ stands-with actor command len file [] = refl
 stands-with actor command len file (row ∷ rows) =
     ap (λ b. stands_test file (as_row row) || b) (stands-with actor command len file rows)
 
-pub stands-joined : (files : List FileRow) (file : ℕ) (rows : List NameRow)
+pub stands-joined : (files : List KnownFile) (file : ℕ) (rows : List NameRow)
     → image.file_stands file (joined files rows) ≡ image.file_stands file (map as_row rows)
 stands-joined files file rows =
     stands-any file (joined files rows)
@@ -282,27 +282,27 @@ any-some (row ∷ more) any =
     ]) refl any
 
 -- what is known of a file has its number, where the file stands or is none
-module _ (rows : List NameRow) (files : List FileRow) (next : ℕ) (h : IsTied rows files next) where
+module _ (rows : List NameRow) (files : List KnownFile) (next : ℕ) (h : IsTied rows files next) where
   pub known-none : (file : ℕ) → image.file_stands file (map as_row rows) ≡ false
-      → find (is_of file) files ≡ None
+      → find (is_known_as file) files ≡ None
   known-none file off =
-      none-of (find (is_of file) files) (some-any (is_of file) files ∙ h.stand file ∙ off)
+      none-of (find (is_known_as file) files) (some-any (is_known_as file) files ∙ h.stand file ∙ off)
     where
-      none-of : (o : Option FileRow) → is_some o ≡ false → o ≡ None
+      none-of : (o : Option KnownFile) → is_some o ≡ false → o ≡ None
       none-of None e = refl
       none-of (Some x) e = absurd (true≢false e)
 
   pub known-number : (file : ℕ) → image.file_stands file (map as_row rows) ≡ true
       → (known_of files file).file ≡ file
-  known-number file stands = one (find (is_of file) files) refl
-      (some-any (is_of file) files ∙ h.stand file ∙ stands)
+  known-number file stands = one (find (is_known_as file) files) refl
+      (some-any (is_known_as file) files ∙ h.stand file ∙ stands)
     where
-      one : (o : Option FileRow) → find (is_of file) files ≡ o → is_some o ≡ true
+      one : (o : Option KnownFile) → find (is_known_as file) files ≡ o → is_some o ≡ true
           → (unwrap_or o no_file).file ≡ file
       one None e is = absurd (true≢false (sym is))
       one (Some x) e is =
           eqb-true x.file file (sym (key-is file x.file)
-          ∙ (found_has (λ _. Unit {0}) (is_of file) files x e (each_of_all _ (λ _. tt) files)).1)
+          ∙ (found_has (λ _. Unit {0}) (is_known_as file) files x e (each_of_all _ (λ _. tt) files)).1)
 
   -- nothing stands under the number 0, and nothing is known of it
   pub zero-known : known_of files 0 ≡ no_file
@@ -314,7 +314,7 @@ module _ (rows : List NameRow) (files : List FileRow) (next : ℕ) (h : IsTied r
 
   -- a row with what is known of its file, which has its number
   known-row : (row : NameRow) → (known_of files row.file).file ≡ row.file
-      → known_of files row.file ≡ file_in (joined_row files row)
+      → known_of files row.file ≡ known_in (joined_row files row)
   known-row row number =
       (λ i. record {
         file = number i;
@@ -328,7 +328,7 @@ module _ (rows : List NameRow) (files : List FileRow) (next : ℕ) (h : IsTied r
   found-number test row found = one row.file refl
     where
       one : (file : ℕ) → row.file ≡ file → (known_of files row.file).file ≡ row.file
-      one zero is = ap (λ n. (known_of files n).file) is ∙ ap (λ (k : FileRow). k.file) zero-known ∙ sym is
+      one zero is = ap (λ n. (known_of files n).file) is ∙ ap (λ (k : KnownFile). k.file) zero-known ∙ sym is
       one (suc n) is =
           known-number row.file
           (stands-any row.file (map as_row rows)
@@ -337,19 +337,19 @@ module _ (rows : List NameRow) (files : List FileRow) (next : ℕ) (h : IsTied r
           (stands-own row (subst (λ n. 0 < n) (sym is) (omega arith)))))
 
   pub known-found : (test : NameRow → Bool) (row : NameRow) → find test rows ≡ Some row
-      → known_of files row.file ≡ file_in (joined_row files row)
+      → known_of files row.file ≡ known_in (joined_row files row)
   known-found test row found = known-row row (found-number test row found)
 
   pub known-at : (path : PathNames)
-      → known_of files (row_at rows path).file ≡ file_in (image.row_at (joined files rows) path)
+      → known_of files (row_at rows path).file ≡ known_in (image.row_at (joined files rows) path)
   unfolding image.row_at image.directory_row
   known-at path =
       one (find (stands_at row_path path) rows) refl
-      ∙ sym (ap (λ o. file_in (unwrap_or o (image.directory_row []))) (found-at files path rows))
+      ∙ sym (ap (λ o. known_in (unwrap_or o (image.directory_row []))) (found-at files path rows))
     where
       one : (o : Option NameRow) → find (stands_at row_path path) rows ≡ o
           → known_of files (unwrap_or o (directory_at [])).file
-          ≡ file_in (unwrap_or (option_map (joined_row files) o) (image.directory_row []))
+          ≡ known_in (unwrap_or (option_map (joined_row files) o) (image.directory_row []))
       one None e = zero-known
       one (Some row) e = known-found (stands_at row_path path) row e
 
@@ -364,11 +364,11 @@ module _ (rows : List NameRow) (files : List FileRow) (next : ℕ) (h : IsTied r
 
   pub unclosed-known : (actor file : ℕ) (row : NameRow) → find (is_open_of file) rows ≡ Some row
       → (known_of files file).actor ≡ actor
-      → Some (known_of files file) ≡ option_map file_in (image.unclosed_file actor file (joined files rows))
+      → Some (known_of files file) ≡ option_map known_in (image.unclosed_file actor file (joined files rows))
   unclosed-known actor file row found own =
       let mine : ((known_of files file).actor == actor) ≡ true = eq-eqb _ _ own in
       let is : row.file ≡ file = found-own file rows row found in
-      sym (ap (option_map file_in) (unclosed-joined actor file
+      sym (ap (option_map known_in) (unclosed-joined actor file
       ∙ ap (λ b. cond b (option_map (joined_row files) (find (is_open_of file) rows)) None) mine
       ∙ ap (option_map (joined_row files)) found)
       ∙ ap Some (sym (known-found (is_open_of file) row found) ∙ ap (known_of files) is))
@@ -390,35 +390,35 @@ module _ (rows : List NameRow) (files : List FileRow) (next : ℕ) (h : IsTied r
   -- ---- closed files
 
   pub closed-found : (file : ℕ) (row : NameRow) → find (closed_of file) rows ≡ Some row
-      → Some (known_of files file) ≡ option_map file_in (image.closed_file file (joined files rows))
+      → Some (known_of files file) ≡ option_map known_in (image.closed_file file (joined files rows))
   closed-found file row found =
       let is : row.file ≡ file = closed-own file rows row found in
-      sym (ap (option_map file_in) (closed-joined files file rows ∙ ap (option_map (joined_row files)) found)
+      sym (ap (option_map known_in) (closed-joined files file rows ∙ ap (option_map (joined_row files)) found)
       ∙ ap Some (sym (known-found (closed_of file) row found) ∙ ap (known_of files) is))
 
   -- a file that is known and not unclosed is closed
-  pub closed-known : (file : ℕ) (x : FileRow) → find (is_of file) files ≡ Some x
+  pub closed-known : (file : ℕ) (x : KnownFile) → find (is_known_as file) files ≡ Some x
       → find (is_open_of file) rows ≡ None
-      → Some x ≡ option_map file_in (image.closed_file file (joined files rows))
+      → Some x ≡ option_map known_in (image.closed_file file (joined files rows))
   closed-known file x known none = one (find (closed_of file) rows) refl
     where
       stands : list_any (stands_test file) (map as_row rows) ≡ true
       stands = sym (stands-any file (map as_row rows)) ∙ sym (h.stand file)
-          ∙ sym (some-any (is_of file) files) ∙ ap is_some known
+          ∙ sym (some-any (is_known_as file) files) ∙ ap is_some known
 
       one : (o : Option NameRow) → find (closed_of file) rows ≡ o
-          → Some x ≡ option_map file_in (image.closed_file file (joined files rows))
+          → Some x ≡ option_map known_in (image.closed_file file (joined files rows))
       one None e = absurd (true≢false (sym (closed-or-open file rows stands none) ∙ ap is_some e))
       one (Some row) e = sym (ap (λ o. Some (unwrap_or o no_file)) known) ∙ closed-found file row e
 
-  pub closed-unknown : (file : ℕ) → find (is_of file) files ≡ None
+  pub closed-unknown : (file : ℕ) → find (is_known_as file) files ≡ None
       → image.closed_file file (joined files rows) ≡ None
   closed-unknown file none =
       closed-joined files file rows ∙ ap (option_map (joined_row files)) (one (find (closed_of file) rows) refl)
     where
       off : list_any (stands_test file) (map as_row rows) ≡ false
       off = sym (stands-any file (map as_row rows)) ∙ sym (h.stand file)
-          ∙ sym (some-any (is_of file) files) ∙ ap is_some none
+          ∙ sym (some-any (is_known_as file) files) ∙ ap is_some none
 
       one : (o : Option NameRow) → find (closed_of file) rows ≡ o → o ≡ None
       one None e = refl

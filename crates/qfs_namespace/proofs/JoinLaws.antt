@@ -18,11 +18,11 @@ use Rattle.qfs_names.specs.ImageRows.{rows-added, rows-closed, rows-moved, rows-
 use Rattle.qfs_names.specs.Names.{at_path, close_file, directory_at, file_at, row_path, standing_of, take_file}
 use Rattle.qfs_names.specs.Trees.{as_row, maker_of, none_of}
 use Rattle.qfs_names.specs.declared.row.NameRow.{NameRow}
-use Rattle.qfs_namespace.specs.Joined.{file_cmp, is_of, joined, known_of, no_file}
-use Rattle.qfs_namespace.specs.Namespaces.{IsWritten, Namespace, name_in_row}
-use Rattle.qfs_namespace.specs.declared.file.FileRow.{FileRow}
+use Rattle.qfs_namespace.specs.Joined.{known_cmp, is_known_as, joined, known_of, no_file}
+use Rattle.qfs_namespace.specs.Namespaces.{IsRecorded, Namespace, name_in_row}
+use Rattle.qfs_namespace.specs.declared.file.KnownFile.{KnownFile}
 
-pub standing-joined : (files : List FileRow) (rows : List NameRow)
+pub standing-joined : (files : List KnownFile) (rows : List NameRow)
     → standing_of rows ≡ image.standing (joined files rows)
 standing-joined files rows =
     rows-standing (λ file. (known_of files file).actor) (λ file. (known_of files file).command)
@@ -35,23 +35,23 @@ as-rows P rows = subst P (rows-standing maker_of none_of none_of rows)
 
 -- a change of what stands inside is one of what callers see
 pub written-from : (entry : Entry) (then : Namespace → List TreeRow) (taken : ℕ) (inside seen new : Namespace)
-    → inside ≡ seen → IsWritten entry (then inside) taken inside new
-    → IsWritten entry (then seen) taken seen new
+    → inside ≡ seen → IsRecorded entry (then inside) taken inside new
+    → IsRecorded entry (then seen) taken seen new
 written-from entry then taken inside seen new is =
-    subst (λ (n : Namespace). IsWritten entry (then n) taken n new) is
+    subst (λ (n : Namespace). IsRecorded entry (then n) taken n new) is
 
-pub names-joined : (files : List FileRow) (rows : List NameRow)
+pub names-joined : (files : List KnownFile) (rows : List NameRow)
     → map name_in_row (joined files rows) ≡ rows
 names-joined files [] = refl
 names-joined files (row ∷ rows) = ap (λ others. row ∷ others) (names-joined files rows)
 
 -- ---- what is known of files
 
-pub known-own : (new : FileRow) (files : List FileRow)
-    → known_of (place file_cmp new files) new.file ≡ new
+pub known-own : (new : KnownFile) (files : List KnownFile)
+    → known_of (place known_cmp new files) new.file ≡ new
 known-own new files =
     ap (λ o. unwrap_or o no_file)
-    (find-placed file_cmp (is_of new.file) new files (key-is new.file new.file ∙ grind (arith, nat_tests))
+    (find-placed known_cmp (is_known_as new.file) new files (key-is new.file new.file ∙ grind (arith, nat_tests))
     (each_of_all _ (λ row above. ap is_eq above) files))
 
 tied : (a b : ℕ) → nat_cmp a b ≡ Equal → b ≡ a
@@ -60,24 +60,24 @@ tied a b e = eqb-true b a (sym (key-is a b) ∙ ap is_eq e)
 apart-key : (file other : ℕ) → other ≢ file → is_eq (nat_cmp file other) ≡ false
 apart-key file other off = key-is file other ∙ grind (arith, nat_tests)
 
-pub known-other : (new : FileRow) (files : List FileRow) (file : ℕ) → new.file ≢ file
-    → known_of (place file_cmp new files) file ≡ known_of files file
+pub known-other : (new : KnownFile) (files : List KnownFile) (file : ℕ) → new.file ≢ file
+    → known_of (place known_cmp new files) file ≡ known_of files file
 known-other new files file off =
     ap (λ o. unwrap_or o no_file)
-    (find-apart file_cmp (is_of file) new files (apart-key file new.file off)
+    (find-apart known_cmp (is_known_as file) new files (apart-key file new.file off)
     (λ row tie. apart-key file row.file (λ e. off (sym (tied new.file row.file tie) ∙ e))))
 
-pub known-without : (gone : ℕ) (files : List FileRow) (file : ℕ) → file ≢ gone
-    → known_of (without (is_of gone) files) file ≡ known_of files file
+pub known-without : (gone : ℕ) (files : List KnownFile) (file : ℕ) → file ≢ gone
+    → known_of (without (is_known_as gone) files) file ≡ known_of files file
 known-without gone files file off =
-    ap (λ o. unwrap_or o no_file) (find-kept (is_of file) (λ row. not (is_of gone row)) files
+    ap (λ o. unwrap_or o no_file) (find-kept (is_known_as file) (λ row. not (is_known_as gone row)) files
     (each_of_all _ (λ row is. kept row.file (eqb-true row.file file (sym (key-is file row.file) ∙ is))) files))
   where
     kept : (n : ℕ) → n ≡ file → not (is_eq (nat_cmp gone n)) ≡ true
     kept n e = ap not (apart-key gone n (λ g. off (sym e ∙ g)))
 
 -- rows of whose files the same is known stay
-pub same-joined : (files more : List FileRow) (rows : List NameRow)
+pub same-joined : (files more : List KnownFile) (rows : List NameRow)
     → Each (λ (row : NameRow). known_of more row.file ≡ known_of files row.file) rows
     → joined more rows ≡ joined files rows
 same-joined files more [] same = refl
@@ -93,7 +93,7 @@ same-joined files more (row ∷ rows) same =
 
 -- ---- the changes
 
-module _ (files : List FileRow) where
+module _ (files : List KnownFile) where
   abbrev actor_of : ℕ → ℕ
   actor_of file = (known_of files file).actor
 
@@ -130,13 +130,13 @@ module _ (files : List FileRow) where
       → joined files (renamed row_path at_path from to rows) ≡ image.move_path from to (joined files rows)
   joined-moved from to rows = rows-moved actor_of command_of len_of from to rows
 
-  pub joined-file : (path : PathNames) (new : FileRow) (rows : List NameRow)
+  pub joined-file : (path : PathNames) (new : KnownFile) (rows : List NameRow)
       → Each (λ (row : NameRow). row.file ≢ new.file) rows
-      → joined (place file_cmp new files) (added row_path (file_at path new.file) rows)
+      → joined (place known_cmp new files) (added row_path (file_at path new.file) rows)
       ≡ image.add_row (image.file_row path new.file new.actor new.command new.len) (joined files rows)
   unfolding image.file_row
   joined-file path new rows fresh =
-      let more = place file_cmp new files in
+      let more = place known_cmp new files in
       let others = same-joined files more rows
       (each_weaker _ _ (λ row off. known-other new files row.file (λ e. off (sym e))) rows fresh) in
       rows-added (λ file. (known_of more file).actor) (λ file. (known_of more file).command)
@@ -152,9 +152,9 @@ module _ (files : List FileRow) where
 
   -- the rows that are left when a file is gone
   pub joined-gone : (file : ℕ) (rows : List NameRow) → Each (λ (row : NameRow). row.file ≢ file) rows
-      → joined (without (is_of file) files) rows ≡ joined files rows
+      → joined (without (is_known_as file) files) rows ≡ joined files rows
   joined-gone file rows off =
-      same-joined files (without (is_of file) files) rows
+      same-joined files (without (is_known_as file) files) rows
       (each_weaker _ _ (λ row o. known-without file files row.file o) rows off)
 
   pub joined-without_file : (file : ℕ) (rows : List NameRow)

@@ -25,9 +25,9 @@ use Rattle.qfs_names.specs.ImageRows.{rows-added, rows-closed, rows-moved, rows-
 use Rattle.qfs_names.specs.Names as names
 use Rattle.qfs_names.specs.Trees.{as_row, maker_of, none_of}
 use Rattle.qfs_names.specs.declared.row.NameRow.{NameRow}
-use Rattle.qfs_namespace.specs.Joined.{file_cmp, is_of}
+use Rattle.qfs_namespace.specs.Joined.{known_cmp, is_known_as}
 use Rattle.qfs_namespace.specs.Namespaces.{IsTied}
-use Rattle.qfs_namespace.specs.declared.file.FileRow.{FileRow}
+use Rattle.qfs_namespace.specs.declared.file.KnownFile.{KnownFile}
 use Rattle.qfs_namespace.proofs.FindLaws.{stands-own}
 
 -- two tests that imply each other agree
@@ -77,7 +77,7 @@ none-of file some (row ∷ rows) off =
       none-of file some rows p.1,
     )
 
-module _ (rows : List NameRow) (files : List FileRow) (next : ℕ) (h : IsTied rows files next) where
+module _ (rows : List NameRow) (files : List KnownFile) (next : ℕ) (h : IsTied rows files next) where
   pub tied-directory : (path : PathNames) → add_refusal (standing (map as_row rows)) path ≡ None
       → IsTied (added names.row_path (names.directory_at path) rows) files next
   unfolding directory_row
@@ -89,19 +89,19 @@ module _ (rows : List NameRow) (files : List FileRow) (next : ℕ) (h : IsTied r
     first = h.first;
   }
 
-  pub tied-file : (path : PathNames) (new : FileRow) → add_refusal (standing (map as_row rows)) path ≡ None
+  pub tied-file : (path : PathNames) (new : KnownFile) → add_refusal (standing (map as_row rows)) path ≡ None
       → new.file ≡ next → 0 < next
-      → IsTied (added names.row_path (names.file_at path next) rows) (place file_cmp new files) (next + 1)
+      → IsTied (added names.row_path (names.file_at path next) rows) (place known_cmp new files) (next + 1)
   tied-file path new free is some = record {
     stand = λ file.
-        any-placed file_cmp (is_of file) new files
-        (each_weaker (λ (row : FileRow). row.file < next) _ (λ row below tie. one new.file row.file is below tie) files h.numbers)
-        ∙ ap (λ b. is_of file new || b) (h.stand file)
+        any-placed known_cmp (is_known_as file) new files
+        (each_weaker (λ (row : KnownFile). row.file < next) _ (λ row below tie. one new.file row.file is below tie) files h.numbers)
+        ∙ ap (λ b. is_known_as file new || b) (h.stand file)
         ∙ ap (λ b. b || file_stands file (map as_row rows))
         (ap (λ n. is_eq (nat_cmp file n)) is ∙ sym (test-made file next path some))
         ∙ sym (stand-added (names.file_at path next) rows file free);
-    numbers = each_place (λ (row : FileRow). row.file < next + 1) file_cmp new files (omega arith)
-        (each_weaker (λ (row : FileRow). row.file < next) _ (λ row below. omega arith) files h.numbers);
+    numbers = each_place (λ (row : KnownFile). row.file < next + 1) known_cmp new files (omega arith)
+        (each_weaker (λ (row : KnownFile). row.file < next) _ (λ row below. omega arith) files h.numbers);
     first = omega (arith, h.first);
   }
     where
@@ -153,34 +153,34 @@ module _ (rows : List NameRow) (files : List FileRow) (next : ℕ) (h : IsTied r
         → ((other : ℕ) → (other == file) ≡ false → IsTrue (file_stands other (map as_row rows)) → IsTrue (file_stands other (map as_row more)))
         → ((other : ℕ) → IsTrue (file_stands other (map as_row more)) → IsTrue (file_stands other (map as_row rows)))
         → ((other : ℕ) → IsTrue (file_stands other (map as_row more)) → (other == file) ≡ false)
-        → IsTied more (without (is_of file) files) next
+        → IsTied more (without (is_known_as file) files) next
     gone file more onward back off = record {
       stand = λ other. agree _ _
           (λ known. onward other (apart other known)
-          (sym (h.stand other) ∙ any_of_filter (is_of other) (λ row. not (is_of file row)) files known))
-          (λ stands. any_filter (is_of other) (λ row. not (is_of file row))
+          (sym (h.stand other) ∙ any_of_filter (is_known_as other) (λ row. not (is_known_as file row)) files known))
+          (λ stands. any_filter (is_known_as other) (λ row. not (is_known_as file row))
           (λ row is. kept other row (off other stands) is) files (h.stand other ∙ back other stands));
-      numbers = each_filter (λ (row : FileRow). row.file < next) (λ row. not (is_of file row)) files h.numbers;
+      numbers = each_filter (λ (row : KnownFile). row.file < next) (λ row. not (is_known_as file row)) files h.numbers;
       first = h.first;
     }
       where
-        kept : (other : ℕ) (row : FileRow) → (other == file) ≡ false → is_of other row ≡ true
-            → not (is_of file row) ≡ true
+        kept : (other : ℕ) (row : KnownFile) → (other == file) ≡ false → is_known_as other row ≡ true
+            → not (is_known_as file row) ≡ true
         kept other row off is =
             let own : row.file ≡ other = eqb-true row.file other (sym (key-is other row.file) ∙ is) in
             ap not (key-is file row.file ∙ ap (λ n. n == file) own ∙ off)
 
-        apart : (other : ℕ) → list_any (is_of other) (without (is_of file) files) ≡ true
+        apart : (other : ℕ) → list_any (is_known_as other) (without (is_known_as file) files) ≡ true
             → (other == file) ≡ false
         apart other known =
-            any_each ((other == file) ≡ false) (λ (row : FileRow). not (is_of file row) ≡ true) (is_of other)
+            any_each ((other == file) ≡ false) (λ (row : KnownFile). not (is_known_as file row) ≡ true) (is_known_as other)
             (λ row keep is.
             let own : row.file ≡ other = eqb-true row.file other (sym (key-is other row.file) ∙ is) in
             ap (λ n. n == file) (sym own) ∙ sym (key-is file row.file) ∙ not-true _ keep)
-            (without (is_of file) files)
-            (each_passes (λ (row : FileRow). not (is_of file row)) files) known
+            (without (is_known_as file) files)
+            (each_passes (λ (row : KnownFile). not (is_known_as file row)) files) known
 
-    pub tied-aborted : (file : ℕ) → IsTied (names.take_file file rows) (without (is_of file) files) next
+    pub tied-aborted : (file : ℕ) → IsTied (names.take_file file rows) (without (is_known_as file) files) next
     tied-aborted file =
         let e = rows-without_file maker_of none_of none_of file rows in
         gone file (names.take_file file rows)
@@ -193,7 +193,7 @@ module _ (rows : List NameRow) (files : List FileRow) (next : ℕ) (h : IsTied r
 
     pub tied-removed : (path : PathNames) (file : ℕ) → look_refusal (standing (map as_row rows)) path ≡ None
         → (row_at (map as_row rows) path).file ≡ file
-        → IsTied (taken names.row_path path rows) (without (is_of file) files) next
+        → IsTied (taken names.row_path path rows) (without (is_known_as file) files) next
     tied-removed path file looks own =
         let e = rows-taken maker_of none_of none_of path rows in
         let root = closed-root (map as_row rows) path looks in
@@ -243,9 +243,9 @@ module _ (rows : List NameRow) (files : List FileRow) (next : ℕ) (h : IsTied r
       differs : (a b : ℕ) → b < a → (b == a) ≡ false
       differs a b less = grind (arith, nat_tests)
 
-      none-known : (more : List FileRow) → Each (λ (row : FileRow). row.file < next) more
-          → list_any (is_of next) more ≡ false
+      none-known : (more : List KnownFile) → Each (λ (row : KnownFile). row.file < next) more
+          → list_any (is_known_as next) more ≡ false
       none-known [] each = refl
       none-known (row ∷ more) each =
-          let off : is_of next row ≡ false = key-is next row.file ∙ differs next row.file each.0 in
-          ap (λ b. b || list_any (is_of next) more) off ∙ none-known more each.1
+          let off : is_known_as next row ≡ false = key-is next row.file ∙ differs next row.file each.0 in
+          ap (λ b. b || list_any (is_known_as next) more) off ∙ none-known more each.1

@@ -6,35 +6,35 @@ use Rattle.qfs_base.specs.declared.image.TreeRow.{TreeRow}
 use Rattle.qfs_base.specs.Table.{has_key, look}
 use Rattle.qfs_names.specs.ImageRows.{with_maker}
 use Rattle.qfs_names.specs.declared.row.NameRow.{NameRow}
-use Rattle.qfs_namespace.specs.declared.file.FileRow.{FileRow}
+use Rattle.qfs_namespace.specs.declared.file.KnownFile.{KnownFile}
 
 -- the order of files, and where a row stands to a number
-abbrev pub file_cmp : FileRow → FileRow → Ordering
-file_cmp a b = nat_cmp a.file b.file
+abbrev pub known_cmp : KnownFile → KnownFile → Ordering
+known_cmp a b = nat_cmp a.file b.file
 
-abbrev pub file_order : ℕ → FileRow → Ordering
-file_order file row = nat_cmp file row.file
+abbrev pub known_order : ℕ → KnownFile → Ordering
+known_order file row = nat_cmp file row.file
 
 -- whether a row is that of the file of a number
-abbrev pub is_of : ℕ → FileRow → Bool
-is_of file row = has_key (file_order file) row
+abbrev pub is_known_as : ℕ → KnownFile → Bool
+is_known_as file row = has_key (known_order file) row
 
 -- what is known of the file of a number: nothing of a directory, which has the number 0
-abbrev pub no_file : FileRow
+abbrev pub no_file : KnownFile
 no_file = record { file = 0; actor = 0; command = 0; len = 0 }
 
-abbrev pub known_of : List FileRow → ℕ → FileRow
-known_of files file = look no_file (is_of file) files
+abbrev pub known_of : List KnownFile → ℕ → KnownFile
+known_of files file = look no_file (is_known_as file) files
 
 -- a row of the name tree with what is known of its file, and all rows so
-abbrev pub joined_row : List FileRow → NameRow → TreeRow
+abbrev pub joined_row : List KnownFile → NameRow → TreeRow
 joined_row files row =
     with_maker (λ file. (known_of files file).actor) (λ file. (known_of files file).command)
     (λ file. (known_of files file).len) row
 
-abbrev pub joined : List FileRow → List NameRow → List TreeRow
+abbrev pub joined : List KnownFile → List NameRow → List TreeRow
 joined files rows = map (joined_row files) rows
 
 -- a row of an image's tree as what is known of its file
-abbrev pub file_in : TreeRow → FileRow
-file_in row = record { file = row.file; actor = row.actor; command = row.command; len = row.len }
+abbrev pub known_in : TreeRow → KnownFile
+known_in row = record { file = row.file; actor = row.actor; command = row.command; len = row.len }

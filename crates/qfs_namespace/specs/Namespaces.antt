@@ -10,8 +10,8 @@ use Rattle.qfs_names.specs.Moves.{IsMove}
 use Rattle.qfs_names.specs.Trees.{as_row}
 use Rattle.qfs_names.specs.declared.moving.Moved.{Moved}
 use Rattle.qfs_base.specs.NameTree.{PathNames}
-use Rattle.qfs_namespace.specs.declared.file.FileRow.{FileRow}
-use Rattle.qfs_namespace.specs.Joined.{is_of}
+use Rattle.qfs_namespace.specs.declared.file.KnownFile.{KnownFile}
+use Rattle.qfs_namespace.specs.Joined.{is_known_as}
 
 -- the namespace as its callers see it: the tree, the number of the next file, the file history, and
 -- for how many more directories and files, and entries of the history, there is room
@@ -23,19 +23,19 @@ pub record Namespace : Type 0 where
   pub spare_entries : ℕ
 
 -- files are known by number exactly where they stand in the tree, under numbers that were given out
-pub record IsTied (names : List NameRow) (files : List FileRow) (next : ℕ) : Type 0 where
-  pub stand : (file : ℕ) → list_any (is_of file) files ≡ file_stands file (map as_row names)
+pub record IsTied (names : List NameRow) (files : List KnownFile) (next : ℕ) : Type 0 where
+  pub stand : (file : ℕ) → list_any (is_known_as file) files ≡ file_stands file (map as_row names)
   pub numbers : Each (λ row. row.file < next) files
   pub first : 1 ≤ next
 
 -- both tables have room for what is spare
-pub record HasRoom (spare tree_spare files_spare : ℕ) : Type 0 where
+pub record HasSpare (spare tree_spare files_spare : ℕ) : Type 0 where
   pub names : spare ≤ tree_spare
   pub files : spare ≤ files_spare
 
 -- a change of the tree, with its entry at the end of the history, that takes room for so many
 -- directories and files
-pub record IsWritten (entry : Entry) (rows : List TreeRow) (taken : ℕ) (old new : Namespace) : Type 0 where
+pub record IsRecorded (entry : Entry) (rows : List TreeRow) (taken : ℕ) (old new : Namespace) : Type 0 where
   pub tree : new.tree ≡ rows
   pub history : new.history ≡ old.history ++ entry ∷ []
   pub spare : new.spare + taken ≡ old.spare

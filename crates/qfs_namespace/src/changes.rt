@@ -5,9 +5,9 @@ ghost use Rattle.qfs_base.specs.declared.history.Entry.TheVariants as Wrote;
 ghost use Rattle.qfs_base.specs.NameTree.{add_refusal, look_refusal, rename_refusal, rmdir_refusal};
 ghost use Rattle.qfs_base.specs.Sizes.{LAST_U32};
 ghost use Rattle.qfs_model_meta.specs.TreeRows.{add_row, close_file, directory_row, file_row, move_path, row_at, standing, take_file, take_path, unclosed_file};
-ghost use Rattle.qfs_namespace.specs.Namespaces.{IsMoved, IsWritten};
+ghost use Rattle.qfs_namespace.specs.Namespaces.{IsMoved, IsRecorded};
 
-use crate::file::{ByFile, FileRow};
+use crate::file::{ByFile, KnownFile};
 use crate::namespace::Namespace;
 use qfs_base::history::Entry;
 use qfs_base::numbers::{ActorId, FileId};
@@ -21,7 +21,7 @@ impl Namespace {
         requires entry { entry ≡ Wrote.Mkdir path }
         requires room { 1 ≤ self.old.spare }
         requires entries { 1 ≤ self.old.spare_entries }
-        ensures written { IsWritten entry (add_row (directory_row path) self.old.tree) 1 self.old self.new }
+        ensures written { IsRecorded entry (add_row (directory_row path) self.old.tree) 1 self.old self.new }
         ensures next_file { self.new.next_file ≡ self.old.next_file }
     {
         self.tree.put_directory(path);
@@ -34,7 +34,7 @@ impl Namespace {
         requires empty { rmdir_refusal (standing self.old.tree) path.now ≡ None }
         requires entry { entry ≡ Wrote.Rmdir path.now }
         requires entries { 1 ≤ self.old.spare_entries }
-        ensures written { IsWritten entry (take_path path.now self.old.tree) 0 self.old self.new }
+        ensures written { IsRecorded entry (take_path path.now self.old.tree) 0 self.old self.new }
         ensures next_file { self.new.next_file ≡ self.old.next_file }
     {
         self.tree.form_tree();
@@ -61,13 +61,13 @@ impl Namespace {
         requires number { self.old.next_file < LAST_U32 }
         ensures file { result ≡ self.old.next_file }
         ensures next_file { self.new.next_file ≡ self.old.next_file + 1 }
-        ensures written { IsWritten entry
+        ensures written { IsRecorded entry
             (add_row (file_row path self.old.next_file actor command len) self.old.tree) 1
             self.old self.new }
     {
         let file = self.next_file;
         self.tree.put_file(path, again, file);
-        self.files.insert(FileRow {
+        self.files.insert(KnownFile {
             file,
             actor,
             command,
@@ -84,7 +84,7 @@ impl Namespace {
         requires unclosed { IsSome (unclosed_file actor file self.old.tree) }
         requires entry { entry ≡ Wrote.Closed file actor command }
         requires entries { 1 ≤ self.old.spare_entries }
-        ensures written { IsWritten entry (close_file file self.old.tree) 0 self.old self.new }
+        ensures written { IsRecorded entry (close_file file self.old.tree) 0 self.old self.new }
         ensures next_file { self.new.next_file ≡ self.old.next_file }
     {
         self.tree.form_tree();
@@ -97,7 +97,7 @@ impl Namespace {
         requires unclosed { (actor : ℕ) × IsSome (unclosed_file actor file self.old.tree) }
         requires entry { entry ≡ Wrote.Aborted file }
         requires entries { 1 ≤ self.old.spare_entries }
-        ensures written { IsWritten entry (take_file file self.old.tree) 0 self.old self.new }
+        ensures written { IsRecorded entry (take_file file self.old.tree) 0 self.old self.new }
         ensures next_file { self.new.next_file ≡ self.old.next_file }
     {
         self.tree.form_tree();
@@ -111,7 +111,7 @@ impl Namespace {
         requires closed { look_refusal (standing self.old.tree) path.now ≡ None }
         requires entry { entry ≡ Wrote.Removed path.now }
         requires entries { 1 ≤ self.old.spare_entries }
-        ensures written { IsWritten entry (take_path path.now self.old.tree) 0 self.old self.new }
+        ensures written { IsRecorded entry (take_path path.now self.old.tree) 0 self.old self.new }
         ensures next_file { self.new.next_file ≡ self.old.next_file }
     {
         self.tree.form_tree();
@@ -127,7 +127,7 @@ impl Namespace {
         requires entry { entry ≡ Wrote.Renamed from.now to.now }
         requires room { length moved.rows.items ≤ self.old.spare }
         requires entries { 1 ≤ self.old.spare_entries }
-        ensures written { IsWritten entry (move_path from.now to.now self.old.tree)
+        ensures written { IsRecorded entry (move_path from.now to.now self.old.tree)
             (length moved.rows.items) self.old self.new }
         ensures next_file { self.new.next_file ≡ self.old.next_file }
     {

@@ -1,6 +1,6 @@
 //! What is known of a file, by its number.
 ghost use Rattle.std.specs.Prelude.{◌≡◌};
-ghost use Rattle.qfs_namespace.specs.Joined.{is_of};
+ghost use Rattle.qfs_namespace.specs.Joined.{is_known_as};
 
 use qfs_base::numbers::{ActorId, FileId};
 use qfs_table::{Key, Row, WholeKey};
@@ -8,7 +8,7 @@ use std::cmp::Ordering;
 
 /// A file: the command that made it, and its length in bytes.
 #[derive(Clone, Copy, Drop)]
-pub struct FileRow {
+pub struct KnownFile {
     /// At least 1.
     pub file: FileId,
     pub actor: ActorId,
@@ -16,18 +16,18 @@ pub struct FileRow {
     pub len: u32,
 }
 
-impl Row for FileRow {
+impl Row for KnownFile {
     ghost use Rattle.std.specs.Cmp.{nat_cmp_total, on_total};
-    ghost use Rattle.qfs_namespace.specs.declared.file.FileRow.{FileRow};
-    ghost use Rattle.qfs_namespace.specs.Joined.{file_cmp};
+    ghost use Rattle.qfs_namespace.specs.declared.file.KnownFile.{KnownFile};
+    ghost use Rattle.qfs_namespace.specs.Joined.{known_cmp};
 
-    ghost cmp = { file_cmp };
+    ghost cmp = { known_cmp };
 
     fn cmp_row(&self, other: &Self) -> Ordering {
         self.file.cmp(&other.file)
     }
 
-    ghost total = { on_total (λ (row : FileRow). row.file) nat_cmp_total };
+    ghost total = { on_total (λ (row : KnownFile). row.file) nat_cmp_total };
 }
 
 /// The number of a file as a key.
@@ -36,21 +36,21 @@ pub struct ByFile {
     pub file: FileId,
 }
 
-impl Key<FileRow> for ByFile {
+impl Key<KnownFile> for ByFile {
     ghost use Rattle.std.specs.Cmp.{nat_cmp_total};
-    ghost use Rattle.qfs_namespace.specs.Joined.{file_order};
+    ghost use Rattle.qfs_namespace.specs.Joined.{known_order};
     ghost use Rattle.qfs_table.specs.KeyLaws.{whole_falls};
 
-    ghost order = { λ key row. file_order key.file row };
+    ghost order = { λ key row. known_order key.file row };
 
-    fn order(&self, row: &FileRow) -> Ordering {
+    fn order(&self, row: &KnownFile) -> Ordering {
         self.file.cmp(&row.file)
     }
 
     ghost falls = { λ key a b less. whole_falls nat_cmp_total key.file a.file b.file less };
 }
 
-impl WholeKey<FileRow> for ByFile {
+impl WholeKey<KnownFile> for ByFile {
     ghost use Rattle.std.specs.Cmp.{nat_cmp_total};
     ghost use Rattle.qfs_table.specs.KeyLaws.{whole_alone};
 

@@ -8,5 +8,5 @@ mod file;
 mod namespace;
 mod reading;
 
-pub use file::FileRow;
+pub use file::KnownFile;
 pub use namespace::Namespace;

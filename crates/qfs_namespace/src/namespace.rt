@@ -1,7 +1,7 @@
 //! The namespace, and the room that it keeps for changes.
 ghost use Rattle.std.specs.Prelude.{◌≡◌, ◌≤◌, [], max, IsOk, OnOk, OnErr};
 
-use crate::file::FileRow;
+use crate::file::KnownFile;
 use qfs_base::history::Entry;
 use qfs_base::numbers::FileId;
 use qfs_base::reserved::ReservedList;
@@ -15,7 +15,7 @@ use std::marker::Model;
 #[derive(Drop)]
 pub struct Namespace {
     pub(crate) tree: Tree,
-    pub(crate) files: Table<FileRow>,
+    pub(crate) files: Table<KnownFile>,
     pub(crate) history: ReservedList<Entry>,
     pub(crate) next_file: FileId,
     pub(crate) spare: usize,
@@ -24,7 +24,7 @@ pub struct Namespace {
 impl Model for Namespace {
     ghost use Rattle.std.specs.Prelude.{◌≤◌};
     ghost use Rattle.qfs_namespace.specs.Joined.{joined};
-    ghost use Rattle.qfs_namespace.specs.Namespaces.{Namespace, IsTied, HasRoom};
+    ghost use Rattle.qfs_namespace.specs.Namespaces.{Namespace, IsTied, HasSpare};
 
     ghost Value = { Namespace };
 
@@ -37,7 +37,7 @@ impl Model for Namespace {
     } };
 
     ghost invariant = { λ it. IsTied it.tree.rows it.files.rows it.next_file
-        × HasRoom it.spare it.tree.spare it.files.spare };
+        × HasSpare it.spare it.tree.spare it.files.spare };
 }
 
 impl Namespace {

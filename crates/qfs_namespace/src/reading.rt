@@ -3,10 +3,10 @@ ghost use Rattle.std.specs.Prelude.{◌≡◌, length, None, IfOk, is_some};
 ghost use Rattle.std.specs.Option.{option_map};
 ghost use Rattle.qfs_base.specs.NameTree.{add_refusal, directory_refusal, look_refusal, names_below, rename_refusal, rmdir_refusal};
 ghost use Rattle.qfs_model_meta.specs.TreeRows.{closed_file, file_stands, row_at, standing, unclosed_file};
-ghost use Rattle.qfs_namespace.specs.Joined.{file_in, known_of};
+ghost use Rattle.qfs_namespace.specs.Joined.{known_in, known_of};
 ghost use Rattle.qfs_namespace.specs.Namespaces.{IsMoved};
 
-use crate::file::{ByFile, FileRow};
+use crate::file::{ByFile, KnownFile};
 use crate::namespace::Namespace;
 use qfs_base::history::Entry;
 use qfs_base::lists::Names;
@@ -18,7 +18,7 @@ use qfs_table::Table;
 use std::alloc::AllocError;
 
 /// Nothing is known of a directory.
-const NO_FILE: FileRow = FileRow {
+const NO_FILE: KnownFile = KnownFile {
     file: 0,
     actor: 0,
     command: 0,
@@ -26,7 +26,7 @@ const NO_FILE: FileRow = FileRow {
 };
 
 /// What is known of a file, and nothing where it isn't known.
-fn known(files: &Table<FileRow>, file: FileId) -> FileRow
+fn known(files: &Table<KnownFile>, file: FileId) -> KnownFile
     ensures { result ≡ known_of files.now.rows file }
 {
     match files.get(&ByFile { file }) {
@@ -93,15 +93,15 @@ impl Namespace {
 
     /// The file at a path with what is known of it; all is 0 where a directory or nothing stands
     /// there.
-    pub fn file_at(&self, path: &Path) -> FileRow
-        ensures { result ≡ file_in (row_at self.now.tree path.now) }
+    pub fn file_at(&self, path: &Path) -> KnownFile
+        ensures { result ≡ known_in (row_at self.now.tree path.now) }
     {
         known(&self.files, self.tree.file_at(path))
     }
 
     /// A file that an actor made and hasn't closed, or None.
-    pub fn unclosed_file(&self, actor: ActorId, file: FileId) -> Option<FileRow>
-        ensures { result ≡ option_map file_in (unclosed_file actor file self.now.tree) }
+    pub fn unclosed_file(&self, actor: ActorId, file: FileId) -> Option<KnownFile>
+        ensures { result ≡ option_map known_in (unclosed_file actor file self.now.tree) }
     {
         if self.tree.unclosed_path(file).is_none() {
             return None;
@@ -111,8 +111,8 @@ impl Namespace {
     }
 
     /// A closed file, or None.
-    pub fn closed_file(&self, file: FileId) -> Option<FileRow>
-        ensures { result ≡ option_map file_in (closed_file file self.now.tree) }
+    pub fn closed_file(&self, file: FileId) -> Option<KnownFile>
+        ensures { result ≡ option_map known_in (closed_file file self.now.tree) }
     {
         self.tree.form_tree();
         if self.tree.unclosed_path(file).is_some() {

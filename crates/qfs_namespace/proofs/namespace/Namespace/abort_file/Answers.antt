@@ -5,7 +5,7 @@ use Rattle.qfs_names.specs.Names as names
 use Rattle.qfs_names.specs.declared.row.NameRow.{NameRow}
 use Rattle.qfs_namespace.specs.Joined.{joined}
 use Rattle.qfs_namespace.specs.Namespaces.{IsTied, Namespace}
-use Rattle.qfs_namespace.specs.declared.file.FileRow.{FileRow}
+use Rattle.qfs_namespace.specs.declared.file.KnownFile.{KnownFile}
 use Rattle.qfs_namespace.proofs.FindLaws.{open-some, open-there}
 use Rattle.qfs_namespace.proofs.JoinLaws.{joined-gone, joined-without_file, written-from}
 use Rattle.qfs_namespace.proofs.TieLaws.{aborted-rows, tied-aborted}
@@ -30,7 +30,7 @@ invariant_of-self c =
     let tie = c.self.invariant.0 in
     let room = c.self.invariant.1 in (
       subst (λ (more : List NameRow). IsTied more c.remove.new.self.rows next) (sym c.take.ensures.rows)
-          (subst (λ (left : List FileRow). IsTied (names.take_file c.args.file rows) left next)
+          (subst (λ (left : List KnownFile). IsTied (names.take_file c.args.file rows) left next)
           (sym c.remove.ensures.rows)
           (tied-aborted rows files next tie c.form_tree.ensures c.args.file)),
       record {

@@ -5,7 +5,7 @@ use Rattle.qfs_names.specs.Names as names
 use Rattle.qfs_names.specs.declared.row.NameRow.{NameRow}
 use Rattle.qfs_namespace.specs.Joined.{joined}
 use Rattle.qfs_namespace.specs.Namespaces.{IsTied, Namespace}
-use Rattle.qfs_namespace.specs.declared.file.FileRow.{FileRow}
+use Rattle.qfs_namespace.specs.declared.file.KnownFile.{KnownFile}
 use Rattle.qfs_namespace.proofs.JoinLaws.{as-rows, joined-file, standing-joined, written-from}
 use Rattle.qfs_namespace.proofs.TieLaws.{fresh-rows, tied-file}
 use Rattle.qfs_namespace.proofs.namespace.Namespace.add_file.Goals as goal
@@ -37,13 +37,13 @@ invariant_of-self c =
     let free = ap (λ s. add_refusal s c.args.path)
     (standing-joined c.self.inside.files.rows c.self.inside.tree.rows
     ∙ ap (λ (n : Namespace). image.standing n.tree) c.self.view_is) ∙ c.requires.free in
-    let new : FileRow = record { file = next; actor = c.args.actor; command = c.args.command; len = c.args.len } in
+    let new : KnownFile = record { file = next; actor = c.args.actor; command = c.args.command; len = c.args.len } in
     let room = c.self.invariant.1 in
     let some : 1 ≤ c.self.inside.spare =
     subst (λ (n : Namespace). 1 ≤ n.spare) (sym c.self.view_is) c.requires.room in (
       subst (λ (more : List NameRow). IsTied more c.insert.new.self.rows (next + 1))
           (sym c.put_file.ensures.rows)
-          (subst (λ (known : List FileRow). IsTied (added names.row_path (names.file_at c.args.path next) rows) known (next + 1))
+          (subst (λ (known : List KnownFile). IsTied (added names.row_path (names.file_at c.args.path next) rows) known (next + 1))
           (sym c.insert.ensures.rows)
           (tied-file rows files next tie c.args.path new
           (as-rows (λ s. add_refusal s c.args.path ≡ None) rows free) refl tie.first)),
@@ -59,7 +59,7 @@ returns-clause-written c =
     let files = c.self.inside.files.rows in
     let next = c.self.inside.next_file in
     let tie = c.self.invariant.0 in
-    let new : FileRow = record { file = next; actor = c.args.actor; command = c.args.command; len = c.args.len } in
+    let new : KnownFile = record { file = next; actor = c.args.actor; command = c.args.command; len = c.args.len } in
     let some : 1 ≤ c.self.inside.spare =
     subst (λ (n : Namespace). 1 ≤ n.spare) (sym c.self.view_is) c.requires.room in
     written-from c.args.entry

@@ -5,7 +5,7 @@ use Rattle.qfs_names.specs.Names as names
 use Rattle.qfs_names.specs.declared.row.NameRow.{NameRow}
 use Rattle.qfs_namespace.specs.Joined.{joined}
 use Rattle.qfs_namespace.specs.Namespaces.{IsTied, Namespace}
-use Rattle.qfs_namespace.specs.declared.file.FileRow.{FileRow}
+use Rattle.qfs_namespace.specs.declared.file.KnownFile.{KnownFile}
 use Rattle.qfs_namespace.proofs.FindLaws.{at-as, looked-number}
 use Rattle.qfs_namespace.proofs.JoinLaws.{as-rows, joined-gone, joined-taken, standing-joined, written-from}
 use Rattle.qfs_namespace.proofs.TieLaws.{removed-rows, tied-removed}
@@ -32,7 +32,7 @@ invariant_of-self c =
     let room = c.self.invariant.1 in (
       subst (λ (more : List NameRow). IsTied more c.remove.new.self.rows next)
           (sym c.take_closed-file.ensures.rows)
-          (subst (λ (left : List FileRow). IsTied (taken names.row_path c.args.path.now rows) left next)
+          (subst (λ (left : List KnownFile). IsTied (taken names.row_path c.args.path.now rows) left next)
           (sym c.remove.ensures.rows)
           (tied-removed rows files next tie c.form_tree.ensures c.args.path.now
           c.take_closed-file.result looks own)),
