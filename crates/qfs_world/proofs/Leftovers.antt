@@ -1,5 +1,5 @@
 -- Keys of no copy: each is one that a failed Put left.
-use Rattle.std.proofs.Common.{◌≡◌, ℕ, suc, zero, ◌+◌, ◌<◌, Bool, true, false, cond, List, [], ◌∷◌, ◌++◌, length, drop, Option, Some, None, refl, sym, ◌∙◌, ap, subst, arith, slice_get, slice_set, true≢false, eqb-true, eq-eqb, ◌⊎◌, inl, inr}
+use Rattle.std.proofs.Common.{◌≡◌, ℕ, ◌+◌, ◌<◌, Bool, true, false, cond, List, [], ◌∷◌, ◌++◌, length, drop, Option, Some, None, refl, sym, ◌∙◌, ap, subst, arith, slice_get, true≢false, ◌⊎◌, inl, inr}
 use Rattle.std.specs.Prelude.{◌==◌, ◌&&◌, ◌||◌, not, is_some, ⊤}
 use Rattle.std.specs.List.{list_any}
 use Rattle.std.specs.Option.{option_map}
@@ -11,47 +11,57 @@ use Rattle.qfs_base.specs.Key.{key_cmp}
 use Rattle.qfs_base.specs.KeyLaws.{key_cmp_total}
 use Rattle.qfs_base.specs.KeyMap.{value_at, has_key, with_entry}
 use Rattle.qfs_base.specs.KeyMapLaws.{value_at-with_entry}
+use Rattle.qfs_base.specs.ListLaws.{slice_get-last, slice_get-more}
 use Rattle.qfs_base.specs.Outcome.{chunk_outcome}
 use Rattle.qfs_base.specs.declared.chunk.ChunkKey.{ChunkKey}
-use Rattle.qfs_base.specs.declared.history.Outcome.{Outcome}
 use Rattle.qfs_base.specs.declared.history.Outcome.TheVariants as Ended
 use Rattle.qfs_base.specs.declared.reply.ChunkAnswer.{ChunkAnswer}
 use Rattle.qfs_base.specs.declared.reply.ChunkAnswer.TheVariants as Did
 use Rattle.qfs_base.specs.declared.reply.ChunkReply.{ChunkReply}
-use Rattle.qfs_base.specs.declared.reply.NodeReply.{NodeReply}
 use Rattle.qfs_base.specs.declared.reply.NodeReply.TheVariants as From
 use Rattle.qfs_base.specs.declared.request.ChunkRequest.{ChunkRequest}
 use Rattle.qfs_base.specs.declared.request.ChunkRequest.TheVariants as Serve
-use Rattle.qfs_base.specs.declared.request.MetaRequest.{MetaRequest}
 use Rattle.qfs_base.specs.declared.request.NodeRequest.TheVariants as To
 use Rattle.qfs_device.specs.Held.{Held, IsProperPrefix, IsTorn, chunk_at, holding, leaving}
 use Rattle.qfs_machine.specs.Askable.{IsAskedOfServer}
 use Rattle.qfs_model_headline.specs.Nodes.{IsLeftBy, HoldsNoOther, is_wiped, wiped_at}
 use Rattle.qfs_model_server.specs.Chunk.{Chunk}
-use Rattle.qfs_model_server.specs.Server.{Server, refuse, unless_away, chunk_refusal, chunk_served, chunk_attempted, chunk_decided, server_step, written}
+use Rattle.qfs_model_server.specs.Server.{Server, refuse, written}
 use Rattle.qfs_model_world.specs.Events.{Event}
 use Rattle.qfs_model_world.specs.World.{numbered}
 use Rattle.qfs_record.specs.ChunkRecord.{chunk_record}
 use Rattle.qfs_store.proofs.KeyLaws.{absent_key, known_there, same_key, same_key-is}
-use Rattle.qfs_store.proofs.StandsLaws.{left_at, refusal_is}
-use Rattle.qfs_store.specs.Known.{Known, Sizes, refusal, size_of}
-use Rattle.qfs_store.specs.Serves.{Answers, Does, FetchLeaves, IsLife, PutLeaves, Serves}
+use Rattle.qfs_store.proofs.StandsLaws.{left_at}
+use Rattle.qfs_store.specs.Known.{Known, Sizes, refusal, size_of, unless_away}
+use Rattle.qfs_store.specs.Serves.{Answers, Does, FetchLeaves, PutLeaves, Serves}
 use Rattle.qfs_store.specs.Stored.{Stored, StandsOn}
 use Rattle.qfs_store.specs.declared.copies.CopySize.{CopySize}
-use Rattle.qfs_world.specs.Follows.{HoldNoOthers}
-use Rattle.qfs_nodes.specs.Turns.{no_server}
-use Rattle.qfs_world.proofs.Lists.{get-set-other}
+
+-- ---- a refusal is no failure, and empties no server
+
+abbrev pub MayRefuse : Option ChunkAnswer → Type 0
+MayRefuse None = ⊤
+MayRefuse (Some answer) = (chunk_outcome answer ≡ Ended.Done) × (is_wiped answer ≡ false)
+
+refuse-may : (test : Bool) (answer : ChunkAnswer) (other : Option ChunkAnswer) → MayRefuse (Some answer) → MayRefuse other → MayRefuse (refuse test answer other)
+refuse-may true answer other may more = may
+refuse-may false answer other may more = more
+
+away-may : (known : Known) (now life : ℕ) (other : Option ChunkAnswer) → MayRefuse other → MayRefuse (unless_away known now life other)
+unfolding chunk_outcome is_wiped
+away-may known now life other more =
+    refuse-may (not known.up) Did.Down _ (refl, refl) (refuse-may (not (life == now)) (Did.Lost life now) other (refl, refl) more)
+
+pub may_refuse : (known : Known) (now : ℕ) (request : ChunkRequest) → MayRefuse (refusal known now request)
+unfolding chunk_outcome is_wiped
+may_refuse known now (Serve.Put key life bytes) = away-may known now life _ (refuse-may _ Did.Held None (refl, refl) tt)
+may_refuse known now (Serve.Fetch key life from room) = away-may known now life _ (refuse-may _ Did.Absent None (refl, refl) tt)
+may_refuse known now (Serve.Erase key life) = away-may known now life _ (refuse-may _ Did.Absent None (refl, refl) tt)
+may_refuse known now Serve.Inventory = refuse-may _ Did.Down None (refl, refl) tt
+may_refuse known now Serve.Upgrade = refuse-may _ Did.Down None (refl, refl) tt
+may_refuse known now request = tt
 
 -- ---- what was left stays so in one step more
-
-get-front : {X : Type 0} (xs ys : List X) (i : ℕ) (x : X) → slice_get xs i ≡ Some x → slice_get (xs ++ ys) i ≡ Some x
-get-front [] ys i x e = absurd (cc)
-get-front (z ∷ zs) ys zero x e = e
-get-front (z ∷ zs) ys (suc i) x e = get-front zs ys i x e
-
-get-seam : {X : Type 0} (xs : List X) (x : X) → slice_get (xs ++ x ∷ []) (length xs) ≡ Some x
-get-seam [] x = refl
-get-seam (z ∷ zs) x = get-seam zs x
 
 none-before : (a b : Bool) → not a ≡ true → b ≡ false → not (a || (b || false)) ≡ true
 none-before true b e f = absurd (true≢false (sym e))
@@ -74,7 +84,7 @@ left-longer stripe steps event number key found stays left =
       life = left.life;
       bytes = left.bytes;
       server = left.server;
-      at = get-front steps (event ∷ []) left.i left.event left.at;
+      at = slice_get-more steps (event ∷ []) left.i left.event left.at;
       put = left.put;
       by = left.by;
       failed = left.failed;
@@ -97,7 +107,7 @@ left-now stripe steps event number key life bytes found server put by failed par
       life = life;
       bytes = bytes;
       server = server;
-      at = get-seam steps event;
+      at = slice_get-last steps event;
       put = put;
       by = by;
       failed = failed;
@@ -105,75 +115,10 @@ left-now stripe steps event number key life bytes found server put by failed par
       part = part;
     }
 
-pub no-other-longer : (stripe : ℕ) (steps : List Event) (event : Event) (number : ℕ) (held : Held) (server : Server) → wipes number event ≡ false
+pub no_other-longer : (stripe : ℕ) (steps : List Event) (event : Event) (number : ℕ) (held : Held) (server : Server) → wipes number event ≡ false
     → HoldsNoOther stripe steps number held server → HoldsNoOther stripe (steps ++ event ∷ []) number held server
-no-other-longer stripe steps event number held server stays none key found absent there =
+no_other-longer stripe steps event number held server stays none key found absent there =
     left-longer stripe steps event number key found stays (none key found absent there)
-
--- ---- a Wipe alone empties a server
-
-abbrev IsKept : Option ChunkAnswer → Type 0
-IsKept None = ⊤
-IsKept (Some answer) = is_wiped answer ≡ false
-
-refuse-kept : (test : Bool) (answer : ChunkAnswer) (other : Option ChunkAnswer) → is_wiped answer ≡ false → IsKept other
-    → IsKept (refuse test answer other)
-refuse-kept true answer other kept more = kept
-refuse-kept false answer other kept more = more
-
-away-kept : (server : Server) (life : ℕ) (other : Option ChunkAnswer) → IsKept other → IsKept (unless_away server life other)
-unfolding unless_away is_wiped
-away-kept server life other kept =
-    refuse-kept (not server.up) Did.Down _ refl (refuse-kept (not (life == server.life)) (Did.Lost life server.life) other refl kept)
-
-refusal-kept : (server : Server) (request : ChunkRequest) → IsKept (chunk_refusal server request)
-unfolding chunk_refusal is_wiped
-refusal-kept server (Serve.Put key life bytes) = away-kept server life _ (refuse-kept _ Did.Held None refl tt)
-refusal-kept server (Serve.Fetch key life from room) = away-kept server life _ (refuse-kept _ Did.Absent None refl tt)
-refusal-kept server (Serve.Erase key life) = away-kept server life _ (refuse-kept _ Did.Absent None refl tt)
-refusal-kept server Serve.Stop = tt
-refusal-kept server Serve.Start = tt
-refusal-kept server Serve.Wipe = tt
-refusal-kept server Serve.Inventory = refuse-kept _ Did.Down None refl tt
-refusal-kept server Serve.Upgrade = refuse-kept _ Did.Down None refl tt
-
-abbrev pub KeepsUnlessWipe : ChunkRequest → ChunkAnswer → Type 0
-KeepsUnlessWipe Serve.Wipe answer = ⊤
-KeepsUnlessWipe _ answer = is_wiped answer ≡ false
-
-unless-wipe : (request : ChunkRequest) (answer : ChunkAnswer) → is_wiped answer ≡ false → KeepsUnlessWipe request answer
-unless-wipe Serve.Wipe answer kept = tt
-unless-wipe _ answer kept = kept
-
-served-kept : (server : Server) (request : ChunkRequest) → KeepsUnlessWipe request (chunk_served server request).reply.answer
-unfolding chunk_served is_wiped
-served-kept server (Serve.Put key life bytes) = refl
-served-kept server (Serve.Fetch key life from room) = refl
-served-kept server (Serve.Erase key life) = refl
-served-kept server Serve.Stop = refl
-served-kept server Serve.Start = refl
-served-kept server Serve.Wipe = tt
-served-kept server Serve.Inventory = refl
-served-kept server Serve.Upgrade = refl
-
-attempted-kept : (server : Server) (request : ChunkRequest) (outcome : Outcome)
-    → KeepsUnlessWipe request (chunk_attempted server request outcome).reply.answer
-unfolding chunk_attempted is_wiped
-attempted-kept server request Ended.Done = served-kept server request
-attempted-kept server request Ended.Failed = unless-wipe request Did.Fault refl
-attempted-kept server request Ended.NoMemory = unless-wipe request Did.NoMemory refl
-
-decided-kept : (server : Server) (request : ChunkRequest) (outcome : Outcome) (refusal : Option ChunkAnswer) → IsKept refusal
-    → KeepsUnlessWipe request (chunk_decided server request outcome refusal).reply.answer
-unfolding chunk_decided
-decided-kept server request outcome None kept = attempted-kept server request outcome
-decided-kept server request outcome (Some answer) kept = unless-wipe request answer kept
-
-pub step-kept : (request : ChunkRequest) (outcome : Outcome) (server : Server)
-    → KeepsUnlessWipe request (server_step request outcome server).reply.answer
-unfolding server_step
-step-kept request outcome server =
-    decided-kept server request outcome (chunk_refusal server request) (refusal-kept server request)
 
 -- ---- how it came to stand under a key of no copy
 
@@ -303,34 +248,21 @@ came-done (Serve.Put key life bytes) reply before after held held' q found asked
 came-done (Serve.Fetch key life from room) reply before after held held' q found asked does was now absent there =
     came-fetch key life room before.stripe before.known after.known.copies held held' q found absent there before.told after.told was now
     does.1.0 from (length room) reply.room reply.answer does.1.2 (ap (λ (k : Known). k.copies) does.0)
-came-done (Serve.Erase key life) reply before after held held' q found asked does was now absent there = absurd asked
-came-done Serve.Stop reply before after held held' q found asked does was now absent there = absurd asked
-came-done Serve.Start reply before after held held' q found asked does was now absent there = absurd asked
-came-done Serve.Wipe reply before after held held' q found asked does was now absent there = absurd asked
-came-done Serve.Inventory reply before after held held' q found asked does was now absent there = absurd asked
-came-done Serve.Upgrade reply before after held held' q found asked does was now absent there = absurd asked
+came-done request reply before after held held' q found asked does was now absent there = absurd asked
 
 came-by : (request : ChunkRequest) (reply : ChunkReply) (before after : Stored) (held held' : Held) (q : ChunkKey) (found : List ℕ)
-    → IsAskedOfServer request → (due : Option ChunkAnswer) → IsKept due → Answers request reply before after due
+    → IsAskedOfServer request → (due : Option ChunkAnswer) → MayRefuse due → Answers request reply before after due
     → before.told ≡ Some held → after.told ≡ Some held'
     → has_key key_cmp after.known.copies q ≡ false → chunk_at held' q ≡ Some found
     → CameSo before.stripe before.known request reply.answer held q found
-came-by request reply before after held held' q found asked (Some answer) kept answers was now absent there =
+came-by request reply before after held held' q found asked (Some answer) may answers was now absent there =
     idle before.stripe before.known request reply.answer held held' q found
-    (ap (λ (r : ChunkReply). is_wiped r.answer) answers.0 ∙ kept) after.known.copies absent there
+    (ap (λ (r : ChunkReply). is_wiped r.answer) answers.0 ∙ may.1) after.known.copies absent there
     (ap (λ (s : Stored). s.known.copies) answers.1)
     (ap (λ (h : Held). chunk_at h q)
     (same-now before.told after.told held held' (ap (λ (s : Stored). s.told) answers.1) was now))
-came-by request reply before after held held' q found asked None kept answers was now absent there =
+came-by request reply before after held held' q found asked None may answers was now absent there =
     came-done request reply before after held held' q found asked answers.does was now absent there
-
--- the refusal that is due is that of the server
-due-kept : (stripe : ℕ) (held : Held) (known : Known) (server : Server) (request : ChunkRequest) (now : ℕ) → now ≡ held.life
-    → StandsOn stripe held known server → IsKept (refusal known now request)
-due-kept stripe held known server request now is stands =
-    subst IsKept
-    (sym (ap (λ n. refusal known n request) is ∙ refusal_is stripe held known server request stands))
-    (refusal-kept server request)
 
 -- ---- a step of the server
 
@@ -345,7 +277,7 @@ unfolding wiped_at
 wiped-there number event server request answer asked told =
     ap (λ r. wiped_at number r event.request) told ∙ ap (wiped_at number (From.Chunk answer)) asked
 
-pub no-other-after : (stripe : ℕ) (steps : List Event) (event : Event) (number : ℕ) (request : ChunkRequest) (answer : ChunkReply) (server server' : Server)
+pub no_other-after : (stripe : ℕ) (steps : List Event) (event : Event) (number : ℕ) (request : ChunkRequest) (answer : ChunkReply) (server server' : Server)
     (before after : Stored) (held held' : Held)
     → IsAskedOfServer request → event.request ≡ To.Chunk number request → event.outcome ≡ chunk_outcome answer.answer
     → event.reply ≡ From.Chunk answer → numbered event.before.servers number ≡ Some server
@@ -353,11 +285,8 @@ pub no-other-after : (stripe : ℕ) (steps : List Event) (event : Event) (number
     → StandsOn stripe held before.known server → StandsOn stripe held' after.known server'
     → Serves request answer before after
     → HoldsNoOther stripe steps number held server → HoldsNoOther stripe (steps ++ event ∷ []) number held' server'
-no-other-after stripe steps event number request answer server server' before after held held' askable asked ended told by of was now stands stands' serves none key found absent there =
-    let life : serves.now ≡ held.life =
-    (subst (λ (t : Option Held). IsLife serves.now t) was serves.life) in
-    let kept : IsKept (refusal before.known serves.now request) = due-kept stripe held before.known server request serves.now life stands in
-    let came = came-by request answer before after held held' key found askable _ kept serves.answers was now
+no_other-after stripe steps event number request answer server server' before after held held' askable asked ended told by of was now stands stands' serves none key found absent there =
+    let came = came-by request answer before after held held' key found askable _ (may_refuse before.known serves.now request) serves.answers was now
     (known_there after.known.copies server'.copies key stands'.copies ∙ ap is_some absent) there in
     elim came [
       | inl stood ↦
@@ -371,62 +300,3 @@ no-other-after stripe steps event number request answer server server' before af
           (subst (λ f. IsProperPrefix found (chunk_record before.stripe key (record { form = f; bytes = left.bytes }))) stands.form left.part))
     ]
 
--- ---- all servers
-
--- a step at the metaserver empties no server
-pub meta-empties : (reply : NodeReply) (request : MetaRequest) (number : ℕ) → wiped_at number reply (To.Meta request) ≡ false
-unfolding wiped_at
-meta-empties (From.Chunk reply) request number = refl
-meta-empties (From.Meta reply) request number = refl
-
--- nor does one at a server that isn't there
-pub down-empties : (server : ℕ) (request : ChunkRequest) (number : ℕ) → wiped_at number no_server (To.Chunk server request) ≡ false
-unfolding wiped_at is_wiped
-down-empties server request number = and-none (server == number) false refl
-
-differs : (a b : ℕ) (same : Bool) → (a == b) ≡ same → (b ≡ a → ⊥) → same ≡ false
-differs a b true at apart = absurd (apart (sym (eqb-true a b at)))
-differs a b false at apart = refl
-
--- and one at a server empties no other
-other-empties : (event : Event) (server : ℕ) (request : ChunkRequest) (answer : ChunkReply) (number : ℕ)
-    → event.request ≡ To.Chunk server request → event.reply ≡ From.Chunk answer → (number ≡ server → ⊥) → wipes number event ≡ false
-other-empties event server request answer number asked told apart =
-    wiped-there number event server request answer asked told
-    ∙ ap (λ b. b && is_wiped answer.answer) (differs server number (server == number) refl apart)
-
-pub no-others-longer : (stripe : ℕ) (steps : List Event) (event : Event) (stores : List Stored) (servers : List Server)
-    → ((number : ℕ) → wipes number event ≡ false) → HoldNoOthers stripe steps stores servers → HoldNoOthers stripe (steps ++ event ∷ []) stores servers
-no-others-longer stripe steps event stores servers stays none number stored server held of to told =
-    no-other-longer stripe steps event number held server (stays number) (none number stored server held of to told)
-
-got-set : {X : Type 0} (xs : List X) (k : ℕ) (x y : X) → slice_get (slice_set xs k x) k ≡ Some y → x ≡ y
-got-set [] k x y e = absurd (cc)
-got-set (z ∷ zs) zero x y e = cc
-got-set (z ∷ zs) (suc k) x y e = got-set zs k x y e
-
--- a step at a server: its device holds no others behind it, and the other devices are as they were
-pub no-others-set : (stripe : ℕ) (steps : List Event) (event : Event) (stores : List Stored) (servers : List Server) (place : ℕ) (next : Stored) (server : Server)
-    (request : ChunkRequest) (answer : ChunkReply)
-    → event.request ≡ To.Chunk (suc place) request → event.reply ≡ From.Chunk answer
-    → ((held : Held) → next.told ≡ Some held → HoldsNoOther stripe (steps ++ event ∷ []) (suc place) held server)
-    → HoldNoOthers stripe steps stores servers → HoldNoOthers stripe (steps ++ event ∷ []) (slice_set stores place next) (slice_set servers place server)
-unfolding numbered
-no-others-set stripe steps event stores servers place next server request answer asked told own none zero stored other held of to is = absurd (cc)
-no-others-set stripe steps event stores servers place next server request answer asked told own none (suc k) stored other held of to is =
-    by (k == place) refl
-  where
-    by : (same : Bool) → (k == place) ≡ same → HoldsNoOther stripe (steps ++ event ∷ []) (suc k) held other
-    by true at =
-        let here : k ≡ place = eqb-true k place at in
-        let of_next : next ≡ stored = got-set stores place next stored (ap (slice_get (slice_set stores place next)) (sym here) ∙ of) in
-        let of_server : server ≡ other = got-set servers place server other (ap (slice_get (slice_set servers place server)) (sym here) ∙ to) in
-        subst (λ n. HoldsNoOther stripe (steps ++ event ∷ []) (suc n) held other) (sym here)
-        (subst (HoldsNoOther stripe (steps ++ event ∷ []) (suc place) held) of_server (own held (ap (λ (s : Stored). s.told) of_next ∙ is)))
-    by false at =
-        let apart : k ≡ place → ⊥ = λ here. true≢false (sym (eq-eqb k place here) ∙ at) in
-        let apart' : suc k ≡ suc place → ⊥ = λ here. apart (omega (arith, here)) in
-        no-other-longer stripe steps event (suc k) held other
-        (other-empties event (suc place) request answer (suc k) asked told apart')
-        (none (suc k) stored other held
-        (sym (get-set-other stores place k next apart) ∙ of) (sym (get-set-other servers place k server apart) ∙ to) is)
