@@ -42,7 +42,8 @@ module _ {D : Type 0} where
       (order : List Step) (came behind : List D) : Type 0 where
     pub stand : StandAfter told script order came behind
     pub faults_show : (left right : ℕ)
-        → FaultsShow script order (counts_of faults came left right) (counts_of faults behind left right)
+        → FaultsShow script order (counts_of faults came left right)
+        (counts_of faults behind left right)
 
   -- the text of a script and of an order that fits it, is whole and is drawn from a number, in
   -- which every step came out done; and what the run leaves on the devices. In this order there is

@@ -1,5 +1,5 @@
 -- Keys of no copy: each is one that a failed Put left.
-use Rattle.std.proofs.Common.{◌≡◌, ℕ, ◌+◌, ◌<◌, Bool, true, false, cond, List, [], ◌∷◌, ◌++◌, length, drop, Option, Some, None, refl, sym, ◌∙◌, ap, subst, arith, slice_get, true≢false, ◌⊎◌, inl, inr}
+use Rattle.std.proofs.Common.{◌≡◌, ℕ, ◌+◌, ◌<◌, Bool, true, false, cond, List, [], ◌∷◌, ◌++◌, length, drop, Option, Some, None, refl, sym, ◌∙◌, ap, subst, arith, true≢false, ◌⊎◌, inl, inr}
 use Rattle.std.specs.Prelude.{◌==◌, ◌&&◌, ◌||◌, not, is_some, ⊤}
 use Rattle.std.specs.List.{list_any}
 use Rattle.std.specs.Option.{option_map}
@@ -299,4 +299,3 @@ no_other-after stripe steps event number request answer server server' before af
           (subst (λ f. IsProperPrefix found (chunk_record f key (written server left.bytes))) of
           (subst (λ f. IsProperPrefix found (chunk_record before.stripe key (record { form = f; bytes = left.bytes }))) stands.form left.part))
     ]
-

@@ -1,5 +1,5 @@
 -- Places in lists, and what stands at a number.
-use Rattle.std.proofs.Common.{◌≡◌, ℕ, suc, zero, ◌+◌, ◌≤◌, Bool, true, false, List, [], ◌∷◌, length, take, drop, Some, None, refl, sym, ◌∙◌, ap, subst, arith, eqb-true, eq-eqb, true≢false, slice_get, slice_set, ◌⊎◌, inl, inr}
+use Rattle.std.proofs.Common.{◌≡◌, ℕ, suc, zero, ◌+◌, ◌<◌, ◌≤◌, Bool, true, false, List, [], ◌∷◌, length, take, drop, Some, None, refl, sym, ◌∙◌, ap, subst, arith, eqb-true, eq-eqb, true≢false, slice_get, slice_set, ◌⊎◌, inl, inr}
 use Rattle.std.specs.Prelude.{map, ◌==◌, All}
 use Rattle.std.proofs.lemmas.List.{set-get_or}
 use Rattle.std.proofs.lemmas.Option.{get_or_from_slice_get, same_Some, slice_get_past, slice_get_within}
@@ -38,6 +38,12 @@ pub past-end : {X : Type 0} (xs : List X) (k : ℕ) → slice_get xs k ≡ None 
 past-end [] k e = omega arith
 past-end (x ∷ xs) zero e = absurd (cc)
 past-end (x ∷ xs) (suc k) e = let rest = past-end xs k e in omega (arith, rest)
+
+-- at every place of a list something stands
+pub there-below : {X : Type 0} (xs : List X) (k : ℕ) → k < length xs → (x : X) × (slice_get xs k ≡ Some x)
+there-below [] k below = absurd (omega (arith, below))
+there-below (x ∷ xs) zero below = (x, refl)
+there-below (x ∷ xs) (suc k) below = there-below xs k (omega (arith, below))
 
 -- what a mapped list has at a place comes of what stands there
 pub record Unmapped {X Y : Type 0} (f : X → Y) (xs : List X) (k : ℕ) (y : Y) : Type 0 where

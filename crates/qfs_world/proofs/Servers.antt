@@ -1,6 +1,6 @@
 -- A server through a step: its store goes on to stand for it, whether the step is one there or at another node.
-use Rattle.std.proofs.Common.{◌≡◌, ℕ, ◌+◌, ◌-◌, ◌<◌, ◌≤◌, Bool, true, false, cond, List, [], ◌∷◌, ◌++◌, Option, Some, None, refl, sym, ◌∙◌, ap, subst, arith, eq-eqb, inl, inr}
-use Rattle.std.specs.Prelude.{◌==◌, ◌&&◌, not, ⊤}
+use Rattle.std.proofs.Common.{◌≡◌, ℕ, ◌+◌, ◌-◌, ◌<◌, ◌≤◌, false, cond, List, [], ◌∷◌, ◌++◌, Option, Some, None, refl, sym, ◌∙◌, ap, subst, arith, eq-eqb, inl, inr}
+use Rattle.std.specs.Prelude.{◌&&◌}
 use Rattle.std.proofs.lemmas.List.Sums.{sum_by-append, sum_by-cons}
 use Rattle.qfs_base.specs.Outcome.{chunk_outcome}
 use Rattle.qfs_base.specs.Sizes.{LAST_U64}
@@ -19,7 +19,7 @@ use Rattle.qfs_device.specs.Fault.{RoseOnce}
 use Rattle.qfs_device.specs.Held.{Held}
 use Rattle.qfs_machine.specs.Askable.{IsAskedOfServer}
 use Rattle.qfs_model_actor.specs.Work.{node_of_request}
-use Rattle.qfs_model_headline.specs.Nodes.{HoldsNoOther, is_wiped, wiped_at}
+use Rattle.qfs_model_headline.specs.Nodes.{is_wiped, wiped_at}
 use Rattle.qfs_model_server.specs.Server.{Server, chunk_refusal, chunk_served, chunk_attempted, chunk_decided, server_step}
 use Rattle.qfs_model_store.specs.Stands.{kept, HandsOut}
 use Rattle.qfs_model_text.specs.Order.{same_outcome}

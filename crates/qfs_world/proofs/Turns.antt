@@ -4,7 +4,7 @@ use Rattle.std.specs.Prelude.{◌==◌, map, nat_lt, if◌then◌else◌, option
 use Rattle.std.specs.List.{AllZip, list_any}
 use Rattle.std.proofs.lemmas.List.{length-map, map-set}
 use Rattle.std.proofs.lemmas.Option.{same_Some, slice_get_within, slice_get-map}
-use Rattle.qfs_base.specs.Outcome.{outcome_of, meta_outcome, chunk_outcome}
+use Rattle.qfs_base.specs.Outcome.{outcome_of, chunk_outcome}
 use Rattle.qfs_base.specs.Rules.{rules_of}
 use Rattle.qfs_base.specs.declared.chunk.ChunkKey.{ChunkKey}
 use Rattle.qfs_base.specs.declared.history.Outcome.{Outcome}
@@ -29,7 +29,7 @@ use Rattle.qfs_machine.specs.Askable.{IsAskable, IsAskedOfServer}
 use Rattle.qfs_meta.specs.Metaserver.{GoesBy, Metaserver}
 use Rattle.qfs_model_actor.specs.Actor.{Actor, request_of, node_of, after_reply}
 use Rattle.qfs_model_actor.specs.Work.{node_of_request}
-use Rattle.qfs_model_server.specs.Server.{Server, server_step}
+use Rattle.qfs_model_server.specs.Server.{Server}
 use Rattle.qfs_model_text.specs.Order.{same_outcome}
 use Rattle.qfs_model_world.specs.Events.{Event, events}
 use Rattle.qfs_model_world.specs.Fits.{chunk_may_fail, chunk_may_want, may_fail, may_want_memory, may_end}
