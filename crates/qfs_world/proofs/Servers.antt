@@ -36,17 +36,17 @@ use Rattle.qfs_world.proofs.Lists.{differs}
 
 -- ---- what a store counts
 
+stays-counted : (answer : ChunkAnswer) (old new : ℕ) → chunk_outcome answer ≡ Ended.Done → new ≡ old → Counted answer old new
+unfolding chunk_outcome
+stays-counted Did.Fault old new done same = absurd (cc)
+stays-counted answer old new done same = same
+
 counted-by : (request : ChunkRequest) (reply : ChunkReply) (before after : Stored) (due : Option ChunkAnswer) → MayRefuse due
     → Answers request reply before after due → Counted reply.answer before.faults after.faults
 counted-by request reply before after (Some answer) may answers =
     stays-counted reply.answer before.faults after.faults
     (ap (λ (r : ChunkReply). chunk_outcome r.answer) answers.0 ∙ may.0)
     (ap (λ (s : Stored). s.faults) answers.1)
-  where
-    stays-counted : (answer : ChunkAnswer) (old new : ℕ) → chunk_outcome answer ≡ Ended.Done → new ≡ old → Counted answer old new
-    unfolding chunk_outcome
-    stays-counted Did.Fault old new done same = absurd (cc)
-    stays-counted answer old new done same = same
 counted-by request reply before after None may answers = answers.counted
 
 pub counted : (request : ChunkRequest) (reply : ChunkReply) (before after : Stored) → Serves request reply before after
