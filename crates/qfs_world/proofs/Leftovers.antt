@@ -136,133 +136,112 @@ record WasLeft (stripe form : ℕ) (request : ChunkRequest) (answer : ChunkAnswe
   pub failed : chunk_outcome answer ≡ Ended.Failed
   pub part : IsProperPrefix found (chunk_record stripe key (record { form = form; bytes = bytes }))
 
-abbrev CameSo : ℕ → Known → ChunkRequest → ChunkAnswer → Held → ChunkKey → List ℕ → Type 0
-CameSo stripe known request answer held key found =
-    StoodThere known.copies held answer key found ⊎ WasLeft stripe known.form request answer key found
-
--- what a device tells after a change
-told-now : (change : Held → Held) (told told' : Option Held) (held held' : Held) → told' ≡ option_map change told → told ≡ Some held → told' ≡ Some held'
-    → held' ≡ change held
-told-now change told told' held held' is was now =
-    sym (same_Some (change held) held' (ap (option_map change) (sym was) ∙ sym is ∙ now))
-
-same-now : (told told' : Option Held) (held held' : Held) → told' ≡ told → told ≡ Some held → told' ≡ Some held' → held' ≡ held
-same-now told told' held held' is was now = sym (same_Some held held' (sym was ∙ sym is ∙ now))
-
 -- another key than the one that was set
 not-set : {X : Type 0} (b : Bool) (value : X) (found : Option X) → is_some (cond b (Some value) found) ≡ false → (b ≡ false) × (is_some found ≡ false)
 not-set true value found absent = absurd (true≢false absent)
 not-set false value found absent = (refl, absent)
 
--- nothing changed for this key
-module _ (stripe : ℕ) (known : Known) (request : ChunkRequest) (answer : ChunkAnswer) (held held' : Held) (q : ChunkKey) (found : List ℕ)
-    (kept : is_wiped answer ≡ false) (copies' : Sizes)
-    (absent : has_key key_cmp copies' q ≡ false) (there : chunk_at held' q ≡ Some found) where
-  idle : copies' ≡ known.copies → chunk_at held' q ≡ chunk_at held q → CameSo stripe known request answer held q found
-  idle same under = inl (record {
-    absent = ap (λ (sizes : Sizes). has_key key_cmp sizes q) (sym same) ∙ absent;
+-- a key of no copy behind a step, under which this was found
+module _ (before after : Stored) (held held' : Held) (was : before.told ≡ Some held) (now : after.told ≡ Some held') (q : ChunkKey) (found : List ℕ)
+    (absent : has_key key_cmp after.known.copies q ≡ false) (there : chunk_at held' q ≡ Some found) where
+  abbrev CameSo : ChunkRequest → ChunkAnswer → Type 0
+  CameSo request answer =
+      StoodThere before.known.copies held answer q found ⊎ WasLeft before.stripe before.known.form request answer q found
+
+  -- what the device tells
+  changed : (change : Held → Held) → after.told ≡ option_map change before.told → held' ≡ change held
+  changed change is = sym (same_Some (change held) held' (ap (option_map change) (sym was) ∙ sym is ∙ now))
+
+  same : after.told ≡ before.told → chunk_at held' q ≡ chunk_at held q
+  same is = ap (λ (h : Held). chunk_at h q) (sym (same_Some held held' (sym was ∙ sym is ∙ now)))
+
+  -- nothing changed for this key
+  idle : (request : ChunkRequest) (answer : ChunkAnswer) → is_wiped answer ≡ false → after.known.copies ≡ before.known.copies
+      → chunk_at held' q ≡ chunk_at held q → CameSo request answer
+  idle request answer kept sizes under = inl (record {
+    absent = ap (λ (s : Sizes). has_key key_cmp s q) (sym sizes) ∙ absent;
     there = sym under ∙ there;
     kept = kept;
   })
 
-module _ (key : ChunkKey) (life : ℕ) (bytes : List ℕ) (stripe : ℕ) (known : Known) (copies' : Sizes) (held held' : Held) (q : ChunkKey) (found : List ℕ)
-    (absent : has_key key_cmp copies' q ≡ false) (there : chunk_at held' q ≡ Some found) where
-  abbrev copy : Chunk
-  copy = record { form = known.form; bytes = bytes }
+  module _ (key : ChunkKey) (life : ℕ) (bytes : List ℕ) where
+    abbrev copy : Chunk
+    copy = record { form = before.known.form; bytes = bytes }
 
-  came-stored : copies' ≡ with_entry key_cmp known.copies key (size_of copy) → held' ≡ holding key (chunk_record stripe key copy) held
-      → CameSo stripe known (Serve.Put key life bytes) Did.Stored held q found
-  unfolding is_wiped
-  came-stored sizes now =
-      let apart = not-set (same_key q key) (size_of copy) (value_at key_cmp known.copies q)
-      (ap is_some (sym (value_at-with_entry key_cmp_total known.copies key (size_of copy) q))
-      ∙ ap (λ (s : Sizes). has_key key_cmp s q) (sym sizes) ∙ absent) in
-      inl (record {
-        absent = apart.1;
-        there =
-            ap (λ b. cond b (Some (chunk_record stripe key copy)) (chunk_at held q)) (sym apart.0)
-            ∙ sym (value_at-with_entry key_cmp_total held.contents key (chunk_record stripe key copy) q)
-            ∙ ap (λ (h : Held). chunk_at h q) (sym now) ∙ there;
-        kept = refl;
-      })
+    abbrev spelled : List ℕ
+    spelled = chunk_record before.stripe key copy
 
-  torn-at : (left : Option (List ℕ)) → IsTorn (chunk_record stripe key copy) left → left ≡ Some found → key ≡ q
-      → WasLeft stripe known.form (Serve.Put key life bytes) Did.Fault q found
-  unfolding chunk_outcome
-  torn-at None torn is same = absurd (cc)
-  torn-at (Some part) torn is same =
-      let is_found : part ≡ found = cc in
-      record {
-        life = life;
-        bytes = bytes;
-        put = ap (λ k. Serve.Put k life bytes) same;
-        failed = refl;
-        part = subst (λ k. IsProperPrefix found (chunk_record stripe k copy)) same
-            (subst (λ p. IsProperPrefix p (chunk_record stripe key copy)) is_found torn);
-      }
-
-  came-torn : (left : Option (List ℕ)) → IsTorn (chunk_record stripe key copy) left → held' ≡ leaving key left held
-      → copies' ≡ known.copies → (b : Bool) → same_key q key ≡ b → CameSo stripe known (Serve.Put key life bytes) Did.Fault held q found
-  unfolding is_wiped
-  came-torn left torn now sizes true at =
-      inr (torn-at left torn
-      (ap (λ b. cond b left (chunk_at held q)) (sym at) ∙ sym (left_at held key left q) ∙ ap (λ (h : Held). chunk_at h q) (sym now) ∙ there)
-      (same_key-is q key at))
-  came-torn left torn now sizes false at =
-      idle stripe known _ _ held held' q found refl copies' absent there sizes
-      (ap (λ (h : Held). chunk_at h q) now ∙ left_at held key left q ∙ ap (λ b. cond b left (chunk_at held q)) at)
-
-  module _ (told told' : Option Held) (was : told ≡ Some held) (now : told' ≡ Some held') where
-    came-put : (answer : ChunkAnswer) → PutLeaves key (size_of copy) (chunk_record stripe key copy) answer known.copies copies' told told'
-        → CameSo stripe known (Serve.Put key life bytes) answer held q found
+    came-stored : after.known.copies ≡ with_entry key_cmp before.known.copies key (size_of copy) → held' ≡ holding key spelled held
+        → CameSo (Serve.Put key life bytes) Did.Stored
     unfolding is_wiped
-    came-put Did.Stored leaves = came-stored leaves.0 (told-now _ told told' held held' leaves.1 was now)
-    came-put Did.Fault leaves =
-        came-torn leaves.1.0 leaves.1.1 (told-now _ told told' held held' leaves.1.2 was now) leaves.0 (same_key q key) refl
-    came-put Did.NoMemory leaves =
-        idle stripe known _ _ held held' q found refl copies' absent there leaves.0
-        (ap (λ (h : Held). chunk_at h q) (same-now told told' held held' leaves.1 was now))
+    came-stored sizes is =
+        let apart = not-set (same_key q key) (size_of copy) (value_at key_cmp before.known.copies q)
+        (ap is_some (sym (value_at-with_entry key_cmp_total before.known.copies key (size_of copy) q))
+        ∙ ap (λ (s : Sizes). has_key key_cmp s q) (sym sizes) ∙ absent) in
+        inl (record {
+          absent = apart.1;
+          there =
+              ap (λ b. cond b (Some spelled) (chunk_at held q)) (sym apart.0)
+              ∙ sym (value_at-with_entry key_cmp_total held.contents key spelled q)
+              ∙ ap (λ (h : Held). chunk_at h q) (sym is) ∙ there;
+          kept = refl;
+        })
+
+    torn-at : (left : Option (List ℕ)) → IsTorn spelled left → left ≡ Some found → key ≡ q
+        → WasLeft before.stripe before.known.form (Serve.Put key life bytes) Did.Fault q found
+    unfolding chunk_outcome
+    torn-at None torn is of = absurd (cc)
+    torn-at (Some part) torn is of =
+        let is_found : part ≡ found = cc in
+        record {
+          life = life;
+          bytes = bytes;
+          put = ap (λ k. Serve.Put k life bytes) of;
+          failed = refl;
+          part = subst (λ k. IsProperPrefix found (chunk_record before.stripe k copy)) of
+              (subst (λ p. IsProperPrefix p spelled) is_found torn);
+        }
+
+    came-torn : (left : Option (List ℕ)) → IsTorn spelled left → held' ≡ leaving key left held
+        → after.known.copies ≡ before.known.copies → (b : Bool) → same_key q key ≡ b → CameSo (Serve.Put key life bytes) Did.Fault
+    unfolding is_wiped
+    came-torn left torn is sizes true at =
+        inr (torn-at left torn
+        (ap (λ b. cond b left (chunk_at held q)) (sym at) ∙ sym (left_at held key left q) ∙ ap (λ (h : Held). chunk_at h q) (sym is) ∙ there)
+        (same_key-is q key at))
+    came-torn left torn is sizes false at =
+        idle _ _ refl sizes (ap (λ (h : Held). chunk_at h q) is ∙ left_at held key left q ∙ ap (λ b. cond b left (chunk_at held q)) at)
+
+    came-put : (answer : ChunkAnswer)
+        → PutLeaves key (size_of copy) spelled answer before.known.copies after.known.copies before.told after.told
+        → CameSo (Serve.Put key life bytes) answer
+    unfolding is_wiped
+    came-put Did.Stored leaves = came-stored leaves.0 (changed _ leaves.1)
+    came-put Did.Fault leaves = came-torn leaves.1.0 leaves.1.1 (changed _ leaves.1.2) leaves.0 (same_key q key) refl
+    came-put Did.NoMemory leaves = idle _ _ refl leaves.0 (same leaves.1)
     came-put answer leaves = absurd leaves
 
-  module _ (told told' : Option Held) (was : told ≡ Some held) (now : told' ≡ Some held') (size : CopySize) (from count : ℕ) (room : List ℕ) where
-    came-fetch : (answer : ChunkAnswer) → FetchLeaves key size from count answer room told told' → copies' ≡ known.copies
-        → CameSo stripe known (Serve.Fetch key life from bytes) answer held q found
-    unfolding is_wiped
-    came-fetch Did.Fetched leaves sizes =
-        idle stripe known _ _ held held' q found refl copies' absent there sizes
-        (ap (λ (h : Held). chunk_at h q) (told-now _ told told' held held' leaves.0 was now))
-    came-fetch Did.Fault leaves sizes =
-        idle stripe known _ _ held held' q found refl copies' absent there sizes
-        (ap (λ (h : Held). chunk_at h q) (same-now told told' held held' leaves.0 was now))
-    came-fetch answer leaves sizes = absurd leaves
+  came-fetch : (request : ChunkRequest) (key : ChunkKey) (size : CopySize) (from count : ℕ) (room : List ℕ) (answer : ChunkAnswer)
+      → FetchLeaves key size from count answer room before.told after.told → after.known.copies ≡ before.known.copies → CameSo request answer
+  unfolding is_wiped
+  came-fetch request key size from count room Did.Fetched leaves sizes =
+      idle _ _ refl sizes (ap (λ (h : Held). chunk_at h q) (changed _ leaves.0))
+  came-fetch request key size from count room Did.Fault leaves sizes = idle _ _ refl sizes (same leaves.0)
+  came-fetch request key size from count room answer leaves sizes = absurd leaves
 
--- a request that was carried out
-came-done : (request : ChunkRequest) (reply : ChunkReply) (before after : Stored) (held held' : Held) (q : ChunkKey) (found : List ℕ)
-    → IsAskedOfServer request → Does request reply before after
-    → before.told ≡ Some held → after.told ≡ Some held'
-    → has_key key_cmp after.known.copies q ≡ false → chunk_at held' q ≡ Some found
-    → CameSo before.stripe before.known request reply.answer held q found
-came-done (Serve.Put key life bytes) reply before after held held' q found asked does was now absent there =
-    came-put key life bytes before.stripe before.known after.known.copies held held' q found absent there before.told after.told was now
-    reply.answer does.3
-came-done (Serve.Fetch key life from room) reply before after held held' q found asked does was now absent there =
-    came-fetch key life room before.stripe before.known after.known.copies held held' q found absent there before.told after.told was now
-    does.1.0 from (length room) reply.room reply.answer does.1.2 (ap (λ (k : Known). k.copies) does.0)
-came-done request reply before after held held' q found asked does was now absent there = absurd asked
+  -- a request that was carried out, and one that was refused
+  came-done : (request : ChunkRequest) (reply : ChunkReply) → IsAskedOfServer request → Does request reply before after → CameSo request reply.answer
+  came-done (Serve.Put key life bytes) reply asked does = came-put key life bytes reply.answer does.3
+  came-done (Serve.Fetch key life from room) reply asked does =
+      came-fetch _ key does.1.0 from (length room) reply.room reply.answer does.1.2 (ap (λ (k : Known). k.copies) does.0)
+  came-done request reply asked does = absurd asked
 
-came-by : (request : ChunkRequest) (reply : ChunkReply) (before after : Stored) (held held' : Held) (q : ChunkKey) (found : List ℕ)
-    → IsAskedOfServer request → (due : Option ChunkAnswer) → MayRefuse due → Answers request reply before after due
-    → before.told ≡ Some held → after.told ≡ Some held'
-    → has_key key_cmp after.known.copies q ≡ false → chunk_at held' q ≡ Some found
-    → CameSo before.stripe before.known request reply.answer held q found
-came-by request reply before after held held' q found asked (Some answer) may answers was now absent there =
-    idle before.stripe before.known request reply.answer held held' q found
-    (ap (λ (r : ChunkReply). is_wiped r.answer) answers.0 ∙ may.1) after.known.copies absent there
-    (ap (λ (s : Stored). s.known.copies) answers.1)
-    (ap (λ (h : Held). chunk_at h q)
-    (same-now before.told after.told held held' (ap (λ (s : Stored). s.told) answers.1) was now))
-came-by request reply before after held held' q found asked None may answers was now absent there =
-    came-done request reply before after held held' q found asked answers.does was now absent there
+  came-by : (request : ChunkRequest) (reply : ChunkReply) → IsAskedOfServer request → (due : Option ChunkAnswer) → MayRefuse due
+      → Answers request reply before after due → CameSo request reply.answer
+  came-by request reply asked (Some answer) may answers =
+      idle request reply.answer (ap (λ (r : ChunkReply). is_wiped r.answer) answers.0 ∙ may.1)
+      (ap (λ (s : Stored). s.known.copies) answers.1) (same (ap (λ (s : Stored). s.told) answers.1))
+  came-by request reply asked None may answers = came-done request reply asked answers.does
 
 -- ---- a step of the server
 
@@ -286,8 +265,9 @@ pub no_other-after : (stripe : ℕ) (steps : List Event) (event : Event) (number
     → Serves request answer before after
     → HoldsNoOther stripe steps number held server → HoldsNoOther stripe (steps ++ event ∷ []) number held' server'
 no_other-after stripe steps event number request answer server server' before after held held' askable asked ended told by of was now stands stands' serves none key found absent there =
-    let came = came-by request answer before after held held' key found askable _ (may_refuse before.known serves.now request) serves.answers was now
-    (known_there after.known.copies server'.copies key stands'.copies ∙ ap is_some absent) there in
+    let came = came-by before after held held' was now key found
+    (known_there after.known.copies server'.copies key stands'.copies ∙ ap is_some absent) there
+    request answer askable _ (may_refuse before.known serves.now request) serves.answers in
     elim came [
       | inl stood ↦
           left-longer stripe steps event number key found
