@@ -12,7 +12,7 @@ use Rattle.qfs_device.specs.declared.log_disk.MetaDisks.{MetaDisks}
 use Rattle.qfs_driver.proofs.Places.{some_is, in_first, mapped_at, behind_first}
 use Rattle.qfs_driver.specs.Playing.{Continues}
 use Rattle.qfs_driver.proofs.Remaining.{remain_from, same_remain, servers_remain}
-use Rattle.qfs_driver.specs.Run.{AllRemain, LeavesDevices, StandAfter, StayInPlace, counts_of}
+use Rattle.qfs_driver.specs.Run.{AllRemain, LeavesDevices, StandAfter, StayInPlace, counts_with}
 use Rattle.qfs_model_headline.specs.Faults.{FaultsShow}
 use Rattle.qfs_model_headline.specs.Nodes.{has_failed, is_put_or_start, IsServerDevice, IsDeviceOf}
 use Rattle.qfs_model_server.specs.Server.{Server}
@@ -193,7 +193,7 @@ module _ {D L : Type 0} {told : D → Option Held} {faults : D → ℕ} {script 
     none_at_first = refl
 
     faults_show : (left right : ℕ)
-        → FaultsShow ended.script ended.order (counts_of faults came left right) (counts_of faults behind left right)
+        → FaultsShow ended.script ended.order (counts_with faults came left right) (counts_with faults behind left right)
     faults_show left right = record {
       devices = device_faults;
       disks = λ below_left below_right. omega (arith, follows.stand.elsewhere 0 none_at_first);

@@ -32,7 +32,7 @@ use Rattle.qfs_model_world.specs.Drawn.{generator_of, drawn_of, is_by, drawn_fro
 use Rattle.qfs_model_world.specs.Fits.{turn}
 use Rattle.qfs_model_world.specs.World.{World, numbered, node_turn, after as after_order}
 use Rattle.qfs_store.specs.Stored.{Stored}
-use Rattle.qfs_world.specs.Calls.{GoesOn, HasFailed, Steps}
+use Rattle.qfs_world.specs.Calls.{GoesOn, FailedOnce, TakesStep}
 use Rattle.qfs_world.proofs.GoesOn.{all-go_on, all-told_before}
 use Rattle.qfs_world.proofs.Simulation.{event as event_of, events-after}
 use Rattle.qfs_world.specs.Follows.{FollowsItself, IsAfter, world_of}
@@ -146,7 +146,7 @@ not_first xs (suc k) x is first = absurd (omega (arith, first))
 
 module _ {D L : Type 0} where
   -- a step at a server whose device failed, after others
-  risen_further : (a b c : WorldView D L) (server : ℕ) → Continues a b → HasFailed b.stores c.stores server → HasRisen a c server
+  risen_further : (a b c : WorldView D L) (server : ℕ) → Continues a b → FailedOnce b.stores c.stores server → HasRisen a c server
   risen_further a b c server continues failed =
       let at = went_on_at a.stores b.stores server failed.old continues.stores_go_on failed.before_is in
       record {
@@ -197,7 +197,7 @@ module _ {D L : Type 0} where
   drawn_more : (number actor : ℕ) (outcome : Outcome) (before behind : WorldView D L) (turns : List ℕ)
       → IsAfter before → turns ≡ turn_of before.script before.actors
       → drawn_of turns (pcg32 (generator_behind (generator_of number) before.order)).0 ≡ Some actor
-      → Steps before actor outcome behind → IsDrawnSo number before → AllTell behind.stores
+      → TakesStep before actor outcome behind → IsDrawnSo number before → AllTell behind.stores
       → IsTrue (is_drawn number behind.script behind.order)
   drawn_more number actor outcome before behind turns after turns_are drawn steps is tell =
       let told : AllTell before.stores = all-told_before before.stores behind.stores steps.goes_on tell in
@@ -215,7 +215,7 @@ module _ {D L : Type 0} where
   pub drawn_further : (number actor : ℕ) (before behind : WorldView D L) (turns : List ℕ)
       → IsAfter before → turns ≡ turn_of before.script before.actors
       → drawn_of turns (pcg32 (generator_behind (generator_of number) before.order)).0 ≡ Some actor
-      → Steps before actor Came.Done behind → IsDrawnSo number before → IsDrawnSo number behind
+      → TakesStep before actor Came.Done behind → IsDrawnSo number before → IsDrawnSo number behind
   drawn_further number actor before behind turns after turns_are drawn steps is = record {
     drawn = drawn_more number actor Came.Done before behind turns after turns_are drawn steps is;
     done = rw steps.moves.order (done-snoc before.order actor is.done);
@@ -241,7 +241,7 @@ module _ {D L : Type 0} where
   -- ---- a step that failed
 
   -- an actor that goes to a server steps there
-  pub goes_there : (before behind : WorldView D L) (actor server : ℕ) (outcome : Outcome) (steps : Steps before actor outcome behind)
+  pub goes_there : (before behind : WorldView D L) (actor server : ℕ) (outcome : Outcome) (steps : TakesStep before actor outcome behind)
       → Some server ≡ option_and_then node_of (numbered before.actors actor) → steps.node ≡ server
   goes_there before behind actor server outcome steps goes =
       let there : option_and_then node_of (numbered before.actors actor) ≡ Some steps.node =
@@ -250,7 +250,7 @@ module _ {D L : Type 0} where
 
   fails_last : (actor server : ℕ) (before behind : WorldView D L)
       → FollowsItself before
-      → FailsAt before actor server behind → HasFailed before.stores behind.stores server → IsTrue (list_all is_done before.order)
+      → FailsAt before actor server behind → FailedOnce before.stores behind.stores server → IsTrue (list_all is_done before.order)
       → FailsLast behind.script behind.order server
   fails_last actor server before behind follows fails failed done =
       let moves = fails.steps.moves in
@@ -282,7 +282,7 @@ module _ {D L : Type 0} where
       → FailsAt before actor server behind → IsDrawnSo number before → StopsAtServer number server start behind
   stops_at_server number actor server start before behind turns continues after turns_are drawn fails is =
       let steps = fails.steps in
-      let failed : HasFailed before.stores behind.stores server = subst (HasFailed before.stores behind.stores) fails.at (steps.cause refl) in
+      let failed : FailedOnce before.stores behind.stores server = subst (FailedOnce before.stores behind.stores) fails.at (steps.cause refl) in
       record {
         risen = risen_further start before behind server continues failed;
         drawn = λ tell. record {

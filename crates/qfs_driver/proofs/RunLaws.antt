@@ -13,8 +13,8 @@ use Rattle.qfs_driver.proofs.Places.{some_isnt, mapped_at}
 use Rattle.qfs_world.proofs.Lists.{get-take, unmapped-at}
 use Rattle.std.proofs.lemmas.Option.{slice_get_within}
 use Rattle.qfs_driver.proofs.PlayLaws.{all_tell_behind}
-use Rattle.qfs_driver.specs.Playing.{IsDrawnSo, IsDrawnToFault, HasEnded, StopsAt}
-use Rattle.qfs_driver.specs.Run.{IsLeftAfter, IsRunOf, IsRunTo, LeavesDevices, Prints, ServersTell, HasFault, StopsOver}
+use Rattle.qfs_driver.specs.Playing.{IsDrawnSo, IsDrawnToFault, HasNothingLeft, StopsAt}
+use Rattle.qfs_driver.specs.Run.{IsLeftAfter, IsRunOf, IsRunTo, LeavesDevices, PrintsRun, ServersTell, HasFault, StopsOver}
 use Rattle.qfs_driver.specs.Scripts.{IsReadScript}
 use Rattle.qfs_driver.specs.declared.status.Status.{Status}
 use Rattle.qfs_driver.specs.declared.status.Status.TheVariants as Ended
@@ -44,7 +44,7 @@ ended_whole script order turns is none = rw (is, none) refl
 world_text : {D L : Type 0} (told : D → Option Held) (faults : D → ℕ) (number : ℕ) (world : WorldView D L) (came behind : List D) (written : List ℕ)
     → FollowsItself world
     → LeavesDevices told faults world.script world.order came behind
-    → IsTrue (is_drawn number world.script world.order) → IsTrue (list_all is_done world.order) → HasEnded world
+    → IsTrue (is_drawn number world.script world.order) → IsTrue (list_all is_done world.order) → HasNothingLeft world
     → IsReadScript world.script
     → written ≡ plain_output (lines_of_actors world.actors) world.meta.history world.order
     → IsRunOf told faults number world.script came behind written
@@ -86,9 +86,9 @@ module _ {D L : Type 0} {told : D → Option Held} {faults : D → ℕ} {script 
       (All-map (λ (stored : Stored). IsSome stored.told) (stored_over told faults script.layout.s) (take script.servers came) tell))
 
   -- the text of a run whose world was drawn to its end
-  pub run_prints : (number : ℕ) (written : List ℕ) → IsDrawnSo number ended → HasEnded ended → IsAfter ended → IsReadScript script
+  pub run_prints : (number : ℕ) (written : List ℕ) → IsDrawnSo number ended → HasNothingLeft ended → IsAfter ended → IsReadScript script
       → written ≡ plain_output (lines_of_actors ended.actors) ended.meta.history ended.order
-      → Prints told faults number script came behind written
+      → PrintsRun told faults number script came behind written
   run_prints number written drawn over after_own read is = λ tell.
       let tells = tell_at_end tell in
       subst (λ s. IsRunOf told faults number s came behind written) script_is

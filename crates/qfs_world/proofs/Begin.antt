@@ -26,7 +26,7 @@ use Rattle.qfs_model_actor.specs.Actor.{starting}
 use Rattle.qfs_nodes.specs.Nodes.{image_of, stores_of, IsNew, nodes_with, stored_over}
 use Rattle.qfs_nodes.specs.Scripts.{meta_of, IsRunnable, commands_by_actor}
 use Rattle.qfs_nodes.specs.Actors.{actors_of, sizes_of, starts_from, total}
-use Rattle.qfs_world.specs.Follows.{Follows}
+use Rattle.qfs_world.specs.Follows.{FollowsOrder}
 use Rattle.qfs_world.specs.Servers.{StandForAll, StandsForServer}
 use Rattle.qfs_world.specs.View.{AllTell}
 use Rattle.qfs_nodes.specs.declared.node.NodeState.{NodeState}
@@ -134,7 +134,7 @@ module _ {D : Type 0} (told : D → Option Held) (faults : D → ℕ) where
     long = ap length actors_are ∙ length_starts (rules_of script) 1 (commands_by_actor script)
 
     at-start : AllTell (first_stores script devices)
-        → Follows script (first_counts script devices) [] (opening script.servers) (first_stores script devices) (actors_of actors)
+        → FollowsOrder script (first_counts script devices) [] (opening script.servers) (first_stores script devices) (actors_of actors)
     unfolding events events_from
     at-start tell =
         record {
@@ -155,7 +155,7 @@ module _ {D : Type 0} (told : D → Option Held) (faults : D → ℕ) where
       whole = ap total phases_are ∙ total_sizes script.phases ∙ sym long;
       follows =
           λ tell.
-          let P : List Stored → Type 0 = λ s. Follows script (first_counts script devices) [] (opening script.servers) s (actors_of actors) in
-          let Q : MetaImage → Type 0 = λ m. Follows script (first_counts script devices) [] m (stores_of nodes) (actors_of actors) in
+          let P : List Stored → Type 0 = λ s. FollowsOrder script (first_counts script devices) [] (opening script.servers) s (actors_of actors) in
+          let Q : MetaImage → Type 0 = λ m. FollowsOrder script (first_counts script devices) [] m (stores_of nodes) (actors_of actors) in
           subst Q (sym image-is) (subst P (sym stores-are) (at-start (subst AllTell stores-are tell)));
     }

@@ -25,8 +25,8 @@ use Rattle.qfs_nodes.proofs.Stores.{stores-with}
 use Rattle.qfs_nodes.specs.Nodes.{image_of, nodes_with, stores_of}
 use Rattle.qfs_nodes.specs.Scripts.{meta_of}
 use Rattle.qfs_nodes.specs.Actors.{actors_of}
-use Rattle.qfs_world.specs.Calls.{GoesOn, HasFailed, Steps}
-use Rattle.qfs_world.specs.Follows.{Follows}
+use Rattle.qfs_world.specs.Calls.{GoesOn, FailedOnce, TakesStep}
+use Rattle.qfs_world.specs.Follows.{FollowsOrder}
 use Rattle.qfs_world.specs.View.{WorldView, AllTell, steps_left, turn_of, view_of, with_step}
 use Rattle.qfs_nodes.specs.declared.node.NodeState.{NodeState}
 use Rattle.qfs_nodes.specs.declared.node.NodeState.TheVariants as Node
@@ -128,7 +128,7 @@ module _ {D L : Type 0} (script : Script) (counts : List ℕ) (nodes : List (Nod
 
   -- it is at work where its nodes are those of a world that follows the order
   still : (image : MetaImage) (stores : List Stored) → next.actor.number ≡ it.actor.number → behind ≡ nodes_with (meta_of script image) stores
-      → (AllTell stores → Follows script counts more image stores (slice_set (actors_of actors) place next.actor))
+      → (AllTell stores → FollowsOrder script counts more image stores (slice_set (actors_of actors) place next.actor))
       → IsAtWork script counts behind (slice_set actors place next) phases more
   still image stores same nodes_are follows =
       let image_is : image ≡ image_of behind = sym (ap image_of nodes_are) in
@@ -143,7 +143,7 @@ module _ {D L : Type 0} (script : Script) (counts : List ℕ) (nodes : List (Nod
         whole = work.whole ∙ sym long;
         follows =
             λ tell.
-            transport (λ i. Follows script counts more (image_is i) (stores_are i) (sym all i)) (follows (subst AllTell (sym stores_are) tell));
+            transport (λ i. FollowsOrder script counts more (image_is i) (stores_are i) (sym all i)) (follows (subst AllTell (sym stores_are) tell));
       }
 
   pub works : (r : Result Outcome AllocError) → IfOk r (λ outcome. TakesTurn nodes it.actor outcome behind next.actor)
@@ -157,18 +157,18 @@ module _ {D L : Type 0} (script : Script) (counts : List ℕ) (nodes : List (Nod
       o ∙ ap (λ n. with_step order n outcome) at.own ∙ ap (with_step order (suc place)) turn.outcome_is in
       still left.image left.rest (ap (λ (x : Actor). x.number) turn.took ∙ number-kept it.actor turn.reply) left.nodes_are
       (λ tell.
-      transport (λ i. Follows script counts (sym order_is i) left.image left.rest (slice_set (actors_of actors) place (sym turn.took i)))
+      transport (λ i. FollowsOrder script counts (sym order_is i) left.image left.rest (slice_set (actors_of actors) place (sym turn.took i)))
       (follows-on script counts order (image_of nodes) (stores_of nodes) (actors_of actors) place it.actor turn.request turn.reply behind
       at.own there turns turn.asked left (work.follows (all-told_before (stores_of nodes) left.rest left.goes_on tell))))
   works (Err error) t o b a m =
       let same : slice_set (actors_of actors) place next.actor ≡ actors_of actors =
       ap (slice_set (actors_of actors) place) a ∙ set-same (actors_of actors) place it.actor there in
       still (image_of nodes) (stores_of nodes) (ap (λ (x : Actor). x.number) a) (b ∙ work.nodes_are)
-      (λ tell. transport (λ i. Follows script counts (sym m i) (image_of nodes) (stores_of nodes) (sym same i)) (work.follows tell))
+      (λ tell. transport (λ i. FollowsOrder script counts (sym m i) (image_of nodes) (stores_of nodes) (sym same i)) (work.follows tell))
 
   pub tells : (r : Result Outcome AllocError) → IfOk r (λ outcome. TakesTurn nodes it.actor outcome behind next.actor)
       → IfOk r (λ outcome. more ≡ with_step order it.actor.number outcome)
-      → IfOk r (λ outcome. Steps seen number outcome seen_behind)
+      → IfOk r (λ outcome. TakesStep seen number outcome seen_behind)
   tells (Err error) t o = tt
   tells (Ok outcome) t o =
       let turn = (turned outcome t).turns in
@@ -204,7 +204,7 @@ module _ {D L : Type 0} (script : Script) (counts : List ℕ) (nodes : List (Nod
         };
         goes_on = subst (AllZip GoesOn (stores_of nodes)) stores_are left.goes_on;
         cause = λ failed.
-            subst (λ ss. HasFailed (stores_of nodes) ss (node_of_request turn.request)) stores_are (left.cause (sym turn.outcome_is ∙ failed));
+            subst (λ ss. FailedOnce (stores_of nodes) ss (node_of_request turn.request)) stores_are (left.cause (sym turn.outcome_is ∙ failed));
       }
 
   pub stays-same : (r : Result Outcome AllocError) → OnErr r (behind ≡ nodes) → OnErr r (next.actor ≡ it.actor) → OnErr r (more ≡ order)

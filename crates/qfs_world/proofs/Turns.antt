@@ -44,8 +44,8 @@ use Rattle.qfs_store.specs.Serves.{Answers, FetchLeaves, Serves}
 use Rattle.qfs_store.specs.Stored.{Stored}
 use Rattle.qfs_store.specs.declared.copies.CopySize.{CopySize}
 use Rattle.qfs_world.specs.AtWork.{place_in, TakesTurn}
-use Rattle.qfs_world.specs.Calls.{GoesOn, HasFailed}
-use Rattle.qfs_world.specs.Follows.{Follows, world_of}
+use Rattle.qfs_world.specs.Calls.{GoesOn, FailedOnce}
+use Rattle.qfs_world.specs.Follows.{FollowsOrder, world_of}
 use Rattle.qfs_world.specs.Servers.{StandForAll, StandsForServer}
 use Rattle.qfs_world.specs.View.{turn_of, with_step}
 use Rattle.qfs_world.proofs.GoesOn.{all-go_on, goes-set}
@@ -164,7 +164,7 @@ pub record Moved {D : Type 0} (number : ℕ) (meta : Metaserver) (stores : List 
   pub meta_stays : (node_of_request request ≡ 0 → ⊥) → image ≡ meta.image
   pub stores_stay : (server : ℕ) → (server ≡ node_of_request request → ⊥) → numbered rest server ≡ numbered stores server
   pub goes_on : AllZip GoesOn stores rest
-  pub cause : outcome_of reply ≡ Ended.Failed → HasFailed stores rest (node_of_request request)
+  pub cause : outcome_of reply ≡ Ended.Failed → FailedOnce stores rest (node_of_request request)
   pub leads : (rules : Rules) → GoesBy rules meta → (stripe : ℕ) (counts : List ℕ) (steps : List Event) (servers : List Server) (actors : List Actor)
       → StandForAll stripe counts steps stores servers
       → Leads number rules meta.image image servers actors request reply stripe counts steps rest
@@ -377,8 +377,8 @@ pub follows-on : {D : Type 0} (script : Script) (counts : List ℕ) (order : Lis
     (number_is : actor.number ≡ suc place) (there : slice_get actors place ≡ Some actor)
     (turns : IsTrue (list_any (λ n. n == suc place) (turn_of script actors))) (asked : request_of actor ≡ Some request)
     (m : Moved actor.number (meta_of script image) stores request reply behind)
-    → Follows script counts order image stores actors
-    → Follows script counts (with_step order (suc place) (outcome_of reply)) m.image m.rest (slice_set actors place (after_reply actor reply))
+    → FollowsOrder script counts order image stores actors
+    → FollowsOrder script counts (with_step order (suc place) (outcome_of reply)) m.image m.rest (slice_set actors place (after_reply actor reply))
 unfolding renumbered
 follows-on script counts order image stores actors place actor request reply behind number_is there turns asked m follows =
     let led = m.leads (rules_of script) (goes-by script image) script.layout.s counts (events script order) follows.servers actors follows.stand in

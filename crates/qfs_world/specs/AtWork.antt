@@ -11,7 +11,7 @@ use Rattle.qfs_nodes.specs.Nodes.{image_of, nodes_with, stores_of}
 use Rattle.qfs_nodes.specs.Scripts.{meta_of}
 use Rattle.qfs_nodes.specs.Turns.{Turns}
 use Rattle.qfs_nodes.specs.declared.node.NodeState.{NodeState}
-use Rattle.qfs_world.specs.Follows.{Follows}
+use Rattle.qfs_world.specs.Follows.{FollowsOrder}
 use Rattle.qfs_world.specs.View.{AllTell}
 
 -- the node that takes a turn: the one of this number, or the metaserver where there is none
@@ -45,8 +45,8 @@ pub record IsAtWork {D : Type 0} (script : Script) (counts : List ℕ) (nodes : 
   pub phases_are : phases ≡ sizes_of script.phases
   pub whole : total phases ≡ length actors
   pub follows : AllTell (stores_of nodes)
-      → Follows script counts order (image_of nodes) (stores_of nodes) (actors_of actors)
+      → FollowsOrder script counts order (image_of nodes) (stores_of nodes) (actors_of actors)
 
 -- the chunk servers' devices have room beside the others where these stand
-abbrev pub HasRoom : {D : Type 0} → List (NodeState D) → List D → (capacity : ℕ) → Type 0
-HasRoom nodes spare capacity = length (stores_of nodes) + length spare ≤ capacity
+abbrev pub HasDeviceRoom : {D : Type 0} → List (NodeState D) → List D → (capacity : ℕ) → Type 0
+HasDeviceRoom nodes spare capacity = length (stores_of nodes) + length spare ≤ capacity

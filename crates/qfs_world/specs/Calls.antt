@@ -43,7 +43,7 @@ pub record GoesOn (before behind : Stored) : Type 0 where
   pub never_falls : before.faults ≤ behind.faults
 
 -- the node of this number is a server whose device failed once
-pub record HasFailed (before behind : List Stored) (node : ℕ) : Type 0 where
+pub record FailedOnce (before behind : List Stored) (node : ℕ) : Type 0 where
   pub old : Stored
   pub new : Stored
   pub before_is : numbered before node ≡ Some old
@@ -75,7 +75,7 @@ module _ {D L : Type 0} where
     pub falls : steps_left behind.actors < steps_left before.actors
 
   -- every node but the one of this number is as it was, and so is what the world only keeps
-  pub record OthersStay (before behind : WorldView D L) (node : ℕ) : Type 0 where
+  pub record AllElseStays (before behind : WorldView D L) (node : ℕ) : Type 0 where
     pub meta : (node ≡ 0 → ⊥) → behind.meta ≡ before.meta
     pub stores : (server : ℕ) → (server ≡ node → ⊥)
         → numbered behind.stores server ≡ numbered before.stores server
@@ -87,13 +87,13 @@ module _ {D L : Type 0} where
   -- an actor took its step, which came out so, and nothing else changed but that actor and the node
   -- that its request went to. Devices go on, and a step that failed is one at a server whose device
   -- failed
-  pub record Steps (before : WorldView D L) (number : ℕ) (outcome : Outcome)
+  pub record TakesStep (before : WorldView D L) (number : ℕ) (outcome : Outcome)
       (behind : WorldView D L) : Type 0 where
     pub node : ℕ
     pub moves : ActorMoves before number outcome node behind
-    pub others : OthersStay before behind node
+    pub others : AllElseStays before behind node
     pub goes_on : AllZip GoesOn before.stores behind.stores
-    pub cause : outcome ≡ Ended.Failed → HasFailed before.stores behind.stores node
+    pub cause : outcome ≡ Ended.Failed → FailedOnce before.stores behind.stores node
 
 -- ---- its end
 

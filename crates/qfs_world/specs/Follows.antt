@@ -20,7 +20,7 @@ world_of script meta servers actors =
 
 -- the metaserver, the stores and the actors are those of the world after an order of a script, and
 -- the order fits it
-pub record Follows (script : Script) (counts : List ℕ) (order : List Step) (meta : MetaImage)
+pub record FollowsOrder (script : Script) (counts : List ℕ) (order : List Step) (meta : MetaImage)
     (stores : List Stored) (actors : List Actor) : Type 0 where
   pub servers : List Server
   pub world : after script order ≡ world_of script meta servers actors
@@ -30,7 +30,7 @@ pub record Follows (script : Script) (counts : List ℕ) (order : List Step) (me
 -- a world at work is the world after its own order of its script
 abbrev pub FollowsItself : {D L : Type 0} → WorldView D L → Type 0
 FollowsItself world =
-    Follows world.script world.counts world.order world.meta world.stores world.actors
+    FollowsOrder world.script world.counts world.order world.meta world.stores world.actors
 
 -- so it is as far as the devices tell what they hold
 abbrev pub IsAfter : {D L : Type 0} → WorldView D L → Type 0
