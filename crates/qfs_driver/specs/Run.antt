@@ -62,7 +62,8 @@ module _ {D : Type 0} where
     pub no_deletion : NoDeletion script order
 
   -- as far as the devices told what they held, this is the text of a run of the script
-  abbrev pub PrintsRun : (D → Option Held) → (D → ℕ) → ℕ → Script → List D → List D → List ℕ → Type 0
+  abbrev pub PrintsRun : (D → Option Held) → (D → ℕ) → ℕ → Script → List D → List D → List ℕ
+      → Type 0
   PrintsRun told faults number script came behind text =
       ServersTell told script.servers came → IsRunOf told faults number script came behind text
 
