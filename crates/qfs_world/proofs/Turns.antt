@@ -52,7 +52,7 @@ use Rattle.qfs_world.proofs.GoesOn.{all-go_on, goes-set}
 use Rattle.qfs_world.proofs.Leftovers.{MayRefuse, may_refuse}
 use Rattle.qfs_world.proofs.Lists.{get-set, none-there, numbered-is, numbered-set, past-end, same-or-not}
 use Rattle.qfs_world.proofs.Servers.{counted, rose-once, serves-goes_on, fails-here, fails-elsewhere, none-more, stands-on, moved as moved_server, step-is, stands-through}
-use Rattle.qfs_world.proofs.Simulation.{event, events-after, world-after, fits-after}
+use Rattle.qfs_world.proofs.Simulation.{event as event_of, events-after, world-after, fits-after}
 
 -- ---- which outcomes may come
 
@@ -394,7 +394,7 @@ follows-on script counts order image stores actors place actor request reply beh
       stand =
           subst (λ steps. StandForAll script.layout.s counts steps m.rest led.next)
           (sym (events-after script order world (suc place) actor request follows.world found asked outcome served reply turned))
-          (led.stand (event script order world (suc place) actor request follows.world found asked outcome served reply turned)
+          (led.stand (event_of script order world (suc place) actor request follows.world found asked outcome served reply turned)
           (record { asked = refl; told = refl; ended = refl; by = refl }));
       fits = fits-after script order world (suc place) actor request follows.world found asked outcome served reply turned refl m.may turns follows.fits;
     }
