@@ -62,19 +62,6 @@ pub actors-at : (actors : List Standing) (k : ℕ) (it : Standing) → slice_get
 actors-at actors k it e =
     slice_get-map (λ (s : Standing). s.actor) actors k ∙ ap (option_map (λ (s : Standing). s.actor)) e
 
--- the other way round
-pub record StandsAs (actors : List Standing) (k : ℕ) (actor : Actor) : Type 0 where
-  pub it : Standing
-  pub there : slice_get actors k ≡ Some it
-  pub actor_is : it.actor ≡ actor
-
-pub standing-at : (actors : List Standing) (k : ℕ) (actor : Actor) → slice_get (actors_of actors) k ≡ Some actor → StandsAs actors k actor
-standing-at [] k actor e = absurd (cc)
-standing-at (first ∷ rest) zero actor e = record { it = first; there = refl; actor_is = cc }
-standing-at (first ∷ rest) (suc k) actor e =
-    let behind = standing-at rest k actor e in
-    record { it = behind.it; there = behind.there; actor_is = behind.actor_is }
-
 pub actors-set : (actors : List Standing) (k : ℕ) (next : Standing)
     → actors_of (slice_set actors k next) ≡ slice_set (actors_of actors) k next.actor
 actors-set actors k next = map-set (λ (s : Standing). s.actor) actors k next

@@ -31,8 +31,8 @@ use Rattle.qfs_world.specs.View.{WorldView, AllTell, steps_left, turn_of, view_o
 use Rattle.qfs_nodes.specs.declared.node.NodeState.{NodeState}
 use Rattle.qfs_nodes.specs.declared.node.NodeState.TheVariants as Node
 use Rattle.qfs_world.proofs.GoesOn.{all-told_before}
-use Rattle.qfs_world.proofs.Lists.{numbered-is, set-same}
-use Rattle.qfs_world.proofs.Numbered.{number-kept, number-at, standings-set, actors-at, standing-at, actors-set, left-all-falls}
+use Rattle.qfs_world.proofs.Lists.{numbered-is, set-same, unmapped-at}
+use Rattle.qfs_world.proofs.Numbered.{number-kept, number-at, standings-set, actors-at, actors-set, left-all-falls}
 use Rattle.qfs_world.proofs.TurnLists.{in-turn}
 use Rattle.qfs_world.proofs.Turns.{Moved, follows-on, node-asked, turn-moves}
 
@@ -54,19 +54,19 @@ pub turn-place : {D : Type 0} (script : Script) (counts : List ℕ) (nodes : Lis
     → (it : Standing) × AtTurn actors number (number - 1) it
 turn-place script counts nodes actors phases order work number turn =
     let has = in-turn number script.phases (actors_of actors) turn in
-    let found = standing-at actors has.at has.actor has.there in
-    let own = number-at 1 actors has.at found.it work.numbered found.there in
+    let found = unmapped-at (λ (s : Standing). s.actor) actors has.at has.actor has.there in
+    let own = number-at 1 actors has.at found.of work.numbered found.there in
     let next : 1 + has.at ≡ suc has.at = omega arith in
     let number_is : number ≡ suc has.at =
-    sym has.number_is ∙ ap (λ (a : Actor). a.number) (sym found.actor_is) ∙ own.number_is ∙ next in
+    sym has.number_is ∙ ap (λ (a : Actor). a.number) (sym found.is) ∙ own.number_is ∙ next in
     let place : has.at ≡ number - 1 = omega arith in
-    let at : AtTurn actors number has.at found.it = record {
+    let at : AtTurn actors number has.at found.of = record {
       number_is = number_is;
       there = found.there;
       own = own.number_is ∙ next;
       rests = own.rests;
-      unfinished = ap has_finished found.actor_is ∙ has.unfinished;
-    } in (found.it, subst (λ p. AtTurn actors number p found.it) place at)
+      unfinished = ap has_finished found.is ∙ has.unfinished;
+    } in (found.of, subst (λ p. AtTurn actors number p found.of) place at)
 
 -- what is found at its place is that actor
 pub turn-at : {D : Type 0} (script : Script) (counts : List ℕ) (nodes : List (NodeState D)) (actors : List Standing) (phases : List ℕ) (order : List Step)
