@@ -141,7 +141,7 @@ module _ (stripe : ℕ) (counts : List ℕ) (steps : List Event) (event : Event)
 -- ---- what a turn comes to
 
 -- a step of servers, in which a node was asked and answered so
-record IsEventOf (event : Event) (servers : List Server) (request : NodeRequest) (reply : NodeReply) : Type 0 where
+pub record IsEventOf (event : Event) (servers : List Server) (request : NodeRequest) (reply : NodeReply) : Type 0 where
   pub asked : event.request ≡ request
   pub told : event.reply ≡ reply
   pub ended : event.outcome ≡ outcome_of reply
@@ -307,7 +307,7 @@ module _ {D : Type 0} (number : ℕ) (meta : Metaserver) (stores : List Stored) 
   long = ap (λ n. suc n) (length-map {A = Stored} {B = NodeState D} stores Node.Store)
 
   -- the node at a place took the request
-  record TookAt (request : NodeRequest) (reply : NodeReply) (place : ℕ) (node : NodeState D) : Type 0 where
+  pub record TookAt (request : NodeRequest) (reply : NodeReply) (place : ℕ) (node : NodeState D) : Type 0 where
     pub next : NodeState D
     pub takes : Takes number node request reply next
     pub changed : behind ≡ slice_set all place next
@@ -352,8 +352,8 @@ pub turn-moves : {D : Type 0} (meta : Metaserver) (stores : List Stored) (actor 
 turn-moves {D = D} meta stores actor outcome behind moved turn =
     by-request actor.number meta stores behind turn.turns.request turn.turns.reply turn.turns.askable took
   where
-    took : (at : ℕ) (node : NodeState D) → place_in (length (nodes_with meta stores)) (Some (node_of_request turn.turns.request)) ≡ at
-        → slice_get (nodes_with meta stores) at ≡ Some node → TookAt actor.number meta stores behind turn.turns.request turn.turns.reply at node
+    took : (at : ℕ) (node : NodeState D) → place_in (length (nodes_with {D = D} meta stores)) (Some (node_of_request turn.turns.request)) ≡ at
+        → slice_get (nodes_with {D = D} meta stores) at ≡ Some node → TookAt actor.number meta stores behind turn.turns.request turn.turns.reply at node
     took at node place_is there =
         let place : place_in (length (nodes_with {D = D} meta stores)) (node_of actor) ≡ at =
         ap (place_in (length (nodes_with {D = D} meta stores))) (node-asked actor turn.turns.request turn.turns.asked) ∙ place_is in
