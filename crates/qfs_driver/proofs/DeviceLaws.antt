@@ -1,17 +1,18 @@
 -- Where the devices of a run stand at its end.
-use Rattle.std.proofs.Common.{◌≡◌, ℕ, zero, suc, min, ◌+◌, ◌-◌, ◌<◌, ◌≤◌, Bool, true, false, List, [], ◌∷◌, length, take, drop, map, refl, sym, ◌∙◌, ap, subst, arith, length-take, length-drop, Option, Some, None}
+use Rattle.std.proofs.Common.{◌≡◌, ℕ, zero, suc, min, ◌+◌, ◌-◌, ◌<◌, ◌≤◌, Bool, true, false, List, length, take, drop, map, refl, sym, ◌∙◌, ap, subst, arith, length-take, length-drop, Option, Some, None}
 use Rattle.std.specs.Prelude.{slice_get}
 use Rattle.std.specs.List.{AllZip}
 use Rattle.std.proofs.lemmas.List.{length-map, length-take-le}
 use Rattle.std.proofs.lemmas.List.Elements.{length_all_zip}
+use Rattle.std.proofs.lemmas.Option.{slice_get_within}
 use Rattle.qfs_base.specs.Sizes.{LAST_U64}
 use Rattle.qfs_base.specs.declared.script.Script.{Script}
 use Rattle.qfs_device.specs.Held.{Held}
 use Rattle.qfs_device.specs.declared.log_disk.MetaDisks.{MetaDisks}
-use Rattle.qfs_driver.proofs.Places.{some_is, in_first, mapped_at, unmapped_at, below_length, length_past, behind_first}
+use Rattle.qfs_driver.proofs.Places.{some_is, in_first, mapped_at, behind_first}
 use Rattle.qfs_driver.specs.Playing.{Continues}
 use Rattle.qfs_driver.proofs.Remaining.{remain_from, same_remain, servers_remain}
-use Rattle.qfs_driver.specs.Run.{AllRemain, LeavesDevices, StandAfter, StayInPlace, counts_of}
+use Rattle.qfs_driver.specs.Run.{AllRemain, LeavesDevices, StandAfter, StayInPlace, counts_with}
 use Rattle.qfs_model_headline.specs.Faults.{FaultsShow}
 use Rattle.qfs_model_headline.specs.Nodes.{has_failed, is_put_or_start, IsServerDevice, IsDeviceOf}
 use Rattle.qfs_model_server.specs.Server.{Server}
@@ -22,35 +23,11 @@ use Rattle.qfs_model_world.specs.World.{World, numbered, after}
 use Rattle.qfs_store.specs.Stored.{Stored}
 use Rattle.qfs_world.specs.Calls.{AreDevicesOf, GoesOn, Starts}
 use Rattle.qfs_nodes.specs.Nodes.{stored_over}
-use Rattle.qfs_world.specs.Follows.{Follows, IsServer, StandForAll}
+use Rattle.qfs_world.specs.Follows.{FollowsItself}
+use Rattle.qfs_world.proofs.Lists.{past-end, there-below, unmapped-at}
 use Rattle.qfs_world.specs.View.{WorldView}
 
 -- ---- the devices of a world
-
--- a store that stands for the server at a place
-record StandsAt (stripe : ℕ) (stores : List Stored) (k : ℕ) (server : Server) : Type 0 where
-  pub stored : Stored
-  pub there : slice_get stores k ≡ Some stored
-  pub is : IsServer stripe stored server
-
-module _ (stripe : ℕ) where
-  stands_at : (stores : List Stored) (servers : List Server) (k : ℕ) (server : Server)
-      → StandForAll stripe stores servers → slice_get servers k ≡ Some server → StandsAt stripe stores k server
-  stands_at stores [] k server all is = cc
-  stands_at [] (y ∷ ys) k server all is = absurd all
-  stands_at (x ∷ xs) (y ∷ ys) zero server all is =
-      record { stored = x; there = refl; is = subst (λ v. IsServer stripe x v) (some_is is) all.0 }
-  stands_at (x ∷ xs) (y ∷ ys) (suc k) server all is =
-      let further = stands_at xs ys k server all.1 is in
-      record { stored = further.stored; there = further.there; is = further.is }
-
-  -- where no server stands, no store does
-  no_store : (stores : List Stored) (servers : List Server) (k : ℕ)
-      → StandForAll stripe stores servers → slice_get servers k ≡ None → length stores ≤ k
-  no_store [] servers k all none = omega arith
-  no_store (x ∷ xs) [] k all none = absurd all
-  no_store (x ∷ xs) (y ∷ ys) zero all none = absurd (cc)
-  no_store (x ∷ xs) (y ∷ ys) (suc k) all none = let rest = no_store xs ys k all.1 none in omega (arith, rest)
 
 -- a device that handed out as much as its server did so whether or not it may have read more
 hands_out : (failed : Bool) (device server : ℕ) → kept device ≡ kept server → HandsOut failed device server
@@ -60,7 +37,7 @@ hands_out false device server same = same
 module _ {D L : Type 0} where
   -- a device of a world's server
   world_devices : (told : D → Option Held) (faults : D → ℕ) (world : WorldView D L) (devices : List D)
-      → Follows world.script world.counts world.order world.meta world.stores world.actors → AreDevicesOf told faults world devices
+      → FollowsItself world → AreDevicesOf told faults world devices
       → (number : ℕ) (device : D) (server : Server) → numbered devices number ≡ Some device
       → numbered (after world.script world.order).servers number ≡ Some server
       → IsServerDevice world.script.layout.s (events world.script world.order) number (told device) server
@@ -68,19 +45,21 @@ module _ {D L : Type 0} where
   world_devices told faults world devices follows are zero device server at_device at_server = cc
   world_devices told faults world devices follows are (suc k) device server at_device at_server =
       let there : slice_get follows.servers k ≡ Some server = sym (ap (λ (w : World). slice_get w.servers k) follows.world) ∙ at_server in
-      let at = stands_at world.script.layout.s world.stores follows.servers k server follows.stand there in
-      let below : k < length world.stores = below_length world.stores k at.stored at.there in
-      let same : told device ≡ at.stored.told = some_is
+      let within = slice_get_within follows.servers k server there in
+      let below : k < length world.stores = omega (arith, within, follows.stand.as_many) in
+      let at = there-below world.stores k below in
+      let is = follows.stand.each (suc k) at.0 server at.1 there in
+      let same : told device ≡ at.0.told = some_is
       (sym (mapped_at told (take (length world.stores) devices) k device (in_first (length world.stores) k devices device below at_device))
       ∙ ap (λ (all : List (Option Held)). slice_get all k) are.told_are
-      ∙ mapped_at (λ (stored : Stored). stored.told) world.stores k at.stored at.there) in
+      ∙ mapped_at (λ (stored : Stored). stored.told) world.stores k at.0 at.1) in
       record {
-        held = at.is.held;
-        tells = same ∙ at.is.told;
-        stands = at.is.stands.stands;
-        others = follows.others (suc k) at.stored server at.is.held at.there there at.is.told;
+        held = is.held;
+        tells = same ∙ is.told;
+        stands = is.stands.stands;
+        others = is.others;
         handed_out = hands_out (has_failed is_put_or_start (suc k) (events world.script world.order))
-            at.is.held.handed_out server.handed_out at.is.handed_out;
+            is.held.handed_out server.handed_out is.handed_out;
       }
 
 -- a world was made of a script over devices, its actors took steps, and it was taken apart
@@ -140,15 +119,15 @@ module _ {D L : Type 0} {told : D → Option Held} {faults : D → ℕ} {script 
   -- how often a server's device had failed at the start, and how often it has at the end
   count_came : (k old : ℕ) → k < script.servers → slice_get (map faults came) k ≡ Some old → slice_get ended.counts k ≡ Some old
   count_came k old below was =
-      let first = unmapped_at faults came k old was in
+      let first = unmapped-at faults came k old was in
       ap (λ (counts : List ℕ). slice_get counts k) (ran.continues.counts_are ∙ ran.starts.counts_are)
       ∙ mapped_at faults (take script.servers came) k first.of (in_first script.servers k came first.of below first.there)
       ∙ ap Some first.is
 
   count_left : (k new : ℕ) (stored : Stored) → slice_get ended.stores k ≡ Some stored → slice_get (map faults behind) k ≡ Some new → new ≡ stored.faults
   count_left k new stored there is =
-      let last = unmapped_at faults behind k new is in
-      let below = below_length ended.stores k stored there in
+      let last = unmapped-at faults behind k new is in
+      let below = slice_get_within ended.stores k stored there in
       sym last.is
       ∙ some_is
       (sym (mapped_at faults (take (length ended.stores) behind) k last.of (in_first (length ended.stores) k behind last.of below last.there))
@@ -157,7 +136,7 @@ module _ {D L : Type 0} {told : D → Option Held} {faults : D → ℕ} {script 
 
   -- ---- what they hold
 
-  device_of : (follows : Follows ended.script ended.counts ended.order ended.meta ended.stores ended.actors) (number : ℕ) (before after_run : D)
+  device_of : (follows : FollowsItself ended) (number : ℕ) (before after_run : D)
       → numbered came number ≡ Some before → numbered behind number ≡ Some after_run
       → (found : Option Server) → numbered (after ended.script ended.order).servers number ≡ found
       → IsDeviceOf ended.script.layout.s told (events ended.script ended.order) number before after_run found
@@ -167,10 +146,10 @@ module _ {D L : Type 0} {told : D → Option Held} {faults : D → ℕ} {script 
   device_of follows zero before after_run was is None at = absurd (cc)
   device_of follows (suc k) before after_run was is None at =
       let none : slice_get follows.servers k ≡ None = sym (ap (λ (w : World). slice_get w.servers k) follows.world) ∙ at in
-      let past = no_store ended.script.layout.s ended.stores follows.servers k follows.stand none in
-      spare_same k before after_run (omega (arith, past, count_last)) was is
+      let past = past-end follows.servers k none in
+      spare_same k before after_run (omega (arith, past, follows.stand.as_many, count_last)) was is
 
-  devices_stand : Follows ended.script ended.counts ended.order ended.meta ended.stores ended.actors
+  devices_stand : FollowsItself ended
       → StandAfter told ended.script ended.order came behind
   devices_stand follows = record {
     as_many = as_many;
@@ -182,24 +161,25 @@ module _ {D L : Type 0} {told : D → Option Held} {faults : D → ℕ} {script 
 
   same_count : (k : ℕ) (old new : ℕ) → script.servers ≤ k → slice_get (map faults came) k ≡ Some old → slice_get (map faults behind) k ≡ Some new → old ≡ new
   same_count k old new past was is =
-      let first = unmapped_at faults came k old was in
-      let last = unmapped_at faults behind k new is in
+      let first = unmapped-at faults came k old was in
+      let last = unmapped-at faults behind k new is in
       sym first.is ∙ ap faults (sym (spare_same k first.of last.of past first.there last.there)) ∙ last.is
 
-  module _ (follows : Follows ended.script ended.counts ended.order ended.meta ended.stores ended.actors) where
+  module _ (follows : FollowsItself ended) where
     fault_shows : (k old new : ℕ) → slice_get (map faults came) k ≡ Some old → slice_get (map faults behind) k ≡ Some new → new < LAST_U64
         → (found : Option Stored) → slice_get ended.stores k ≡ found
         → new ≡ old + failed_at (suc k) (events ended.script ended.order)
     unfolding numbered
     fault_shows k old new was is below (Some stored) there =
-        let within = below_length ended.stores k stored there in
+        let within = slice_get_within ended.stores k stored there in
+        let server = there-below follows.servers k (omega (arith, within, follows.stand.as_many)) in
         let same : new ≡ stored.faults = count_left k new stored there is in
         let counted = count_came k old (omega (arith, within, count_last)) was in
-        same ∙ follows.faults.at_servers (suc k) old stored counted there (omega (arith, same, below))
+        same ∙ (follows.stand.each (suc k) stored server.0 there server.1).faults old counted (omega (arith, same, below))
     fault_shows k old new was is below None none =
-        let past = length_past ended.stores k none in
+        let past = past-end ended.stores k none in
         let same = same_count k old new (omega (arith, past, count_last)) was is in
-        omega (arith, same, follows.faults.elsewhere (suc k) none)
+        omega (arith, same, follows.stand.elsewhere (suc k) none)
 
     device_faults : (number old new : ℕ)
         → numbered (map faults came) number ≡ Some old → numbered (map faults behind) number ≡ Some new → new < LAST_U64
@@ -213,13 +193,13 @@ module _ {D L : Type 0} {told : D → Option Held} {faults : D → ℕ} {script 
     none_at_first = refl
 
     faults_show : (left right : ℕ)
-        → FaultsShow ended.script ended.order (counts_of faults came left right) (counts_of faults behind left right)
+        → FaultsShow ended.script ended.order (counts_with faults came left right) (counts_with faults behind left right)
     faults_show left right = record {
       devices = device_faults;
-      disks = λ below_left below_right. omega (arith, follows.faults.elsewhere 0 none_at_first);
+      disks = λ below_left below_right. omega (arith, follows.stand.elsewhere 0 none_at_first);
     }
 
   -- what the order of the run leaves
-  pub leaves_devices : Follows ended.script ended.counts ended.order ended.meta ended.stores ended.actors
+  pub leaves_devices : FollowsItself ended
       → LeavesDevices told faults ended.script ended.order came behind
   leaves_devices follows = record { stand = devices_stand follows; faults_show = faults_show follows }

@@ -1,5 +1,6 @@
 -- A drawn order with one step more.
-use Rattle.std.proofs.Common.{◌≡◌, ℕ, Bool, true, false, List, [], ◌∷◌, ◌++◌, refl, ◌∙◌, ap}
+use Rattle.std.proofs.Common.{◌≡◌, ℕ, List, [], ◌∷◌, ◌++◌, refl, sym, ◌∙◌, ap}
+use Rattle.std.proofs.Math.Bool.{and-true, and_assoc}
 use Rattle.std.specs.Prelude.{◌&&◌, fold}
 use Rattle.rand_pcg.specs.Lcg.{Lcg}
 use Rattle.rand_pcg.specs.Pcg.{pcg32}
@@ -16,14 +17,6 @@ unfolding generator_behind
 generator_behind-snoc generator [] step = refl
 generator_behind-snoc generator (first ∷ rest) step = generator_behind-snoc (pcg32 generator).1 rest step
 
-and-true : (b : Bool) → (b && true) ≡ b
-and-true true = refl
-and-true false = refl
-
-and-assoc : (a b c : Bool) → (a && (b && c)) ≡ ((a && b) && c)
-and-assoc true b c = refl
-and-assoc false b c = refl
-
 drawn_from-snoc : (script : Script) (generator : Lcg) (world : World) (order : List Step) (step : Step)
     → drawn_from script generator world (order ++ step ∷ [])
     ≡ (drawn_from script generator world order && is_by step.actor (drawn_of (turn script (fold move world order)) (pcg32 (generator_behind generator order)).0))
@@ -33,9 +26,9 @@ drawn_from-snoc script generator world [] step =
 drawn_from-snoc script generator world (first ∷ rest) step =
     ap (λ b. is_by first.actor (drawn_of (turn script world) (pcg32 generator).0) && b)
     (drawn_from-snoc script (pcg32 generator).1 (move world first) rest step)
-    ∙ and-assoc (is_by first.actor (drawn_of (turn script world) (pcg32 generator).0))
+    ∙ sym (and_assoc (is_by first.actor (drawn_of (turn script world) (pcg32 generator).0))
     (drawn_from script (pcg32 generator).1 (move world first) rest)
-    (is_by step.actor (drawn_of (turn script (fold move (move world first) rest)) (pcg32 (generator_behind (pcg32 generator).1 rest)).0))
+    (is_by step.actor (drawn_of (turn script (fold move (move world first) rest)) (pcg32 (generator_behind (pcg32 generator).1 rest)).0)))
 
 -- an order with one step more is drawn where the order is drawn and the step is that of the actor that the next word draws
 pub is_drawn-snoc : (number : ℕ) (script : Script) (order : List Step) (step : Step)

@@ -1,12 +1,12 @@
 -- How a run ends, by why its steps stop, and where a script has more servers than there are devices.
-use Rattle.std.proofs.Common.{◌≡◌, ℕ, ◌<◌, ◌≤◌, ◌⊎◌, inl, inr, List, [], ◌++◌, length, Option, Some, None, Ok, Err, refl, sym, ◌∙◌, ap, subst, arith}
+use Rattle.std.proofs.Common.{◌≡◌, ℕ, ◌<◌, ◌≤◌, inl, inr, List, ◌++◌, length, Option, Some, None, Ok, Err, sym, ◌∙◌, ap, subst, arith}
 use Rattle.std.proofs.lemmas.List.{append-nil, length-append}
 use Rattle.std.proofs.lemmas.Option.{same_Some}
 use Rattle.qfs_base.specs.declared.script.Script.{Script}
 use Rattle.qfs_base.specs.declared.script.ScriptCause.{ScriptCause}
 use Rattle.qfs_device.specs.Held.{Held}
 use Rattle.qfs_device.specs.Stream.{Gives, IsAtEnd}
-use Rattle.qfs_driver.specs.Reading.{ReadsWhole, TellsScript, IsRefused}
+use Rattle.qfs_driver.specs.Reading.{ReadsWhole, TellsScript, RefusesScript}
 use Rattle.qfs_driver.specs.Run.{StayInPlace, StopsOver}
 use Rattle.qfs_driver.specs.Serial.{Outside, EndsSo, IsTooFew}
 use Rattle.qfs_driver.specs.declared.status.Status.{Status}
@@ -51,7 +51,7 @@ module _ (left after : Option (List ℕ)) (script : Script) (tells : TellsScript
       let says : Ok read ≡ Ok script = sym whole.says ∙ ap (λ b. read_lines (text_lines b)) same ∙ tells.says in cc
 
   -- and it isn't refused
-  told_not_refused : (line : ℕ) (cause : ScriptCause) → IsRefused left after line cause → ⊥
+  told_not_refused : (line : ℕ) (cause : ScriptCause) → RefusesScript left after line cause → ⊥
   told_not_refused line cause refused =
       elim refused.1 [
         | inl at_first ↦

@@ -1,6 +1,6 @@
 -- How a world at work goes on by drawn steps.
 use Rattle.std.proofs.Common.{◌≡◌, ℕ, zero, suc, inl, inr, ◌<◌, ◌≤◌, Bool, true, false, IsTrue, List, [], ◌∷◌, ◌++◌, length, refl, sym, ◌∙◌, ap, subst, arith, Some, None, eq-eqb}
-use Rattle.std.specs.Prelude.{◌==◌, ◌&&◌, ◌||◌, ◌%◌, slice_get, option_map}
+use Rattle.std.specs.Prelude.{◌==◌, ◌||◌, ◌%◌, slice_get, option_map}
 use Rattle.std.specs.Option.{option_and_then}
 use Rattle.std.specs.List.{AllZip, list_any, list_all}
 use Rattle.qfs_model_text.specs.Order.{same_outcome}
@@ -10,9 +10,9 @@ use Rattle.qfs_driver.specs.declared.status.Status.{Status}
 use Rattle.qfs_driver.specs.declared.status.Status.TheVariants as Ended
 use Rattle.std.proofs.lemmas.List.Elements.{length_all_zip, AllZip-get_or}
 use Rattle.std.proofs.lemmas.List.Folds.{list_all-append}
+use Rattle.std.proofs.lemmas.Bool.{and_from}
 use Rattle.rand_pcg.specs.Lcg.{Lcg}
 use Rattle.rand_pcg.specs.Pcg.{pcg32}
-use Rattle.qfs_base.specs.Rules.{rules_of}
 use Rattle.qfs_base.specs.declared.history.Outcome.{Outcome}
 use Rattle.qfs_base.specs.declared.history.Outcome.TheVariants as Came
 use Rattle.qfs_base.specs.declared.history.Step.{Step}
@@ -32,16 +32,13 @@ use Rattle.qfs_model_world.specs.Drawn.{generator_of, drawn_of, is_by, drawn_fro
 use Rattle.qfs_model_world.specs.Fits.{turn}
 use Rattle.qfs_model_world.specs.World.{World, numbered, node_turn, after as after_order}
 use Rattle.qfs_store.specs.Stored.{Stored}
-use Rattle.qfs_world.specs.Calls.{GoesOn, HasFailed, Steps}
+use Rattle.qfs_world.specs.Calls.{GoesOn, FailedOnce, TakesStep}
+use Rattle.qfs_world.proofs.GoesOn.{all-go_on, all-told_before}
 use Rattle.qfs_world.proofs.Simulation.{event as event_of, events-after}
-use Rattle.qfs_world.specs.Follows.{Follows, IsAfter}
+use Rattle.qfs_world.specs.Follows.{FollowsItself, IsAfter, world_of}
 use Rattle.qfs_world.specs.View.{WorldView, AllTell, turn_of}
 
 -- ---- stores that go on
-
-all_go_on : (stores : List Stored) → AllZip GoesOn stores stores
-all_go_on [] = tt
-all_go_on (stored ∷ stores) = (record { tells = refl; never_falls = omega arith }, all_go_on stores)
 
 goes_on_further : (a b c : Stored) → GoesOn a b → GoesOn b c → GoesOn a c
 goes_on_further a b c first second = record {
@@ -58,13 +55,6 @@ all_go_on_further [] (y ∷ ys) c first second = absurd first
 all_go_on_further (x ∷ xs) [] c first second = absurd first
 all_go_on_further (x ∷ xs) (y ∷ ys) [] first second = absurd second
 
--- stores that tell what they hold told it before
-pub all_told_before : (before behind : List Stored) → AllZip GoesOn before behind → AllTell behind → AllTell before
-all_told_before before behind go_on tell = λ k d below.
-    let same : length before ≡ length behind = length_all_zip GoesOn before behind go_on in
-    let below_too : k < length behind = omega arith in
-    subst IsTrue (AllZip-get_or GoesOn before behind k d d go_on below).tells (tell k d below_too)
-
 -- a count that rose once rose
 rose_once : (old new : ℕ) → RoseOnce old new → Rose old new
 rose_once old new (inl more) = inl (omega (arith, more))
@@ -80,14 +70,11 @@ or_true false is = is
 
 -- ---- steps that are drawn
 
-and_true : (a b : Bool) → a ≡ true → b ≡ true → (a && b) ≡ true
-and_true a b first second = rw (first, second) refl
-
 done-snoc : (order : List Step) (actor : ℕ) → list_all is_done order ≡ true
     → list_all is_done (order ++ record { actor = actor; outcome = Came.Done } ∷ []) ≡ true
 unfolding is_done same_outcome
 done-snoc order actor all =
-    list_all-append is_done order (record { actor = actor; outcome = Came.Done } ∷ []) ∙ and_true _ _ all refl
+    list_all-append is_done order (record { actor = actor; outcome = Came.Done } ∷ []) ∙ and_from _ _ all refl
 
 drawn_by : (actor word : ℕ) (turns : List ℕ) → drawn_of turns word ≡ Some actor → is_by actor (drawn_of turns word) ≡ true
 unfolding is_by
@@ -159,7 +146,7 @@ not_first xs (suc k) x is first = absurd (omega (arith, first))
 
 module _ {D L : Type 0} where
   -- a step at a server whose device failed, after others
-  risen_further : (a b c : WorldView D L) (server : ℕ) → Continues a b → HasFailed b.stores c.stores server → HasRisen a c server
+  risen_further : (a b c : WorldView D L) (server : ℕ) → Continues a b → FailedOnce b.stores c.stores server → HasRisen a c server
   risen_further a b c server continues failed =
       let at = went_on_at a.stores b.stores server failed.old continues.stores_go_on failed.before_is in
       record {
@@ -187,7 +174,7 @@ module _ {D L : Type 0} where
         counts_are = refl;
         spare_is = refl;
         disks_are = refl;
-        stores_go_on = all_go_on world.stores;
+        stores_go_on = all-go_on world.stores;
       }
 
   pub continues_same : (before behind : WorldView D L) → behind ≡ before → Continues before behind
@@ -202,7 +189,7 @@ module _ {D L : Type 0} where
     stores_go_on = all_go_on_further a.stores b.stores c.stores first.stores_go_on second.stores_go_on;
   }
 
-  turn_after : (world : WorldView D L) → Follows world.script world.counts world.order world.meta world.stores world.actors
+  turn_after : (world : WorldView D L) → FollowsItself world
       → turn world.script (after_order world.script world.order) ≡ turn_of world.script world.actors
   unfolding turn
   turn_after world follows = ap (λ (w : World). turn world.script w) follows.world
@@ -210,10 +197,10 @@ module _ {D L : Type 0} where
   drawn_more : (number actor : ℕ) (outcome : Outcome) (before behind : WorldView D L) (turns : List ℕ)
       → IsAfter before → turns ≡ turn_of before.script before.actors
       → drawn_of turns (pcg32 (generator_behind (generator_of number) before.order)).0 ≡ Some actor
-      → Steps before actor outcome behind → IsDrawnSo number before → AllTell behind.stores
+      → TakesStep before actor outcome behind → IsDrawnSo number before → AllTell behind.stores
       → IsTrue (is_drawn number behind.script behind.order)
   drawn_more number actor outcome before behind turns after turns_are drawn steps is tell =
-      let told : AllTell before.stores = all_told_before before.stores behind.stores steps.goes_on tell in
+      let told : AllTell before.stores = all-told_before before.stores behind.stores steps.goes_on tell in
       let step : Step = record { actor = actor; outcome = outcome } in
       let word : ℕ = (pcg32 (generator_behind (generator_of number) before.order)).0 in
       let turns_after : turn before.script (after_order before.script before.order) ≡ turns =
@@ -221,14 +208,14 @@ module _ {D L : Type 0} where
       let by : is_by actor (drawn_of (turn before.script (after_order before.script before.order)) word) ≡ true =
       ap (λ t. is_by actor (drawn_of t word)) turns_after ∙ drawn_by actor word turns drawn in
       let grown : is_drawn number before.script (before.order ++ step ∷ []) ≡ true =
-      is_drawn-snoc number before.script before.order step ∙ and_true _ _ (is.drawn told) by in
+      is_drawn-snoc number before.script before.order step ∙ and_from _ _ (is.drawn told) by in
       rw (steps.others.script, steps.moves.order) grown
 
   -- the loop of a run: a drawn step more
   pub drawn_further : (number actor : ℕ) (before behind : WorldView D L) (turns : List ℕ)
       → IsAfter before → turns ≡ turn_of before.script before.actors
       → drawn_of turns (pcg32 (generator_behind (generator_of number) before.order)).0 ≡ Some actor
-      → Steps before actor Came.Done behind → IsDrawnSo number before → IsDrawnSo number behind
+      → TakesStep before actor Came.Done behind → IsDrawnSo number before → IsDrawnSo number behind
   drawn_further number actor before behind turns after turns_are drawn steps is = record {
     drawn = drawn_more number actor Came.Done before behind turns after turns_are drawn steps is;
     done = rw steps.moves.order (done-snoc before.order actor is.done);
@@ -254,7 +241,7 @@ module _ {D L : Type 0} where
   -- ---- a step that failed
 
   -- an actor that goes to a server steps there
-  pub goes_there : (before behind : WorldView D L) (actor server : ℕ) (outcome : Outcome) (steps : Steps before actor outcome behind)
+  pub goes_there : (before behind : WorldView D L) (actor server : ℕ) (outcome : Outcome) (steps : TakesStep before actor outcome behind)
       → Some server ≡ option_and_then node_of (numbered before.actors actor) → steps.node ≡ server
   goes_there before behind actor server outcome steps goes =
       let there : option_and_then node_of (numbered before.actors actor) ≡ Some steps.node =
@@ -262,13 +249,13 @@ module _ {D L : Type 0} where
       some_is (sym there ∙ sym goes)
 
   fails_last : (actor server : ℕ) (before behind : WorldView D L)
-      → Follows before.script before.counts before.order before.meta before.stores before.actors
-      → FailsAt before actor server behind → HasFailed before.stores behind.stores server → IsTrue (list_all is_done before.order)
+      → FollowsItself before
+      → FailsAt before actor server behind → FailedOnce before.stores behind.stores server → IsTrue (list_all is_done before.order)
       → FailsLast behind.script behind.order server
   fails_last actor server before behind follows fails failed done =
       let moves = fails.steps.moves in
       let turn = moves.turns.turns in
-      let world : World = record { rules = rules_of before.script; meta = before.meta; servers = follows.servers; actors = before.actors } in
+      let world : World = world_of before.script before.meta follows.servers before.actors in
       let turned = node_turn world actor Came.Failed turn.request in
       let asks = asks_server turn.request server (node_of_asked moves.actor turn.request fails.steps.node turn.asked moves.to ∙ fails.at)
       (not_first before.stores server failed.old failed.before_is) turn.askable in
@@ -295,12 +282,12 @@ module _ {D L : Type 0} where
       → FailsAt before actor server behind → IsDrawnSo number before → StopsAtServer number server start behind
   stops_at_server number actor server start before behind turns continues after turns_are drawn fails is =
       let steps = fails.steps in
-      let failed : HasFailed before.stores behind.stores server = subst (HasFailed before.stores behind.stores) fails.at (steps.cause refl) in
+      let failed : FailedOnce before.stores behind.stores server = subst (FailedOnce before.stores behind.stores) fails.at (steps.cause refl) in
       record {
         risen = risen_further start before behind server continues failed;
         drawn = λ tell. record {
           drawn = drawn_more number actor Came.Failed before behind turns after turns_are drawn steps is tell;
-          fails = fails_last actor server before behind (after (all_told_before before.stores behind.stores steps.goes_on tell)) fails failed is.done;
+          fails = fails_last actor server before behind (after (all-told_before before.stores behind.stores steps.goes_on tell)) fails failed is.done;
         };
       }
 

@@ -9,10 +9,12 @@ use Rattle.qfs_device.specs.Fault.{Rose}
 use Rattle.qfs_device.specs.Held.{Held}
 use Rattle.qfs_device.specs.declared.log_disk.MetaDisks.{MetaDisks}
 use Rattle.qfs_driver.proofs.DeviceLaws.{Ran, count_first, leaves_devices}
-use Rattle.qfs_driver.proofs.Places.{some_isnt, from_first, mapped_at, unmapped_at, below_length}
+use Rattle.qfs_driver.proofs.Places.{some_isnt, mapped_at}
+use Rattle.qfs_world.proofs.Lists.{get-take, unmapped-at}
+use Rattle.std.proofs.lemmas.Option.{slice_get_within}
 use Rattle.qfs_driver.proofs.PlayLaws.{all_tell_behind}
-use Rattle.qfs_driver.specs.Playing.{IsDrawnSo, IsDrawnToFault, HasEnded, StopsAt}
-use Rattle.qfs_driver.specs.Run.{IsLeftAfter, IsRunOf, IsRunTo, LeavesDevices, Prints, ServersTell, HasFault, StopsOver}
+use Rattle.qfs_driver.specs.Playing.{IsDrawnSo, IsDrawnToFault, HasNothingLeft, StopsAt}
+use Rattle.qfs_driver.specs.Run.{IsLeftAfter, IsRunOf, IsRunTo, LeavesDevices, PrintsRun, ServersTell, HasFault, StopsOver}
 use Rattle.qfs_driver.specs.Scripts.{IsReadScript}
 use Rattle.qfs_driver.specs.declared.status.Status.{Status}
 use Rattle.qfs_driver.specs.declared.status.Status.TheVariants as Ended
@@ -29,7 +31,7 @@ use Rattle.qfs_model_world.specs.World.{World, numbered, after}
 use Rattle.qfs_nodes.specs.Actors.{lines_of_actors}
 use Rattle.qfs_nodes.specs.Nodes.{stored_over}
 use Rattle.qfs_store.specs.Stored.{Stored}
-use Rattle.qfs_world.specs.Follows.{Follows, IsAfter}
+use Rattle.qfs_world.specs.Follows.{FollowsItself, IsAfter}
 use Rattle.qfs_world.specs.View.{WorldView, AllTell, turn_of}
 
 -- ---- the text
@@ -40,9 +42,9 @@ ended_whole script order turns is none = rw (is, none) refl
 
 -- the text of a world whose actors have finished, and which was drawn from a number
 world_text : {D L : Type 0} (told : D → Option Held) (faults : D → ℕ) (number : ℕ) (world : WorldView D L) (came behind : List D) (written : List ℕ)
-    → Follows world.script world.counts world.order world.meta world.stores world.actors
+    → FollowsItself world
     → LeavesDevices told faults world.script world.order came behind
-    → IsTrue (is_drawn number world.script world.order) → IsTrue (list_all is_done world.order) → HasEnded world
+    → IsTrue (is_drawn number world.script world.order) → IsTrue (list_all is_done world.order) → HasNothingLeft world
     → IsReadScript world.script
     → written ≡ plain_output (lines_of_actors world.actors) world.meta.history world.order
     → IsRunOf told faults number world.script came behind written
@@ -84,9 +86,9 @@ module _ {D L : Type 0} {told : D → Option Held} {faults : D → ℕ} {script 
       (All-map (λ (stored : Stored). IsSome stored.told) (stored_over told faults script.layout.s) (take script.servers came) tell))
 
   -- the text of a run whose world was drawn to its end
-  pub run_prints : (number : ℕ) (written : List ℕ) → IsDrawnSo number ended → HasEnded ended → IsAfter ended → IsReadScript script
+  pub run_prints : (number : ℕ) (written : List ℕ) → IsDrawnSo number ended → HasNothingLeft ended → IsAfter ended → IsReadScript script
       → written ≡ plain_output (lines_of_actors ended.actors) ended.meta.history ended.order
-      → Prints told faults number script came behind written
+      → PrintsRun told faults number script came behind written
   run_prints number written drawn over after_own read is = λ tell.
       let tells = tell_at_end tell in
       subst (λ s. IsRunOf told faults number s came behind written) script_is
@@ -99,17 +101,17 @@ module _ {D L : Type 0} {told : D → Option Held} {faults : D → ℕ} {script 
   unfolding numbered
   fault_at k old new at_start at_end rose =
       let n = script.servers in
-      let below : k < length started.stores = below_length started.stores k old at_start in
-      let first = unmapped_at (stored_over told faults script.layout.s) (take n came) k old
+      let below : k < length started.stores = slice_get_within started.stores k old at_start in
+      let first = unmapped-at (stored_over told faults script.layout.s) (take n came) k old
       (ap (λ (stores : List Stored). slice_get stores k) (sym ran.starts.stores_are) ∙ at_start) in
-      let last = unmapped_at faults (take (length ended.stores) behind) k new.faults
+      let last = unmapped-at faults (take (length ended.stores) behind) k new.faults
       (ap (λ (counts : List ℕ). slice_get counts k) ran.are.faults_are ∙ mapped_at (λ (stored : Stored). stored.faults) ended.stores k new at_end) in (
         omega (arith, count_first ran, below),
         record {
           old = first.of;
           new = last.of;
-          before_is = from_first n k came first.of first.there;
-          behind_is = from_first (length ended.stores) k behind last.of last.there;
+          before_is = get-take n came k first.of first.there;
+          behind_is = get-take (length ended.stores) behind k last.of last.there;
           rose = subst (λ count. Rose (faults first.of) count) (sym last.is) (subst (λ count. Rose count new.faults) (sym (ap (λ (s : Stored). s.faults) first.is)) rose);
         },
       )

@@ -10,7 +10,8 @@ use Rattle.qfs_machine.specs.Askable.{IsAskedOfServer}
 use Rattle.qfs_model_world.specs.Events.{Event, events}
 use Rattle.qfs_model_world.specs.GivenOrder.{is_done}
 
--- the last step of an order failed, and it was a Put or a Fetch at this server; all steps before it came out done
+-- the last step of an order failed, and it was a Put or a Fetch at this server; all steps before it
+-- came out done
 pub record FailsLast (script : Script) (order : List Step) (server : ℕ) : Type 0 where
   pub done : List Step
   pub actor : ℕ

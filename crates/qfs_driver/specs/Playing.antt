@@ -10,7 +10,7 @@ use Rattle.qfs_device.specs.Fault.{Rose}
 use Rattle.qfs_model_world.specs.GivenOrder.{is_done}
 use Rattle.qfs_model_world.specs.World.{numbered}
 use Rattle.qfs_store.specs.Stored.{Stored}
-use Rattle.qfs_world.specs.Calls.{GoesOn, Steps}
+use Rattle.qfs_world.specs.Calls.{GoesOn, TakesStep}
 use Rattle.qfs_world.specs.View.{WorldView, AllTell, turn_of}
 
 module _ {D L : Type 0} where
@@ -34,16 +34,16 @@ module _ {D L : Type 0} where
       : Type 0 where
     pub actor : ℕ
     pub drawn : drawn_of turns word ≡ Some actor
-    pub steps : Steps before actor Came.Done behind
+    pub steps : TakesStep before actor Came.Done behind
 
   -- nothing is left to do
-  abbrev pub HasEnded : WorldView D L → Type 0
-  HasEnded world = turn_of world.script world.actors ≡ []
+  abbrev pub HasNothingLeft : WorldView D L → Type 0
+  HasNothingLeft world = turn_of world.script world.actors ≡ []
 
   -- an actor's step failed at a server
   pub record FailsAt (before : WorldView D L) (actor server : ℕ) (behind : WorldView D L)
       : Type 0 where
-    pub steps : Steps before actor Came.Failed behind
+    pub steps : TakesStep before actor Came.Failed behind
     pub at : steps.node ≡ server
 
   -- why the step of an actor ends a run: memory is wanting, or the step failed at a server

@@ -36,7 +36,7 @@ pub record TooBig (before after : Option (List ℕ)) : Type 0 where
   pub long : most_script_bytes < length bytes
 
 -- the source gave all that it had, and the line of this number is the first that isn't of the forms
-pub record BadLine (before after : Option (List ℕ)) (line : ℕ) : Type 0 where
+pub record LineIsBad (before after : Option (List ℕ)) (line : ℕ) : Type 0 where
   pub bytes : List ℕ
   pub gave : Gives bytes before after
   pub at_end : IsAtEnd after
@@ -44,14 +44,14 @@ pub record BadLine (before after : Option (List ℕ)) (line : ℕ) : Type 0 wher
   pub says : read_lines (text_lines bytes) ≡ Err line
 
 -- a script is refused at a line, or at line 0 for its size
-abbrev pub IsRefused : Option (List ℕ) → Option (List ℕ) → ℕ → ScriptCause → Type 0
-IsRefused before after line cause =
-    (cause ≡ Cause.NotYet) × (((line ≡ 0) × TooBig before after) ⊎ BadLine before after line)
+abbrev pub RefusesScript : Option (List ℕ) → Option (List ℕ) → ℕ → ScriptCause → Type 0
+RefusesScript before after line cause =
+    (cause ≡ Cause.NotYet) × (((line ≡ 0) × TooBig before after) ⊎ LineIsBad before after line)
 
 -- why a script isn't read: the source failed, memory is wanting, or the script is refused
 abbrev pub ReadEnds : Option (List ℕ) → Option (List ℕ) → ℕ → ℕ → Status → Type 0
 ReadEnds before after faults faults' Ended.ReadFault = Rose faults faults'
 ReadEnds before after faults faults' Ended.NoMemory = ⊤
 ReadEnds before after faults faults' (Ended.BadScript line cause) =
-    IsRefused before after line cause
+    RefusesScript before after line cause
 ReadEnds before after faults faults' _ = ⊥

@@ -32,8 +32,8 @@ module _ {D : Type 0} where
   ServersTell told servers devices = All (λ device. IsSome (told device)) (take servers devices)
 
   -- the counts of faults of these devices, beside those of the disks
-  abbrev pub counts_of : (D → ℕ) → List D → ℕ → ℕ → Counts
-  counts_of faults devices left right =
+  abbrev pub counts_with : (D → ℕ) → List D → ℕ → ℕ → Counts
+  counts_with faults devices left right =
       record { devices = map faults devices; left = left; right = right }
 
   -- what an order of a script leaves: devices that stand for its servers, and faults that show it,
@@ -42,7 +42,8 @@ module _ {D : Type 0} where
       (order : List Step) (came behind : List D) : Type 0 where
     pub stand : StandAfter told script order came behind
     pub faults_show : (left right : ℕ)
-        → FaultsShow script order (counts_of faults came left right) (counts_of faults behind left right)
+        → FaultsShow script order (counts_with faults came left right)
+        (counts_with faults behind left right)
 
   -- the text of a script and of an order that fits it, is whole and is drawn from a number, in
   -- which every step came out done; and what the run leaves on the devices. In this order there is
@@ -61,8 +62,9 @@ module _ {D : Type 0} where
     pub no_deletion : NoDeletion script order
 
   -- as far as the devices told what they held, this is the text of a run of the script
-  abbrev pub Prints : (D → Option Held) → (D → ℕ) → ℕ → Script → List D → List D → List ℕ → Type 0
-  Prints told faults number script came behind text =
+  abbrev pub PrintsRun : (D → Option Held) → (D → ℕ) → ℕ → Script → List D → List D → List ℕ
+      → Type 0
+  PrintsRun told faults number script came behind text =
       ServersTell told script.servers came → IsRunOf told faults number script came behind text
 
   -- a device tells what it holds exactly where it told it before, and its count of faults hasn't

@@ -5,16 +5,16 @@ use Rattle.qfs_base.specs.declared.script.Script.{Script}
 use Rattle.qfs_device.specs.Fault.{Rose}
 use Rattle.qfs_device.specs.Held.{Held}
 use Rattle.qfs_device.specs.Stream.{Appends}
-use Rattle.qfs_driver.specs.Reading.{ReadsWhole, IsRefused}
-use Rattle.qfs_driver.specs.Run.{Prints, StayInPlace, FailsAtServer, StopsForMemory}
+use Rattle.qfs_driver.specs.Reading.{ReadsWhole, RefusesScript}
+use Rattle.qfs_driver.specs.Run.{PrintsRun, StayInPlace, FailsAtServer, StopsForMemory}
 use Rattle.qfs_driver.specs.declared.one_thread.Plan.{Plan}
 use Rattle.qfs_driver.specs.declared.one_thread.Plan.TheVariants as By
 use Rattle.qfs_driver.specs.declared.status.Status.{Status}
 use Rattle.qfs_driver.specs.declared.status.Status.TheVariants as Ended
 
 -- the number of a plan
-abbrev pub number_of : Plan → ℕ
-number_of (By.Drawn number) = number
+abbrev pub number_of_plan : Plan → ℕ
+number_of_plan (By.Drawn number) = number
 
 -- what a run finds outside and leaves there: what is left in the source, what was written to the
 -- sink, how often the two have failed, and the devices
@@ -45,7 +45,7 @@ module _ {D : Type 0} where
     pub script : Script
     pub read : ReadsWhole before.left after.left script
     pub enough : script.servers ≤ length before.devices
-    pub prints : Prints told faults number script before.devices after.devices text
+    pub prints : PrintsRun told faults number script before.devices after.devices text
     pub places : StayInPlace told faults script.servers before.devices after.devices
 
   -- the text of the run was written whole
@@ -102,7 +102,7 @@ module _ {D : Type 0} where
   EndsSo told faults number before after Ended.Ok = WritesWhole told faults number before after
   EndsSo told faults number before after Ended.Usage = ⊥
   EndsSo told faults number before after (Ended.BadScript line cause) =
-      IsRefused before.left after.left line cause
+      RefusesScript before.left after.left line cause
   EndsSo told faults number before after (Ended.TooFewDevices servers devices) =
       LacksDevices servers devices before after
   EndsSo told faults number before after Ended.ReadFault =

@@ -37,7 +37,8 @@ usage = codes "usage: qfs step N | replay | run | make N"
 unfoldable pub status_text : Status → List ℕ
 status_text Ended.Ok = []
 status_text Ended.Usage = usage
-status_text (Ended.BadScript line cause) = codes "line " ++ decimal line ++ codes ": " ++ script_cause_word cause
+status_text (Ended.BadScript line cause) =
+    codes "line " ++ decimal line ++ codes ": " ++ script_cause_word cause
 status_text (Ended.TooFewDevices servers devices) = codes "devices " ++ decimal devices
 status_text Ended.ReadFault = codes "read"
 status_text Ended.WriteFault = codes "write"

@@ -4,5 +4,6 @@ use Rattle.qfs_first.specs.Numbers.{number_below}
 
 -- `step N`: the number from which the order of steps is drawn
 abbrev pub seed_of : List (List ℕ) → Option ℕ
-seed_of (word ∷ number ∷ []) = if bytes_eq word (codes "step") then number_below (2 ^ 64) number else None
+seed_of (word ∷ number ∷ []) =
+    if bytes_eq word (codes "step") then number_below (2 ^ 64) number else None
 seed_of _ = None

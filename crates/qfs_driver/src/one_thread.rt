@@ -3,7 +3,7 @@ ghost use Rattle.std.specs.Prelude.{◌≡◌, ◌<◌, ◌≤◌, All, length};
 ghost use Rattle.qfs_driver.specs.Run.{AllRemain};
 ghost use Rattle.qfs_base.specs.declared.script.Script.{Script};
 ghost use Rattle.qfs_driver.specs.Reading.{TellsScript};
-ghost use Rattle.qfs_driver.specs.Serial.{EndsSo, IsTooFew, OnUntouched, OnUnwritten, number_of, outside_of};
+ghost use Rattle.qfs_driver.specs.Serial.{EndsSo, IsTooFew, OnUntouched, OnUnwritten, number_of_plan, outside_of};
 ghost use Rattle.qfs_nodes.specs.Nodes.{IsNew};
 
 use crate::reading::read_script;
@@ -51,7 +51,7 @@ pub fn serial<S: Source, K: Sink, D: ChunkDevice, L: LogDisk>(
     disks: &mut MetaDisks<L>,
 ) -> Status
     requires { All (IsNew D.told) devices.old.items }
-    ensures ends { EndsSo D.told D.faults (number_of plan)
+    ensures ends { EndsSo D.told D.faults (number_of_plan plan)
         (outside_of S.left S.faults K.written K.faults script.old out.old devices.old.items)
         (outside_of S.left S.faults K.written K.faults script.new out.new devices.new.items)
         result }

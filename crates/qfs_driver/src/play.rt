@@ -1,8 +1,8 @@
 //! A world's actors take their turns as they are drawn.
 ghost use Rattle.std.specs.Prelude.{◌≡◌, ◌<◌, [], length, OnOk, OnErr, IfErr};
 ghost use Rattle.rand_pcg.specs.Pcg.{pcg32};
-ghost use Rattle.qfs_driver.specs.Playing.{Continues, IsDrawnSo, HasEnded, StopsAt, StopsDrawnStep, StopsStep, TakesDrawnStep};
-ghost use Rattle.qfs_world.specs.Calls.{HasTurn, Steps};
+ghost use Rattle.qfs_driver.specs.Playing.{Continues, IsDrawnSo, HasNothingLeft, StopsAt, StopsDrawnStep, StopsStep, TakesDrawnStep};
+ghost use Rattle.qfs_world.specs.Calls.{HasTurn, TakesStep};
 ghost use Rattle.qfs_world.specs.View.{turn_of};
 
 use crate::draws::{draw, generator_of};
@@ -19,7 +19,7 @@ pub fn play<D: ChunkDevice, L: LogDisk>(world: &mut World<D, L>, number: u64) ->
     requires { world.old.order ≡ [] }
     ensures continues { Continues world.old world.new }
     ensures drawn { OnOk result (IsDrawnSo number world.new) }
-    ensures ended { OnOk result (HasEnded world.new) }
+    ensures ended { OnOk result (HasNothingLeft world.new) }
     ensures err { IfErr result (StopsAt number world.old world.new) }
 {
     let mut generator = generator_of(number);
@@ -59,7 +59,7 @@ fn take_step<D: ChunkDevice, L: LogDisk>(
     actor: ActorId,
 ) -> Result<(), Status>
     requires { HasTurn world.old actor }
-    ensures done { OnOk result (Steps world.old actor Outcome.Done world.new) }
+    ensures done { OnOk result (TakesStep world.old actor Outcome.Done world.new) }
     ensures continues { Continues world.old world.new }
     ensures err { IfErr result (StopsStep world.old actor world.new) }
 {

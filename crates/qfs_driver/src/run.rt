@@ -1,6 +1,6 @@
 //! A script is run over devices and disks that are handed in, and its text is made.
 ghost use Rattle.std.specs.Prelude.{◌≡◌, ◌≤◌, length, All, IfOk, IfErr};
-ghost use Rattle.qfs_driver.specs.Run.{Prints, StayInPlace, StopsOver};
+ghost use Rattle.qfs_driver.specs.Run.{PrintsRun, StayInPlace, StopsOver};
 ghost use Rattle.qfs_driver.specs.Scripts.{IsReadScript};
 ghost use Rattle.qfs_nodes.specs.Nodes.{IsNew};
 
@@ -26,7 +26,7 @@ pub fn run<D: ChunkDevice, L: LogDisk>(
     requires read { IsReadScript script.now }
     requires enough { script.now.servers ≤ length devices.old.items }
     requires fresh { All (IsNew D.told) devices.old.items }
-    ensures text { IfOk result (λ text. Prints D.told D.faults number script.now
+    ensures text { IfOk result (λ text. PrintsRun D.told D.faults number script.now
         devices.old.items devices.new.items text.items) }
     ensures err { IfErr result (StopsOver D.told D.faults number script.now
         devices.old.items devices.new.items) }

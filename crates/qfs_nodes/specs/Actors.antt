@@ -15,7 +15,8 @@ actors_of actors = map (λ (it : Standing). it.actor) actors
 -- the actors of these commands at their start, numbered from here on
 abbrev pub starts_from : Rules → ℕ → List (List Command) → List Standing
 starts_from rules number [] = []
-starts_from rules number (commands ∷ more) = at_start rules number commands ∷ starts_from rules (number + 1) more
+starts_from rules number (commands ∷ more) =
+    at_start rules number commands ∷ starts_from rules (number + 1) more
 
 -- the reply lines of actors, by number and command
 abbrev pub lines_of_actors : List Actor → List ReplyLine

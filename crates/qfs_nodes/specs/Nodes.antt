@@ -23,10 +23,14 @@ stored_over told faults stripe device =
 abbrev pub stores_over : {D : Type 0} → (D → Option Held) → (D → ℕ) → ℕ → List D → List Stored
 stores_over told faults stripe devices = map (stored_over told faults stripe) devices
 
--- these devices are those of chunk servers, which tell what the servers' did, and behind them these others
-pub record AreHome {D : Type 0} (told : D → Option Held) (faults : D → ℕ) (stores : List Stored) (others devices : List D) : Type 0 where
-  pub told_are : map told (take (length stores) devices) ≡ map (λ (stored : Stored). stored.told) stores
-  pub faults_are : map faults (take (length stores) devices) ≡ map (λ (stored : Stored). stored.faults) stores
+-- these devices are those of chunk servers, which tell what the servers' did, and behind them these
+-- others
+pub record AreHome {D : Type 0} (told : D → Option Held) (faults : D → ℕ) (stores : List Stored)
+    (others devices : List D) : Type 0 where
+  pub told_are : map told (take (length stores) devices)
+      ≡ map (λ (stored : Stored). stored.told) stores
+  pub faults_are : map faults (take (length stores) devices)
+      ≡ map (λ (stored : Stored). stored.faults) stores
   pub others_are : drop (length stores) devices ≡ others
 
 -- ---- lists of nodes

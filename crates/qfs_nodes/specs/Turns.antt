@@ -22,8 +22,10 @@ use Rattle.qfs_store.specs.Stored.{Stored}
 use Rattle.qfs_nodes.specs.declared.node.NodeState.{NodeState}
 use Rattle.qfs_nodes.specs.declared.node.NodeState.TheVariants as Node
 
--- the metaserver took its step on an actor's request, with the outcome that its reply shows; it doesn't fail
-pub record MetaServes (number : ℕ) (before : Metaserver) (request : MetaRequest) (answer : MetaReply) (behind : Metaserver) : Type 0 where
+-- the metaserver took its step on an actor's request, with the outcome that its reply shows; it
+-- doesn't fail
+pub record MetaServes (number : ℕ) (before : Metaserver) (request : MetaRequest)
+    (answer : MetaReply) (behind : Metaserver) : Type 0 where
   pub layout : behind.layout ≡ before.layout
   pub term : behind.term ≡ before.term
   pub steps : Steps number before request answer behind
@@ -35,7 +37,8 @@ no_server = From.Chunk (without_room Answer.Down)
 
 module _ {D : Type 0} where
   -- the node is the metaserver, and it served the request
-  pub record MetaTurns (number : ℕ) (before : Metaserver) (request : MetaRequest) (reply : NodeReply) (node : NodeState D) : Type 0 where
+  pub record MetaTurns (number : ℕ) (before : Metaserver) (request : MetaRequest)
+      (reply : NodeReply) (node : NodeState D) : Type 0 where
     pub behind : Metaserver
     pub answer : MetaReply
     pub node_is : node ≡ Node.Meta behind
@@ -43,7 +46,8 @@ module _ {D : Type 0} where
     pub serves : MetaServes number before request answer behind
 
   -- the node is a chunk server, and it served the request
-  pub record StoreTurns (before : Stored) (request : ChunkRequest) (reply : NodeReply) (node : NodeState D) : Type 0 where
+  pub record StoreTurns (before : Stored) (request : ChunkRequest) (reply : NodeReply)
+      (node : NodeState D) : Type 0 where
     pub behind : Stored
     pub answer : ChunkReply
     pub node_is : node ≡ Node.Store behind
@@ -51,19 +55,26 @@ module _ {D : Type 0} where
     pub serves : Serves request answer before behind
 
   -- the request isn't one to this node: it stays as it was
-  pub record Passes (before : NodeState D) (answer reply : NodeReply) (node : NodeState D) : Type 0 where
+  pub record Passes (before : NodeState D) (answer reply : NodeReply) (node : NodeState D)
+      : Type 0 where
     pub node_is : node ≡ before
     pub reply_is : reply ≡ answer
 
   -- how a node takes a request
   abbrev pub Takes : ℕ → NodeState D → NodeRequest → NodeReply → NodeState D → Type 0
-  Takes number (Node.Meta before) (To.Meta request) reply node = MetaTurns number before request reply node
-  Takes number (Node.Meta before) (To.Chunk server request) reply node = Passes (Node.Meta before) no_server reply node
-  Takes number (Node.Store before) (To.Meta request) reply node = Passes (Node.Store before) (From.Meta Told.Nothing) reply node
-  Takes number (Node.Store before) (To.Chunk server request) reply node = StoreTurns before request reply node
+  Takes number (Node.Meta before) (To.Meta request) reply node =
+      MetaTurns number before request reply node
+  Takes number (Node.Meta before) (To.Chunk server request) reply node =
+      Passes (Node.Meta before) no_server reply node
+  Takes number (Node.Store before) (To.Meta request) reply node =
+      Passes (Node.Store before) (From.Meta Told.Nothing) reply node
+  Takes number (Node.Store before) (To.Chunk server request) reply node =
+      StoreTurns before request reply node
 
-  -- a node took an actor's next request, and the actor took the reply. The outcome is the one that the reply shows
-  pub record Turns (before : NodeState D) (actor : Actor) (outcome : Outcome) (node : NodeState D) (behind : Actor) : Type 0 where
+  -- a node took an actor's next request, and the actor took the reply. The outcome is the one that
+  -- the reply shows
+  pub record Turns (before : NodeState D) (actor : Actor) (outcome : Outcome) (node : NodeState D)
+      (behind : Actor) : Type 0 where
     pub request : NodeRequest
     pub reply : NodeReply
     pub asked : request_of actor ≡ Some request

@@ -18,8 +18,8 @@ use qfs_meta::Meta;
 use qfs_store::Store;
 use std::alloc::Global;
 
-/// A node: the metaserver, or a chunk server with its device. A request to a chunk server that isn't
-/// there comes to the metaserver too.
+/// A node: the metaserver, or a chunk server with its device. A request to a chunk server that
+/// isn't there comes to the metaserver too.
 #[derive(Drop)]
 pub enum NodeState<D: ChunkDevice> {
     Meta(Meta),

@@ -1,19 +1,18 @@
 -- A world at its start.
 use Rattle.std.proofs.Common.{◌≡◌, ℕ, suc, zero, ◌+◌, ◌≤◌, List, [], ◌∷◌, length, take, Option, Some, None, refl, sym, ◌∙◌, ap, subst, arith, length-take, slice_get}
 use Rattle.std.specs.Prelude.{map, replicate, All, IsSome, IsTrue}
-use Rattle.std.specs.List.{AllByRecursion}
-use Rattle.std.proofs.lemmas.List.{length-map}
-use Rattle.std.proofs.lemmas.List.Elements.{recursion_from_All, All-take}
+use Rattle.std.proofs.lemmas.List.{length-map, length-replicate, get_or-replicate}
+use Rattle.std.proofs.lemmas.List.Elements.{All-take}
+use Rattle.std.proofs.lemmas.Option.{same_Some, slice_get_within, get_or_from_slice_get}
 use Rattle.qfs_actor.specs.Standing.{Standing}
 use Rattle.qfs_base.specs.Rules.{rules_of}
-use Rattle.qfs_base.specs.declared.chunk.ChunkKey.{ChunkKey}
 use Rattle.qfs_base.specs.declared.image.MetaImage.{MetaImage}
 use Rattle.qfs_base.specs.declared.script.Script.{Script}
 use Rattle.qfs_device.specs.Held.{Held, chunk_at, new_device}
 use Rattle.qfs_meta.specs.Metaserver.{Metaserver}
 use Rattle.qfs_model_meta.specs.Step.{opening}
 use Rattle.qfs_model_server.specs.Server.{Server, fresh_server}
-use Rattle.qfs_model_world.specs.Events.{Event, events, events_from}
+use Rattle.qfs_model_world.specs.Events.{events, events_from}
 use Rattle.qfs_model_world.specs.Fits.{fits, fits_from}
 use Rattle.qfs_model_world.specs.Headline.{failed_at}
 use Rattle.qfs_model_world.specs.World.{numbered, start, after}
@@ -27,11 +26,13 @@ use Rattle.qfs_model_actor.specs.Actor.{starting}
 use Rattle.qfs_nodes.specs.Nodes.{image_of, stores_of, IsNew, nodes_with, stored_over}
 use Rattle.qfs_nodes.specs.Scripts.{meta_of, IsRunnable, commands_by_actor}
 use Rattle.qfs_nodes.specs.Actors.{actors_of, sizes_of, starts_from, total}
-use Rattle.qfs_world.specs.Follows.{CountFaults, Follows, HoldNoOthers, IsServer, StandForAll}
+use Rattle.qfs_world.specs.Follows.{FollowsOrder}
+use Rattle.qfs_world.specs.Servers.{StandForAll, StandsForServer}
 use Rattle.qfs_world.specs.View.{AllTell}
 use Rattle.qfs_nodes.specs.declared.node.NodeState.{NodeState}
 use Rattle.qfs_nodes.proofs.Stores.{stores-with}
 use Rattle.qfs_nodes.proofs.Starts.{length_starts, starts-actors, total_sizes}
+use Rattle.qfs_world.proofs.Lists.{all-at, unmapped-at}
 use Rattle.qfs_world.proofs.Step.{again}
 
 starts-numbered : (rules : Rules) (number : ℕ) (xs : List (List Command)) → AreNumbered number (starts_from rules number xs)
@@ -44,10 +45,12 @@ abbrev pub first_meta : Script → Metaserver
 first_meta script = meta_of script (opening script.servers)
 
 module _ {D : Type 0} (told : D → Option Held) (faults : D → ℕ) (stripe : ℕ) where
-  new-stands : (device : D) → IsNew told device → (found : Option Held) → told device ≡ found → IsSome found
-      → IsServer stripe (stored_over told faults stripe device) fresh_server
-  new-stands device fresh None e some = absurd (cc)
-  new-stands device fresh (Some held) e some =
+  new-stands : (counts : List ℕ) (number : ℕ) (device : D) → IsNew told device
+      → ((count : ℕ) → numbered counts number ≡ Some count → faults device ≡ count) → (found : Option Held) → told device ≡ found → IsSome found
+      → StandsForServer stripe counts [] number (stored_over told faults stripe device) fresh_server
+  unfolding failed_at
+  new-stands counts number device fresh counted None e some = absurd (cc)
+  new-stands counts number device fresh counted (Some held) e some =
       let is : held ≡ new_device = fresh held e in
       record {
         stripe_is = refl;
@@ -55,54 +58,39 @@ module _ {D : Type 0} (told : D → Option Held) (faults : D → ℕ) (stripe : 
         told = e;
         stands = subst (λ h. StandsOn stripe h no_copies fresh_server) (sym is) (fresh_stands stripe);
         handed_out = ap (λ (h : Held). kept h.handed_out) is;
+        others = λ key found absent there. let none : chunk_at held key ≡ None = ap (λ (h : Held). chunk_at h key) is in absurd (cc);
+        faults = λ count at below. let same = counted count at in omega (arith, same);
       }
 
-  all-stand : (devices : List D) → AllByRecursion (IsNew told) devices
-      → AllByRecursion (λ (s : Stored). IsSome s.told) (map (stored_over told faults stripe) devices)
-      → StandForAll stripe (map (stored_over told faults stripe) devices) (replicate (length devices) fresh_server)
-  all-stand [] fresh tell = tt
-  all-stand (device ∷ devices) fresh tell =
-      (new-stands device fresh.0 (told device) refl tell.0, all-stand devices fresh.1 tell.1)
+  module _ (devices : List D) (fresh : All (IsNew told) devices) (tell : AllTell (map (stored_over told faults stripe) devices)) where
+    stands-first : (number : ℕ) (stored : Stored) (server : Server)
+        → numbered (map (stored_over told faults stripe) devices) number ≡ Some stored → numbered (replicate (length devices) fresh_server) number ≡ Some server
+        → StandsForServer stripe (map faults devices) [] number stored server
+    unfolding numbered
+    stands-first zero stored server at is = absurd (cc)
+    stands-first (suc k) stored server at is =
+        let device = unmapped-at (stored_over told faults stripe) devices k stored at in
+        let server_is : server ≡ fresh_server =
+        sym (get_or_from_slice_get (replicate (length devices) fresh_server) k server server is)
+        ∙ get_or-replicate (length devices) k fresh_server server (slice_get_within devices k device.of device.there) in
+        let counted : (count : ℕ) → slice_get (map faults devices) k ≡ Some count → faults device.of ≡ count = λ count found.
+        let same = unmapped-at faults devices k count found in
+        ap faults (same_Some device.of same.of (sym device.there ∙ same.there)) ∙ same.is in
+        let tells : IsSome (told device.of) =
+        subst (λ (s : Stored). IsSome s.told) (sym device.is)
+        (all-at (λ (s : Stored). IsSome s.told) (map (stored_over told faults stripe) devices) k stored at tell) in
+        subst (λ s. StandsForServer stripe (map faults devices) [] (suc k) s server) device.is
+        (subst (StandsForServer stripe (map faults devices) [] (suc k) (stored_over told faults stripe device.of)) (sym server_is)
+        (new-stands (map faults devices) (suc k) device.of (all-at (IsNew told) devices k device.of device.there fresh) counted (told device.of) refl tells))
 
-  -- a new device holds nothing
-  new-at : (devices : List D) (k : ℕ) (stored : Stored) (held : Held) → AllByRecursion (IsNew told) devices
-      → slice_get (map (stored_over told faults stripe) devices) k ≡ Some stored → stored.told ≡ Some held → held ≡ new_device
-  new-at [] k stored held fresh e is = absurd (cc)
-  new-at (device ∷ devices) zero stored held fresh e is =
-      let same : stored_over told faults stripe device ≡ stored = cc in fresh.0 held (ap (λ (s : Stored). s.told) same ∙ is)
-  new-at (device ∷ devices) (suc k) stored held fresh e is = new-at devices k stored held fresh.1 e is
-
-  none-held : (held : Held) (key : ChunkKey) (found : List ℕ) → held ≡ new_device → chunk_at held key ≡ Some found → ⊥
-  none-held held key found new there =
-      let none : chunk_at held key ≡ None = ap (λ (h : Held). chunk_at h key) new in cc
-
-  all-empty : (steps : List Event) (devices : List D) (servers : List Server) → AllByRecursion (IsNew told) devices
-      → HoldNoOthers stripe steps (map (stored_over told faults stripe) devices) servers
-  unfolding numbered
-  all-empty steps devices servers fresh zero stored server held of to is = absurd (cc)
-  all-empty steps devices servers fresh (suc k) stored server held of to is =
-      λ key found absent there. absurd (none-held held key found (new-at devices k stored held fresh of is) there)
-
-  -- no step has failed yet, and each count is that of its device
-  counts-at : (devices : List D) (k count : ℕ) (stored : Stored) → slice_get (map faults devices) k ≡ Some count
-      → slice_get (map (stored_over told faults stripe) devices) k ≡ Some stored → stored.faults ≡ count
-  counts-at [] k count stored c s = absurd (cc)
-  counts-at (device ∷ devices) zero count stored c s =
-      let same : stored_over told faults stripe device ≡ stored = cc in
-      let at : faults device ≡ count = cc in ap (λ (x : Stored). x.faults) (sym same) ∙ at
-  counts-at (device ∷ devices) (suc k) count stored c s = counts-at devices k count stored c s
-
-  counts-begin : (devices : List D) → CountFaults (map faults devices) [] (map (stored_over told faults stripe) devices)
-  unfolding numbered failed_at
-  counts-begin devices = record {
-    at_servers = λ n count stored c s below. by n count stored c s;
-    elsewhere = λ n none. refl;
-  }
-    where
-      by : (n count : ℕ) (stored : Stored) → numbered (map faults devices) n ≡ Some count
-          → numbered (map (stored_over told faults stripe) devices) n ≡ Some stored → stored.faults ≡ count + 0
-      by zero count stored c s = absurd (cc)
-      by (suc k) count stored c s = let same = counts-at devices k count stored c s in omega (arith, same)
+    -- the stores of new devices stand for fresh servers, and no step has failed
+    stand-first : StandForAll stripe (map faults devices) [] (map (stored_over told faults stripe) devices) (replicate (length devices) fresh_server)
+    unfolding failed_at
+    stand-first = record {
+      as_many = length-map devices (stored_over told faults stripe) ∙ sym (length-replicate (length devices) fresh_server);
+      each = stands-first;
+      elsewhere = λ number none. refl;
+    }
 
 module _ {D : Type 0} (told : D → Option Held) (faults : D → ℕ) where
   -- the counts of its servers' devices
@@ -146,19 +134,15 @@ module _ {D : Type 0} (told : D → Option Held) (faults : D → ℕ) where
     long = ap length actors_are ∙ length_starts (rules_of script) 1 (commands_by_actor script)
 
     at-start : AllTell (first_stores script devices)
-        → Follows script (first_counts script devices) [] (opening script.servers) (first_stores script devices) (actors_of actors)
+        → FollowsOrder script (first_counts script devices) [] (opening script.servers) (first_stores script devices) (actors_of actors)
     unfolding events events_from
     at-start tell =
-        let new = recursion_from_All (IsNew told) (take script.servers devices) (All-take (IsNew told) script.servers devices fresh) in
-        let stand =
-        all-stand told faults script.layout.s (take script.servers devices) new
-        (recursion_from_All (λ (s : Stored). IsSome s.told) (first_stores script devices) tell) in
         record {
           servers = replicate script.servers fresh_server;
           world = starts-after script actors actors_are;
-          stand = subst (λ n. StandForAll script.layout.s (first_stores script devices) (replicate n fresh_server)) many stand;
-          others = all-empty told faults script.layout.s (events script []) (take script.servers devices) (replicate script.servers fresh_server) new;
-          faults = counts-begin told faults script.layout.s (take script.servers devices);
+          stand =
+              subst (λ n. StandForAll script.layout.s (first_counts script devices) [] (first_stores script devices) (replicate n fresh_server)) many
+              (stand-first told faults script.layout.s (take script.servers devices) (All-take (IsNew told) script.servers devices fresh) tell);
           fits = fits-none script;
         }
 
@@ -171,7 +155,7 @@ module _ {D : Type 0} (told : D → Option Held) (faults : D → ℕ) where
       whole = ap total phases_are ∙ total_sizes script.phases ∙ sym long;
       follows =
           λ tell.
-          let P : List Stored → Type 0 = λ s. Follows script (first_counts script devices) [] (opening script.servers) s (actors_of actors) in
-          let Q : MetaImage → Type 0 = λ m. Follows script (first_counts script devices) [] m (stores_of nodes) (actors_of actors) in
+          let P : List Stored → Type 0 = λ s. FollowsOrder script (first_counts script devices) [] (opening script.servers) s (actors_of actors) in
+          let Q : MetaImage → Type 0 = λ m. FollowsOrder script (first_counts script devices) [] m (stores_of nodes) (actors_of actors) in
           subst Q (sym image-is) (subst P (sym stores-are) (at-start (subst AllTell stores-are tell)));
     }

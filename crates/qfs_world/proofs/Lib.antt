@@ -1,11 +1,10 @@
 pub mod Begin
-pub mod Faults
-pub mod Kept
+pub mod GoesOn
+pub mod Leftovers
 pub mod Lists
-pub mod Nodes
 pub mod Numbered
-pub mod Others
+pub mod Servers
 pub mod Simulation
-pub mod Stands
 pub mod Step
 pub mod TurnLists
+pub mod Turns

@@ -14,7 +14,7 @@ use Rattle.qfs_model_actor.proofs.Left.{left-falls}
 use Rattle.qfs_world.specs.AtWork.{AreNumbered}
 use Rattle.qfs_nodes.specs.Actors.{actors_of}
 use Rattle.qfs_world.specs.View.{steps_left}
-use Rattle.qfs_world.proofs.Lists.{map-set}
+use Rattle.std.proofs.lemmas.List.{map-set}
 
 -- an actor keeps its number
 number-moved : (actor : Actor) (reply : NodeReply) (work : Option Work) → (moved_on actor reply work).number ≡ actor.number
@@ -47,33 +47,20 @@ number-at number (first ∷ rest) (suc k) it all e =
     let same : number + 1 + k ≡ number + suc k = omega arith in
     record { number_is = behind.number_is ∙ same; rests = behind.rests }
 
-pub numbered-set : (number : ℕ) (actors : List Standing) (k : ℕ) (it next : Standing) → AreNumbered number actors
+pub standings-set : (number : ℕ) (actors : List Standing) (k : ℕ) (it next : Standing) → AreNumbered number actors
     → slice_get actors k ≡ Some it → next.actor.number ≡ it.actor.number → (IsOut next.readiness → ⊥)
     → AreNumbered number (slice_set actors k next)
-numbered-set number [] k it next all e same rests = absurd (cc)
-numbered-set number (first ∷ rest) zero it next all e same rests =
+standings-set number [] k it next all e same rests = absurd (cc)
+standings-set number (first ∷ rest) zero it next all e same rests =
     let first_is : first ≡ it = cc in
     (same ∙ ap (λ (s : Standing). s.actor.number) (sym first_is) ∙ all.0, rests, all.2)
-numbered-set number (first ∷ rest) (suc k) it next all e same rests =
-    (all.0, all.1, numbered-set (number + 1) rest k it next all.2 e same rests)
+standings-set number (first ∷ rest) (suc k) it next all e same rests =
+    (all.0, all.1, standings-set (number + 1) rest k it next all.2 e same rests)
 
 pub actors-at : (actors : List Standing) (k : ℕ) (it : Standing) → slice_get actors k ≡ Some it
     → slice_get (actors_of actors) k ≡ Some it.actor
 actors-at actors k it e =
     slice_get-map (λ (s : Standing). s.actor) actors k ∙ ap (option_map (λ (s : Standing). s.actor)) e
-
--- the other way round
-pub record StandsAs (actors : List Standing) (k : ℕ) (actor : Actor) : Type 0 where
-  pub it : Standing
-  pub there : slice_get actors k ≡ Some it
-  pub actor_is : it.actor ≡ actor
-
-pub standing-at : (actors : List Standing) (k : ℕ) (actor : Actor) → slice_get (actors_of actors) k ≡ Some actor → StandsAs actors k actor
-standing-at [] k actor e = absurd (cc)
-standing-at (first ∷ rest) zero actor e = record { it = first; there = refl; actor_is = cc }
-standing-at (first ∷ rest) (suc k) actor e =
-    let behind = standing-at rest k actor e in
-    record { it = behind.it; there = behind.there; actor_is = behind.actor_is }
 
 pub actors-set : (actors : List Standing) (k : ℕ) (next : Standing)
     → actors_of (slice_set actors k next) ≡ slice_set (actors_of actors) k next.actor

@@ -1,7 +1,8 @@
 -- A node's step is a step of the world of the definitions, and the order that has it at its end fits and has its event.
-use Rattle.std.proofs.Common.{◌≡◌, ℕ, Bool, true, List, [], ◌∷◌, ◌++◌, Option, Some, None, refl, sym, ◌∙◌, ap}
-use Rattle.std.specs.Prelude.{◌&&◌, ◌==◌, IsTrue, fold}
+use Rattle.std.proofs.Common.{◌≡◌, ℕ, true, List, [], ◌∷◌, ◌++◌, Option, Some, None, refl, sym, ◌∙◌, ap}
+use Rattle.std.specs.Prelude.{◌==◌, IsTrue, fold}
 use Rattle.std.specs.List.{cons_option, list_any}
+use Rattle.std.proofs.lemmas.Bool.{and_from}
 use Rattle.std.specs.Option.{option_and_then}
 use Rattle.qfs_base.specs.Outcome.{outcome_of}
 use Rattle.qfs_base.specs.declared.history.Outcome.{Outcome}
@@ -23,9 +24,6 @@ unfolding same_outcome
 same-self Ended.Done = refl
 same-self Ended.Failed = refl
 same-self Ended.NoMemory = refl
-
-and-both : (a b : Bool) → a ≡ true → b ≡ true → (a && b) ≡ true
-and-both a b p q = rw (p, q) refl
 
 -- an order with one step more has that step's event behind the others
 events_from-snoc : (world : World) (order : List Step) (step : Step)
@@ -90,17 +88,17 @@ module _ (script : Script) (order : List Step) (world : World) (number : ℕ) (a
       possible =
           ap (is_possible_of world number outcome) found
           ∙ ap (is_possible_for world number outcome) asked
-          ∙ and-both (may_end outcome request) (same_outcome (outcome_of (node_turn world number outcome request).reply) outcome)
+          ∙ and_from (may_end outcome request) (same_outcome (outcome_of (node_turn world number outcome request).reply) outcome)
           may
           (ap (λ (t : Turned). same_outcome (outcome_of t.reply) outcome) turned
           ∙ ap (λ o. same_outcome o outcome) (sym ends) ∙ same-self outcome)
 
       comes : may_come script world (record { actor = number; outcome = outcome }) ≡ true
       unfolding may_come turn
-      comes = and-both (list_any (λ n. n == number) (turn_of script world.actors)) _ turns possible
+      comes = and_from (list_any (λ n. n == number) (turn_of script world.actors)) _ turns possible
 
       pub fits-after : IsTrue (fits script order) → IsTrue (fits script (order ++ record { actor = number; outcome = outcome } ∷ []))
       fits-after fitting =
           fits-snoc script order (record { actor = number; outcome = outcome })
-          ∙ and-both (fits script order) _ fitting
+          ∙ and_from (fits script order) _ fitting
           (ap (λ w. may_come script w (record { actor = number; outcome = outcome })) is ∙ comes)

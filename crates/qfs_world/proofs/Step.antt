@@ -1,5 +1,5 @@
 -- A step of a world at work, by its parts.
-use Rattle.std.proofs.Common.{◌≡◌, ℕ, suc, zero, ◌+◌, ◌-◌, false, List, [], ◌∷◌, ◌++◌, length, Some, refl, sym, ◌∙◌, ap, subst, arith, slice_get, slice_set, inl, inr, length-set}
+use Rattle.std.proofs.Common.{◌≡◌, ℕ, suc, ◌+◌, ◌-◌, false, List, ◌++◌, length, Some, refl, sym, ◌∙◌, ap, subst, arith, slice_get, slice_set, length-set}
 use Rattle.std.specs.Prelude.{take, drop, ◌==◌, IsTrue, Result, Ok, Err, IfOk, OnErr}
 use Rattle.std.specs.declared.alloc.AllocError.{AllocError}
 use Rattle.std.proofs.Math.Path.{transport}
@@ -8,19 +8,16 @@ use Rattle.std.proofs.lemmas.List.{length-map}
 use Rattle.std.proofs.lemmas.Option.{get_or_from_slice_get}
 use Rattle.std.specs.List.{list_any, slice_index_or, AllZip}
 use Rattle.qfs_actor.specs.Standing.{Standing}
-use Rattle.qfs_base.specs.Rules.{rules_of}
-use Rattle.qfs_base.specs.Outcome.{outcome_of, chunk_outcome}
+use Rattle.qfs_base.specs.Outcome.{outcome_of}
 use Rattle.qfs_base.specs.declared.history.Outcome.{Outcome}
-use Rattle.qfs_base.specs.declared.history.Outcome.TheVariants as Ended
 use Rattle.qfs_base.specs.declared.history.Step.{Step}
 use Rattle.qfs_base.specs.declared.image.MetaImage.{MetaImage}
-use Rattle.qfs_base.specs.declared.reply.NodeReply.{NodeReply}
-use Rattle.qfs_base.specs.declared.reply.NodeReply.TheVariants as From
 use Rattle.qfs_base.specs.declared.script.Script.{Script}
 use Rattle.qfs_device.specs.declared.log_disk.MetaDisks.{MetaDisks}
 use Rattle.qfs_machine.specs.Asking.{IsOut}
-use Rattle.qfs_meta.specs.Metaserver.{GoesBy, Metaserver}
-use Rattle.qfs_model_actor.specs.Actor.{Actor, has_finished, after_reply, node_of}
+use Rattle.qfs_meta.specs.Metaserver.{Metaserver}
+use Rattle.qfs_model_actor.specs.Actor.{Actor, has_finished, after_reply}
+use Rattle.qfs_model_actor.specs.Work.{node_of_request}
 use Rattle.qfs_model_world.specs.World.{numbered, renumbered}
 use Rattle.qfs_store.specs.Stored.{Stored}
 use Rattle.qfs_world.specs.AtWork.{IsAtWork, TakesTurn}
@@ -28,44 +25,20 @@ use Rattle.qfs_nodes.proofs.Stores.{stores-with}
 use Rattle.qfs_nodes.specs.Nodes.{image_of, nodes_with, stores_of}
 use Rattle.qfs_nodes.specs.Scripts.{meta_of}
 use Rattle.qfs_nodes.specs.Actors.{actors_of}
-use Rattle.qfs_world.specs.Calls.{GoesOn, HasFailed, Steps}
-use Rattle.qfs_world.specs.Follows.{Follows}
+use Rattle.qfs_world.specs.Calls.{GoesOn, FailedOnce, TakesStep}
+use Rattle.qfs_world.specs.Follows.{FollowsOrder}
 use Rattle.qfs_world.specs.View.{WorldView, AllTell, steps_left, turn_of, view_of, with_step}
-use Rattle.qfs_nodes.specs.Turns.{no_server}
 use Rattle.qfs_nodes.specs.declared.node.NodeState.{NodeState}
 use Rattle.qfs_nodes.specs.declared.node.NodeState.TheVariants as Node
-use Rattle.qfs_world.proofs.Faults.{failed-once, goes-on}
-use Rattle.qfs_world.proofs.Kept.{all-tell-set, chunk-ends, meta-ends, numbered-is, follows-meta, follows-none, follows-store}
-use Rattle.qfs_world.proofs.Lists.{get-set, get-set-other, set-same}
-use Rattle.qfs_world.proofs.Nodes.{node-meta, node-chunk, OfMeta, OfStore, OfNone, took-turn}
-use Rattle.qfs_world.proofs.Numbered.{number-kept, number-at, numbered-set, actors-at, standing-at, actors-set, left-all-falls}
+use Rattle.qfs_world.proofs.GoesOn.{all-told_before}
+use Rattle.qfs_world.proofs.Lists.{numbered-is, set-same, unmapped-at}
+use Rattle.qfs_world.proofs.Numbered.{number-kept, number-at, standings-set, actors-at, actors-set, left-all-falls}
 use Rattle.qfs_world.proofs.TurnLists.{in-turn}
+use Rattle.qfs_world.proofs.Turns.{Moved, follows-on, node-asked, turn-moves}
 
 renumbered-is : {X : Type 0} (xs : List X) (place : ℕ) (x : X) → renumbered xs (suc place) x ≡ slice_set xs place x
 unfolding renumbered
 renumbered-is xs place x = refl
-
-numbered-set-other : {X : Type 0} (xs : List X) (place number : ℕ) (x : X) → (number ≡ suc place → ⊥)
-    → numbered (slice_set xs place x) number ≡ numbered xs number
-unfolding numbered
-numbered-set-other xs place zero x apart = refl
-numbered-set-other xs place (suc other) x apart = get-set-other xs place other x (λ same. apart (ap (λ n. suc n) same))
-
-goes-same : (stores : List Stored) → AllZip GoesOn stores stores
-goes-same [] = tt
-goes-same (stored ∷ stores) = (record { tells = refl; never_falls = omega arith }, goes-same stores)
-
-goes-set : (stores : List Stored) (place : ℕ) (stored next : Stored) → slice_get stores place ≡ Some stored → GoesOn stored next
-    → AllZip GoesOn stores (slice_set stores place next)
-goes-set [] place stored next e goes = absurd (cc)
-goes-set (first ∷ rest) zero stored next e goes =
-    let same : first ≡ stored = cc in (subst (λ s. GoesOn s next) (sym same) goes, goes-same rest)
-goes-set (first ∷ rest) (suc place) stored next e goes =
-    (record { tells = refl; never_falls = omega arith }, goes-set rest place stored next e goes)
-
-none-fails : (outcome : Outcome) → outcome ≡ outcome_of no_server → outcome ≡ Ended.Failed → ⊥
-unfolding outcome_of chunk_outcome
-none-fails outcome e failed = cc
 
 -- an actor whose turn it is: it has this number, stands at this place, and hasn't finished
 pub record AtTurn (actors : List Standing) (number place : ℕ) (it : Standing) : Type 0 where
@@ -81,19 +54,19 @@ pub turn-place : {D : Type 0} (script : Script) (counts : List ℕ) (nodes : Lis
     → (it : Standing) × AtTurn actors number (number - 1) it
 turn-place script counts nodes actors phases order work number turn =
     let has = in-turn number script.phases (actors_of actors) turn in
-    let found = standing-at actors has.at has.actor has.there in
-    let own = number-at 1 actors has.at found.it work.numbered found.there in
+    let found = unmapped-at (λ (s : Standing). s.actor) actors has.at has.actor has.there in
+    let own = number-at 1 actors has.at found.of work.numbered found.there in
     let next : 1 + has.at ≡ suc has.at = omega arith in
     let number_is : number ≡ suc has.at =
-    sym has.number_is ∙ ap (λ (a : Actor). a.number) (sym found.actor_is) ∙ own.number_is ∙ next in
+    sym has.number_is ∙ ap (λ (a : Actor). a.number) (sym found.is) ∙ own.number_is ∙ next in
     let place : has.at ≡ number - 1 = omega arith in
-    let at : AtTurn actors number has.at found.it = record {
+    let at : AtTurn actors number has.at found.of = record {
       number_is = number_is;
       there = found.there;
       own = own.number_is ∙ next;
       rests = own.rests;
-      unfinished = ap has_finished found.actor_is ∙ has.unfinished;
-    } in (found.it, subst (λ p. AtTurn actors number p found.it) place at)
+      unfinished = ap has_finished found.is ∙ has.unfinished;
+    } in (found.of, subst (λ p. AtTurn actors number p found.of) place at)
 
 -- what is found at its place is that actor
 pub turn-at : {D : Type 0} (script : Script) (counts : List ℕ) (nodes : List (NodeState D)) (actors : List Standing) (phases : List ℕ) (order : List Step)
@@ -103,11 +76,6 @@ pub turn-at : {D : Type 0} (script : Script) (counts : List ℕ) (nodes : List (
 turn-at script counts nodes actors phases order work number turn it is =
     let found = turn-place script counts nodes actors phases order work number turn in
     subst (AtTurn actors number (number - 1)) (sym (is ∙ get_or_from_slice_get actors (number - 1) found.0 it found.1.there)) found.1
-
--- the metaserver of a script goes by its rules
-goes-by : (script : Script) (image : MetaImage) → GoesBy (rules_of script) (meta_of script image)
-unfolding rules_of
-goes-by script image = record { layout = refl; term = refl }
 
 module _ {D : Type 0} where
   -- nodes with a script's metaserver and these chunk servers have them
@@ -143,111 +111,24 @@ module _ {D L : Type 0} (script : Script) (counts : List ℕ) (nodes : List (Nod
   abbrev pub seen_behind : WorldView D L
   seen_behind = view_of script counts behind (slice_set actors place next) more spare disks
 
-  abbrev meta : Metaserver
-  meta = meta_of script (image_of nodes)
-
   turns : IsTrue (list_any (λ n. n == suc place) (turn_of script (actors_of actors)))
   turns = subst (λ m. IsTrue (list_any (λ n. n == m) (turn_of script (actors_of actors)))) at.number_is turn
 
   there : slice_get (actors_of actors) place ≡ Some it.actor
   there = actors-at actors place it at.there
 
-  -- what a turn with an outcome left behind it
-  record Left (outcome : Outcome) : Type 0 where
-    pub image : MetaImage
-    pub stores : List Stored
-    pub reply : NodeReply
-    pub node : ℕ
-    pub nodes_are : behind ≡ nodes_with (meta_of script image) stores
-    pub took : next.actor ≡ after_reply it.actor reply
-    pub to : node_of it.actor ≡ Some node
-    pub follows : AllTell stores → Follows script counts (with_step order (suc place) outcome) image stores (slice_set (actors_of actors) place next.actor)
-    pub meta_stays : (node ≡ 0 → ⊥) → image ≡ image_of nodes
-    pub stores_stay : (server : ℕ) → (server ≡ node → ⊥) → numbered stores server ≡ numbered (stores_of nodes) server
-    pub goes_on : AllZip GoesOn (stores_of nodes) stores
-    pub cause : outcome ≡ Ended.Failed → HasFailed (stores_of nodes) stores node
+  -- the turn of the nodes
+  turned : (outcome : Outcome) → TakesTurn nodes it.actor outcome behind next.actor
+      → TakesTurn (nodes_with (meta_of script (image_of nodes)) (stores_of nodes)) it.actor outcome behind next.actor
+  turned outcome = subst (λ ns. TakesTurn ns it.actor outcome behind next.actor) work.nodes_are
 
-  module _ (outcome : Outcome) where
-    by-meta : OfMeta meta (stores_of nodes) it.actor outcome behind next.actor → Left outcome
-    by-meta t = record {
-      image = t.next.image;
-      stores = stores_of nodes;
-      reply = From.Meta t.answer;
-      node = 0;
-      nodes_are = t.nodes_are ∙ ap (λ m. nodes_with m (stores_of nodes)) (λ i. record { layout = t.serves.layout i; term = t.serves.term i; image = t.next.image });
-      took = t.took;
-      to = node-meta it.actor t.request t.asked;
-      follows =
-          λ tell.
-          follows-meta script counts order meta (stores_of nodes) (actors_of actors) place it.actor (goes-by script _) at.own there turns outcome
-          behind next.actor (work.follows tell) t;
-      meta_stays = λ apart. absurd (apart refl);
-      stores_stay = λ server apart. refl;
-      goes_on = goes-same (stores_of nodes);
-      cause = λ failed. absurd (t.serves.sure (sym (meta-ends outcome t.answer t.outcome_is) ∙ failed));
-    }
-
-    by-none : OfNone meta (stores_of nodes) it.actor outcome behind next.actor → Left outcome
-    by-none t = record {
-      image = image_of nodes;
-      stores = stores_of nodes;
-      reply = no_server;
-      node = t.server;
-      nodes_are = t.nodes_are;
-      took = t.took;
-      to = node-chunk it.actor t.server t.request t.asked;
-      follows =
-          λ tell.
-          follows-none script counts order meta (stores_of nodes) (actors_of actors) place it.actor (goes-by script _) at.own there turns outcome
-          behind next.actor (work.follows tell) t;
-      meta_stays = λ apart. refl;
-      stores_stay = λ server apart. refl;
-      goes_on = goes-same (stores_of nodes);
-      cause = λ failed. absurd (none-fails outcome t.outcome_is failed);
-    }
-
-    by-store : OfStore meta (stores_of nodes) it.actor outcome behind next.actor → Left outcome
-    by-store t =
-        let stores : List Stored = stores_of nodes in
-        let stores' : List Stored = slice_set stores t.place t.next in
-        record {
-          image = image_of nodes;
-          stores = stores';
-          reply = From.Chunk t.answer;
-          node = suc t.place;
-          nodes_are = t.nodes_are;
-          took = t.took;
-          to = node-chunk it.actor (suc t.place) t.request t.asked;
-          follows =
-              λ tell.
-              follows-store script counts order meta stores (actors_of actors) place it.actor (goes-by script _) at.own there turns outcome
-              behind next.actor (work.follows (all-tell-set stores t.place t.stored t.next t.there t.serves.tells tell)) t;
-          meta_stays = λ apart. refl;
-          stores_stay = λ server apart. numbered-set-other stores t.place server t.next apart;
-          goes_on = goes-set stores t.place t.stored t.next t.there (goes-on t.stored t.request t.answer t.next t.serves);
-          cause =
-              λ failed.
-              record {
-                old = t.stored;
-                new = t.next;
-                before_is = numbered-is stores t.place t.stored t.there;
-                behind_is = numbered-is stores' t.place t.next (get-set stores t.place t.stored t.next t.there);
-                rose =
-                    failed-once t.stored t.request t.answer t.next t.serves
-                    (sym (chunk-ends outcome t.answer t.outcome_is) ∙ failed);
-              };
-        }
-
-    left-by : TakesTurn nodes it.actor outcome behind next.actor → Left outcome
-    left-by t =
-        elim (took-turn meta (stores_of nodes) it.actor outcome behind next.actor (subst (λ ns. TakesTurn ns it.actor outcome behind next.actor) work.nodes_are t)) [
-          | inl of ↦ by-meta of
-          | inr other ↦ elim other [ inl of ↦ by-store of | inr of ↦ by-none of ]
-        ]
+  moves : (outcome : Outcome) (t : TakesTurn nodes it.actor outcome behind next.actor)
+      → Moved it.actor.number (meta_of script (image_of nodes)) (stores_of nodes) (turned outcome t).turns.request (turned outcome t).turns.reply behind
+  moves outcome t = turn-moves (meta_of script (image_of nodes)) (stores_of nodes) it.actor outcome behind next.actor (turned outcome t)
 
   -- it is at work where its nodes are those of a world that follows the order
   still : (image : MetaImage) (stores : List Stored) → next.actor.number ≡ it.actor.number → behind ≡ nodes_with (meta_of script image) stores
-      → (AllTell stores → Follows script counts more image stores (slice_set (actors_of actors) place next.actor))
+      → (AllTell stores → FollowsOrder script counts more image stores (slice_set (actors_of actors) place next.actor))
       → IsAtWork script counts behind (slice_set actors place next) phases more
   still image stores same nodes_are follows =
       let image_is : image ≡ image_of behind = sym (ap image_of nodes_are) in
@@ -256,13 +137,13 @@ module _ {D L : Type 0} (script : Script) (counts : List ℕ) (nodes : List (Nod
       let long : length (slice_set actors place next) ≡ length actors = length-set actors place next in
       record {
         nodes_are = again script behind image stores nodes_are;
-        numbered = numbered-set 1 actors place it next work.numbered at.there same rests;
+        numbered = standings-set 1 actors place it next work.numbered at.there same rests;
         few = omega (arith, work.few, long);
         phases_are = work.phases_are;
         whole = work.whole ∙ sym long;
         follows =
             λ tell.
-            transport (λ i. Follows script counts more (image_is i) (stores_are i) (sym all i)) (follows (subst AllTell (sym stores_are) tell));
+            transport (λ i. FollowsOrder script counts more (image_is i) (stores_are i) (sym all i)) (follows (subst AllTell (sym stores_are) tell));
       }
 
   pub works : (r : Result Outcome AllocError) → IfOk r (λ outcome. TakesTurn nodes it.actor outcome behind next.actor)
@@ -270,41 +151,47 @@ module _ {D L : Type 0} (script : Script) (counts : List ℕ) (nodes : List (Nod
       → OnErr r (behind ≡ nodes) → OnErr r (next.actor ≡ it.actor) → OnErr r (more ≡ order)
       → IsAtWork script counts behind (slice_set actors place next) phases more
   works (Ok outcome) t o b a m =
-      let left = left-by outcome t in
-      let order_is : more ≡ with_step order (suc place) outcome = o ∙ ap (λ n. with_step order n outcome) at.own in
-      still left.image left.stores (ap (λ (x : Actor). x.number) left.took ∙ number-kept it.actor left.reply) left.nodes_are
-      (λ tell. subst (λ l. Follows script counts l left.image left.stores (slice_set (actors_of actors) place next.actor)) (sym order_is) (left.follows tell))
+      let turn = (turned outcome t).turns in
+      let left = moves outcome t in
+      let order_is : more ≡ with_step order (suc place) (outcome_of turn.reply) =
+      o ∙ ap (λ n. with_step order n outcome) at.own ∙ ap (with_step order (suc place)) turn.outcome_is in
+      still left.image left.rest (ap (λ (x : Actor). x.number) turn.took ∙ number-kept it.actor turn.reply) left.nodes_are
+      (λ tell.
+      transport (λ i. FollowsOrder script counts (sym order_is i) left.image left.rest (slice_set (actors_of actors) place (sym turn.took i)))
+      (follows-on script counts order (image_of nodes) (stores_of nodes) (actors_of actors) place it.actor turn.request turn.reply behind
+      at.own there turns turn.asked left (work.follows (all-told_before (stores_of nodes) left.rest left.goes_on tell))))
   works (Err error) t o b a m =
       let same : slice_set (actors_of actors) place next.actor ≡ actors_of actors =
       ap (slice_set (actors_of actors) place) a ∙ set-same (actors_of actors) place it.actor there in
       still (image_of nodes) (stores_of nodes) (ap (λ (x : Actor). x.number) a) (b ∙ work.nodes_are)
-      (λ tell. transport (λ i. Follows script counts (sym m i) (image_of nodes) (stores_of nodes) (sym same i)) (work.follows tell))
+      (λ tell. transport (λ i. FollowsOrder script counts (sym m i) (image_of nodes) (stores_of nodes) (sym same i)) (work.follows tell))
 
   pub tells : (r : Result Outcome AllocError) → IfOk r (λ outcome. TakesTurn nodes it.actor outcome behind next.actor)
       → IfOk r (λ outcome. more ≡ with_step order it.actor.number outcome)
-      → IfOk r (λ outcome. Steps seen number outcome seen_behind)
+      → IfOk r (λ outcome. TakesStep seen number outcome seen_behind)
   tells (Err error) t o = tt
   tells (Ok outcome) t o =
-      let left = left-by outcome t in
-      let behind_is = again script behind left.image left.stores left.nodes_are in
+      let turn = (turned outcome t).turns in
+      let left = moves outcome t in
+      let behind_is = again script behind left.image left.rest left.nodes_are in
       let own : it.actor.number ≡ number = at.own ∙ sym at.number_is in
-      let stores_are : left.stores ≡ stores_of behind = sym (ap stores_of left.nodes_are ∙ stores-with D (meta_of script left.image) left.stores) in
-      let all : actors_of (slice_set actors place next) ≡ slice_set (actors_of actors) place (after_reply it.actor left.reply) =
-      actors-set actors place next ∙ ap (slice_set (actors_of actors) place) left.took in
+      let stores_are : left.rest ≡ stores_of behind = sym (ap stores_of left.nodes_are ∙ stores-with D (meta_of script left.image) left.rest) in
+      let all : actors_of (slice_set actors place next) ≡ slice_set (actors_of actors) place (after_reply it.actor turn.reply) =
+      actors-set actors place next ∙ ap (slice_set (actors_of actors) place) turn.took in
       record {
-        node = left.node;
+        node = node_of_request turn.request;
         moves = record {
           actor = it.actor;
-          reply = left.reply;
+          reply = turn.reply;
           of = ap (numbered (actors_of actors)) at.number_is ∙ numbered-is (actors_of actors) place it.actor there;
-          to = left.to;
-          turns = transport (λ i. TakesTurn (work.nodes_are i) it.actor outcome (behind_is i) (left.took i)) t;
+          to = node-asked it.actor turn.request turn.asked;
+          turns = transport (λ i. TakesTurn (work.nodes_are i) it.actor outcome (behind_is i) (turn.took i)) t;
           actors =
-              all ∙ sym (renumbered-is (actors_of actors) place (after_reply it.actor left.reply))
-              ∙ ap (λ n. renumbered (actors_of actors) n (after_reply it.actor left.reply)) (sym at.number_is);
+              all ∙ sym (renumbered-is (actors_of actors) place (after_reply it.actor turn.reply))
+              ∙ ap (λ n. renumbered (actors_of actors) n (after_reply it.actor turn.reply)) (sym at.number_is);
           order = o ∙ ap (λ n. with_step order n outcome) own;
           falls =
-              let fewer = left-all-falls (actors_of actors) place it.actor left.reply there at.unfinished in
+              let fewer = left-all-falls (actors_of actors) place it.actor turn.reply there at.unfinished in
               omega (arith, fewer, ap steps_left all);
         };
         others = record {
@@ -316,7 +203,8 @@ module _ {D L : Type 0} (script : Script) (counts : List ℕ) (nodes : List (Nod
           disks = refl;
         };
         goes_on = subst (AllZip GoesOn (stores_of nodes)) stores_are left.goes_on;
-        cause = λ failed. subst (λ ss. HasFailed (stores_of nodes) ss left.node) stores_are (left.cause failed);
+        cause = λ failed.
+            subst (λ ss. FailedOnce (stores_of nodes) ss (node_of_request turn.request)) stores_are (left.cause (sym turn.outcome_is ∙ failed));
       }
 
   pub stays-same : (r : Result Outcome AllocError) → OnErr r (behind ≡ nodes) → OnErr r (next.actor ≡ it.actor) → OnErr r (more ≡ order)

@@ -25,14 +25,13 @@ pub unfinished-keep : (actor : Actor) (actors : List Actor) → has_finished act
 unfolding unfinished
 unfinished-keep actor actors e = rw e refl
 
+-- it stands elsewhere in another list
+moved : (number : ℕ) (xs ys : List Actor) (has : HasUnfinished number xs) (at : ℕ) → slice_get ys at ≡ Some has.actor → HasUnfinished number ys
+moved number xs ys has at there =
+    record { at = at; actor = has.actor; there = there; number_is = has.number_is; unfinished = has.unfinished }
+
 later : (number : ℕ) (first : Actor) (actors : List Actor) → HasUnfinished number actors → HasUnfinished number (first ∷ actors)
-later number first actors has = record {
-  at = suc has.at;
-  actor = has.actor;
-  there = has.there;
-  number_is = has.number_is;
-  unfinished = has.unfinished;
-}
+later number first actors has = moved number actors (first ∷ actors) has (suc has.at) has.there
 
 this_or_later : (number : ℕ) (actor : Actor) (actors : List Actor) → has_finished actor ≡ false
     → (list_any (λ n. n == number) (unfinished actors) ≡ true → HasUnfinished number actors)
@@ -71,25 +70,13 @@ turn-choice : (number size : ℕ) (actors : List Actor) (lists : List (List ℕ)
 unfolding first_filled
 turn-choice number size actors lists rest any [] e =
     let behind = rest (sym (ap (λ l. list_any (λ n. n == number) (first_filled (l ∷ lists))) e) ∙ any) in
-    record {
-      at = size + behind.at;
-      actor = behind.actor;
-      there = get-drop size actors behind.at behind.actor behind.there;
-      number_is = behind.number_is;
-      unfinished = behind.unfinished;
-    }
+    moved number (drop size actors) actors behind (size + behind.at) (get-drop size actors behind.at behind.actor behind.there)
 turn-choice number size actors lists rest any (x ∷ xs) e =
     let first =
     in-unfinished number (take size actors)
     (ap (list_any (λ n. n == number)) e
     ∙ (sym (ap (λ l. list_any (λ n. n == number) (first_filled (l ∷ lists))) e) ∙ any)) in
-    record {
-      at = first.at;
-      actor = first.actor;
-      there = get-take size actors first.at first.actor first.there;
-      number_is = first.number_is;
-      unfinished = first.unfinished;
-    }
+    moved number (take size actors) actors first first.at (get-take size actors first.at first.actor first.there)
 
 -- who is in the turn's list is an unfinished actor
 pub in-turn : (number : ℕ) (phases : List (List (List Command))) (actors : List Actor)

@@ -23,11 +23,13 @@ use Rattle.qfs_world.specs.View.{WorldView, turn_of, steps_left, with_step}
 
 module _ {D L : Type 0} where
   -- the world in which a script starts, over these devices and disks
-  pub record Starts (told : D → Option Held) (faults : D → ℕ) (script : Script) (devices : List D) (disks : MetaDisks L) (world : WorldView D L) : Type 0 where
+  pub record Starts (told : D → Option Held) (faults : D → ℕ) (script : Script) (devices : List D)
+      (disks : MetaDisks L) (world : WorldView D L) : Type 0 where
     pub script_is : world.script ≡ script
     pub counts_are : world.counts ≡ map faults (take script.servers devices)
     pub meta_is : world.meta ≡ opening script.servers
-    pub stores_are : world.stores ≡ stores_over told faults script.layout.s (take script.servers devices)
+    pub stores_are : world.stores
+        ≡ stores_over told faults script.layout.s (take script.servers devices)
     pub actors_are : world.actors ≡ numbered_actors (rules_of script) 1 (commands_by_actor script)
     pub order_is : world.order ≡ []
     pub spare_are : world.spare ≡ drop script.servers devices
@@ -41,7 +43,7 @@ pub record GoesOn (before behind : Stored) : Type 0 where
   pub never_falls : before.faults ≤ behind.faults
 
 -- the node of this number is a server whose device failed once
-pub record HasFailed (before behind : List Stored) (node : ℕ) : Type 0 where
+pub record FailedOnce (before behind : List Stored) (node : ℕ) : Type 0 where
   pub old : Stored
   pub new : Stored
   pub before_is : numbered before node ≡ Some old
@@ -51,44 +53,52 @@ pub record HasFailed (before behind : List Stored) (node : ℕ) : Type 0 where
 module _ {D L : Type 0} where
   -- it is this actor's turn
   abbrev pub HasTurn : WorldView D L → ℕ → Type 0
-  HasTurn world actor = IsTrue (list_any (λ number. number == actor) (turn_of world.script world.actors))
+  HasTurn world actor =
+      IsTrue (list_any (λ number. number == actor) (turn_of world.script world.actors))
 
   -- the nodes: the metaserver, and behind it the chunk servers
   abbrev pub nodes_of : WorldView D L → List (NodeState D)
   nodes_of world = nodes_with (meta_of world.script world.meta) world.stores
 
-  -- an actor of this number took its step: its node served its request, and it took the reply, by which the step came out so.
-  -- The order has one entry more
-  pub record ActorMoves (before : WorldView D L) (number : ℕ) (outcome : Outcome) (node : ℕ) (behind : WorldView D L) : Type 0 where
+  -- an actor of this number took its step: its node served its request, and it took the reply, by
+  -- which the step came out so. The order has one entry more
+  pub record ActorMoves (before : WorldView D L) (number : ℕ) (outcome : Outcome) (node : ℕ)
+      (behind : WorldView D L) : Type 0 where
     pub actor : Actor
     pub reply : NodeReply
     pub of : numbered before.actors number ≡ Some actor
     pub to : node_of actor ≡ Some node
-    pub turns : TakesTurn (nodes_of before) actor outcome (nodes_of behind) (after_reply actor reply)
+    pub turns : TakesTurn (nodes_of before) actor outcome (nodes_of behind)
+        (after_reply actor reply)
     pub actors : behind.actors ≡ renumbered before.actors number (after_reply actor reply)
     pub order : behind.order ≡ with_step before.order number outcome
     pub falls : steps_left behind.actors < steps_left before.actors
 
   -- every node but the one of this number is as it was, and so is what the world only keeps
-  pub record OthersStay (before behind : WorldView D L) (node : ℕ) : Type 0 where
+  pub record AllElseStays (before behind : WorldView D L) (node : ℕ) : Type 0 where
     pub meta : (node ≡ 0 → ⊥) → behind.meta ≡ before.meta
-    pub stores : (server : ℕ) → (server ≡ node → ⊥) → numbered behind.stores server ≡ numbered before.stores server
+    pub stores : (server : ℕ) → (server ≡ node → ⊥)
+        → numbered behind.stores server ≡ numbered before.stores server
     pub script : behind.script ≡ before.script
     pub counts : behind.counts ≡ before.counts
     pub spare : behind.spare ≡ before.spare
     pub disks : behind.disks ≡ before.disks
 
-  -- an actor took its step, which came out so, and nothing else changed but that actor and the node that its request went to.
-  -- Devices go on, and a step that failed is one at a server whose device failed
-  pub record Steps (before : WorldView D L) (number : ℕ) (outcome : Outcome) (behind : WorldView D L) : Type 0 where
+  -- an actor took its step, which came out so, and nothing else changed but that actor and the node
+  -- that its request went to. Devices go on, and a step that failed is one at a server whose device
+  -- failed
+  pub record TakesStep (before : WorldView D L) (number : ℕ) (outcome : Outcome)
+      (behind : WorldView D L) : Type 0 where
     pub node : ℕ
     pub moves : ActorMoves before number outcome node behind
-    pub others : OthersStay before behind node
+    pub others : AllElseStays before behind node
     pub goes_on : AllZip GoesOn before.stores behind.stores
-    pub cause : outcome ≡ Ended.Failed → HasFailed before.stores behind.stores node
+    pub cause : outcome ≡ Ended.Failed → FailedOnce before.stores behind.stores node
 
 -- ---- its end
 
--- these devices are those of a world, each in its place; those above the script's servers are as they came
-abbrev pub AreDevicesOf : {D L : Type 0} → (D → Option Held) → (D → ℕ) → WorldView D L → List D → Type 0
+-- these devices are those of a world, each in its place; those above the script's servers are as
+-- they came
+abbrev pub AreDevicesOf : {D L : Type 0} → (D → Option Held) → (D → ℕ) → WorldView D L → List D
+    → Type 0
 AreDevicesOf told faults world devices = AreHome told faults world.stores world.spare devices

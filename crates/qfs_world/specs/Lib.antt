@@ -1,4 +1,5 @@
 pub mod AtWork
 pub mod Calls
 pub mod Follows
+pub mod Servers
 pub mod View

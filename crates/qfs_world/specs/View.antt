@@ -14,8 +14,9 @@ use Rattle.qfs_nodes.specs.Nodes.{image_of, stores_of}
 use Rattle.qfs_nodes.specs.declared.node.NodeState.{NodeState}
 use Rattle.qfs_store.specs.Stored.{Stored}
 
--- what it was made of and how often its servers' devices had failed then, how its nodes and actors stand, the steps so far,
--- and what it only keeps: the devices above the script's servers, and the metaserver's disks
+-- what it was made of and how often its servers' devices had failed then, how its nodes and actors
+-- stand, the steps so far, and what it only keeps: the devices above the script's servers, and the
+-- metaserver's disks
 pub record WorldView (D L : Type 0) : Type 0 where
   pub script : Script
   pub counts : List ℕ
@@ -27,7 +28,8 @@ pub record WorldView (D L : Type 0) : Type 0 where
   pub disks : MetaDisks L
 
 -- the view of a world's parts
-abbrev pub view_of : {D L : Type 0} → Script → List ℕ → List (NodeState D) → List Standing → List Step → List D → MetaDisks L → WorldView D L
+abbrev pub view_of : {D L : Type 0} → Script → List ℕ → List (NodeState D) → List Standing
+    → List Step → List D → MetaDisks L → WorldView D L
 view_of script counts nodes actors order spare disks = record {
   script = script;
   counts = counts;

@@ -8,7 +8,7 @@ ghost use Rattle.qfs_nodes.specs.Actors.{lines_of_actors};
 ghost use Rattle.qfs_nodes.specs.Nodes.{IsNew};
 ghost use Rattle.qfs_nodes.specs.Scripts.{IsRunnable};
 ghost use Rattle.qfs_world.specs.AtWork.{TakesTurn, place_in};
-ghost use Rattle.qfs_world.specs.Calls.{AreDevicesOf, HasTurn, Starts, Steps};
+ghost use Rattle.qfs_world.specs.Calls.{AreDevicesOf, HasTurn, Starts, TakesStep};
 ghost use Rattle.qfs_world.specs.Follows.{IsAfter};
 ghost use Rattle.qfs_world.specs.View.{turn_of, with_step};
 
@@ -57,12 +57,12 @@ impl<D: ChunkDevice, L: LogDisk> Model for World<D, L> {
         it.spare.items it.disks };
 
     ghost use Rattle.std.specs.Prelude.{vec_capacity};
-    ghost use Rattle.qfs_world.specs.AtWork.{HasRoom, IsAtWork};
+    ghost use Rattle.qfs_world.specs.AtWork.{HasDeviceRoom, IsAtWork};
 
     ghost invariant = { λ it.
         IsAtWork it.script.value it.counts.value it.nodes.items it.actors.items it.phases.items
         it.order
-        × HasRoom it.nodes.items it.spare.items (vec_capacity it.spare) };
+        × HasDeviceRoom it.nodes.items it.spare.items (vec_capacity it.spare) };
 }
 
 impl<D: ChunkDevice, L: LogDisk> World<D, L> {
@@ -121,7 +121,7 @@ impl<D: ChunkDevice, L: LogDisk> World<D, L> {
     /// wanting, and then the world is as it was.
     pub fn step(&mut self, actor: ActorId) -> Result<Outcome, AllocError>
         requires turn { HasTurn self.old actor }
-        ensures ok { IfOk result (λ outcome. Steps self.old actor outcome self.new) }
+        ensures ok { IfOk result (λ outcome. TakesStep self.old actor outcome self.new) }
         ensures err { OnErr result (self.new ≡ self.old) }
     {
         step_on(

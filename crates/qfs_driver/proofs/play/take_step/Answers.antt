@@ -2,7 +2,7 @@
 use Rattle.std.proofs.Common.{rules}
 use Rattle.qfs_driver.proofs.PlayLaws.{continues_same, goes_there}
 use Rattle.qfs_base.specs.declared.history.Outcome.TheVariants as Came
-use Rattle.qfs_world.specs.Calls.{Steps}
+use Rattle.qfs_world.specs.Calls.{TakesStep}
 use Rattle.qfs_driver.proofs.play.take_step.Goals as goal
 
 pub returns-in-Ok-NoMemory-2-clause-continues : goal.returns-in-Ok-NoMemory-2-clause-continues
@@ -10,5 +10,5 @@ returns-in-Ok-NoMemory-2-clause-continues g c = continues_same c.args.world.now 
 
 pub returns-in-Some-clause-err : goal.returns-in-Some-clause-err
 returns-in-Some-clause-err g c =
-    let steps : Steps c.args.world.now c.args.actor Came.Failed c.step.new.self = search rules in
+    let steps : TakesStep c.args.world.now c.args.actor Came.Failed c.step.new.self = search rules in
     record { steps = steps; at = goes_there c.args.world.now c.step.new.self c.args.actor c.in-Some.server Came.Failed steps (search rules) }
