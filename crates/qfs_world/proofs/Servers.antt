@@ -26,7 +26,6 @@ use Rattle.qfs_model_text.specs.Order.{same_outcome}
 use Rattle.qfs_model_world.specs.Events.{Event}
 use Rattle.qfs_model_world.specs.Headline.{is_failed_at, failed_at}
 use Rattle.qfs_model_world.specs.World.{numbered}
-use Rattle.qfs_store.specs.Known.{refusal}
 use Rattle.qfs_store.specs.Serves.{Answers, Counted, Serves, Steps, reads_more}
 use Rattle.qfs_store.specs.Stored.{Stored, StandsOn}
 use Rattle.qfs_world.specs.Calls.{GoesOn}
