@@ -1,20 +1,22 @@
 //! The slots of blocks, and the condemned copies.
-ghost use Rattle.std.specs.Prelude.{◌≡◌, ◌≤◌, ◌+◌, [], find, max, min, IsOk, OnOk, OnErr};
+ghost use Rattle.std.specs.Prelude.{◌≡◌, ◌≤◌, ◌+◌, [], filter, find, max, min, IsOk, OnOk, OnErr};
 ghost use Rattle.std.specs.Option.{option_copied, option_map};
 ghost use Rattle.qfs_base.specs.declared.image.SlotRow.{SlotRow};
 ghost use Rattle.qfs_base.specs.Sizes.{LAST_U32};
-ghost use Rattle.qfs_model_meta.specs.Slots.{count_on, is_slot, slot_at, slot_id};
+ghost use Rattle.qfs_model_meta.specs.Slots.{count_on, is_slot, slot_at, slot_id, slots_of};
 ghost use Rattle.qfs_blocks.specs.Entries.{condemned_of, next_entry};
 ghost use Rattle.qfs_blocks.specs.Records.{is_after, is_next_on};
 
 use crate::entries::Entries;
 use crate::records::Records;
+use crate::row::RecordRow;
 use qfs_base::chunk::BlockId;
 use qfs_base::image::{Servers, SlotRecord};
-use qfs_base::numbers::{Life, ServerId, Slot};
+use qfs_base::numbers::{FileId, Life, ServerId, Slot};
 use qfs_base::reply::Condemned;
 use qfs_base::request::SlotId;
 use qfs_lease::LeaseView;
+use qfs_table::Run;
 use std::alloc::{AllocError, Global};
 use std::marker::Model;
 
@@ -105,6 +107,20 @@ impl Blocks {
             ≡ option_map slot_id (find (is_next_on server life after) self.now.slots) }
     {
         self.records.next_on(server, life, after)
+    }
+
+    /// The records of a file's slots, by index and slot.
+    pub fn rows_of(&self, file: FileId) -> Run<'_, RecordRow>
+        ensures { result ≡ slots_of file self.now.slots }
+    {
+        self.records.rows_of(file)
+    }
+
+    /// The records of all slots behind one, or of all slots, by file, index and slot.
+    pub fn rows_behind(&self, after: Option<SlotId>) -> Run<'_, RecordRow>
+        ensures { result ≡ filter (is_after after) self.now.slots }
+    {
+        self.records.rows_behind(after)
     }
 
     /// How many current copies and grants are on a server in a life, where more than the last value

@@ -24,4 +24,5 @@ pub use laws::{
     change_of_grants, changes_of_condemned_copies, changes_of_leases, changes_of_servers,
     condemning_changes,
 };
+pub use row::RecordRow;
 pub use state::NewGrant;

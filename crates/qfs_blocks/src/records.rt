@@ -1,11 +1,11 @@
 //! The records of slots, in their order.
-ghost use Rattle.std.specs.Prelude.{◌≡◌, ◌≤◌, ◌+◌, [], find, length, max, min, IsOk, IfOk, OnOk, OnErr};
+ghost use Rattle.std.specs.Prelude.{◌≡◌, ◌≤◌, ◌+◌, [], filter, find, length, max, min, IsOk, IfOk, OnOk, OnErr};
 ghost use Rattle.std.specs.Option.{option_copied, option_map, is_some};
 ghost use Rattle.std.specs.List.{list_any};
 ghost use Rattle.qfs_base.specs.declared.image.SlotRow.{SlotRow};
 ghost use Rattle.qfs_base.specs.Sizes.{LAST_U32};
 ghost use Rattle.qfs_base.specs.Table.{IsRising, change_where};
-ghost use Rattle.qfs_model_meta.specs.Slots.{count_on, forget_file, granted_slot, is_of_block, seal_file, slot_at, slot_cmp, slot_id, with_slot};
+ghost use Rattle.qfs_model_meta.specs.Slots.{count_on, forget_file, granted_slot, is_of_block, seal_file, slot_at, slot_cmp, slot_id, slots_of, with_slot};
 ghost use Rattle.qfs_blocks.specs.Records.{is_after, is_next_on, is_of, HasPlace};
 
 use crate::change::{GrantTo, Seal};
@@ -18,7 +18,7 @@ use qfs_base::chunk::BlockId;
 use qfs_base::image::{RecordList, SlotRecord, SlotRow};
 use qfs_base::numbers::{FileId, Life, ServerId};
 use qfs_base::request::SlotId;
-use qfs_table::{Change, Table};
+use qfs_table::{Change, Run, Table};
 use std::alloc::{AllocError, Global};
 use std::marker::Model;
 
@@ -133,6 +133,20 @@ impl Records {
             ≡ option_map slot_id (find (is_next_on server life after) self.now.slots) }
     {
         first_on(self.table.run(&After { after }), server, life)
+    }
+
+    /// The records of a file's slots, by index and slot.
+    pub fn rows_of(&self, file: FileId) -> Run<'_, RecordRow>
+        ensures { result ≡ slots_of file self.now.slots }
+    {
+        self.table.run(&OfFile { file })
+    }
+
+    /// The records behind a slot, or all of them.
+    pub fn rows_behind(&self, after: Option<SlotId>) -> Run<'_, RecordRow>
+        ensures { result ≡ filter (is_after after) self.now.slots }
+    {
+        self.table.run(&After { after })
     }
 
     /// How many current copies and grants are on a server in a life. Each slot is passed once.

@@ -19,5 +19,6 @@ mod tree;
 
 pub use error::TreeError;
 pub use moving::Moved;
+pub use paths::copy_path;
 pub use row::NameRow;
 pub use tree::Tree;

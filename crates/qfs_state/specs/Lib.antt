@@ -1,0 +1,4 @@
+-- What the contracts of the metaserver's state cite.
+pub mod Held
+pub mod Planning
+pub mod Rooms
