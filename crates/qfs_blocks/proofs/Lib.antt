@@ -2,5 +2,4 @@ pub mod EntryLaws
 pub mod IndexLaws
 pub mod RecordLaws
 pub mod RowLaws
-pub mod ServerLaws
 pub mod TableLaws

@@ -13,13 +13,13 @@ ghost use Rattle.qfs_blocks.specs.Records.{HasPlace, is_of};
 use crate::blocks::Blocks;
 use crate::change::{Confirm, Empty, Fail, Ungrant};
 use crate::row::RecordRow;
-use crate::servers::is_live;
-use crate::state::{NewGrant, granted_copy, is_that_copy};
+use crate::state::{NewGrant, is_that_copy};
 use qfs_base::chunk::Copy as ChunkCopy;
 use qfs_base::image::Servers;
 use qfs_base::numbers::{FileId, ServerId};
 use qfs_base::request::SlotId;
 use qfs_lease::LeaseView;
+use qfs_place::{granted_copy, is_live};
 use qfs_table::Change;
 
 impl Blocks {
@@ -76,7 +76,9 @@ impl Blocks {
             id.block id.slot self.old copy }
     {
         match copy {
-            Some(copy) if is_live(servers, copy) => self.entries.condemn(id, copy, leases.next()),
+            Some(copy) if is_live(servers.as_slice(), copy) => self
+                .entries
+                .condemn(id, copy, leases.next()),
             _ => {}
         }
     }

@@ -15,7 +15,6 @@ mod lists;
 mod records;
 mod row;
 mod scan;
-mod servers;
 mod state;
 
 pub use blocks::Blocks;

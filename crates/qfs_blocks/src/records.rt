@@ -136,6 +136,7 @@ impl Records {
     }
 
     /// The records of a file's slots, by index and slot.
+    #[tactic(auto, unfolding(qfs_model_meta::specs::Slots::slots_of, qfs_model_meta::specs::Slots::is_of_file))]
     pub fn rows_of(&self, file: FileId) -> Run<'_, RecordRow>
         ensures { result ≡ slots_of file self.now.slots }
     {

@@ -7,14 +7,13 @@ ghost use Rattle.qfs_blocks.specs.Entries.{condemned_of, entry_may_go};
 ghost use Rattle.qfs_blocks.specs.Records.{has_current_on, one_on};
 
 use crate::row::{EntryRow, RecordRow};
-use crate::servers::is_listed;
-use crate::state::granted_copy;
 use qfs_base::chunk::Copy as ChunkCopy;
 use qfs_base::image::{CondemnedEntry, Servers};
 use qfs_base::numbers::{Life, ServerId};
 use qfs_base::reply::Condemned;
 use qfs_base::request::SlotId;
 use qfs_lease::LeaseView;
+use qfs_place::{granted_copy, is_listed};
 use qfs_table::Run;
 
 /// The slot of a row.
@@ -82,7 +81,8 @@ fn may_go<V: LeaseView>(entry: &CondemnedEntry, leases: &V, servers: &Servers) -
     ensures { result ≡ entry_may_go servers.now (V.leases leases.now) entry.now }
 {
     let condemned = entry.condemned;
-    is_listed(servers, condemned.copy) && !leases.live_on(condemned.block.file, entry.below)
+    is_listed(servers.as_slice(), condemned.copy)
+        && !leases.live_on(condemned.block.file, entry.below)
 }
 
 /// The first of these condemned copies that may be ordered deleted.

@@ -1,20 +1,13 @@
 //! The record of a slot: which copy is current, which grant is pending, and what was tried.
 ghost use Rattle.std.specs.Prelude.{◌≡◌, ◌≤◌};
 ghost use Rattle.qfs_model_meta.specs.Apply.{is_that_copy};
-ghost use Rattle.qfs_model_meta.specs.Slots.{never_granted, granted_copy, granted_slot, ungranted_slot, failed_slot, confirmed_slot, sealed_slot, emptied_slot};
+ghost use Rattle.qfs_model_meta.specs.Slots.{never_granted, granted_slot, ungranted_slot, failed_slot, confirmed_slot, sealed_slot, emptied_slot};
 
 use qfs_base::chunk::Copy as ChunkCopy;
 use qfs_base::image::{Grant, SlotRecord};
 use qfs_base::numbers::{ActorId, LeaseId, Life, ServerId};
 use qfs_base::server_set::ServerSet;
-
-/// The copy that a pending grant allows.
-#[tactic(auto, unfolding(qfs_model_meta::specs::Slots::granted_copy))]
-pub fn granted_copy(grant: Option<Grant>) -> Option<ChunkCopy>
-    ensures { result ≡ granted_copy grant }
-{
-    grant.map(|grant| grant.copy)
-}
+use qfs_place::granted_copy;
 
 /// Whether a copy is one of these.
 #[tactic(auto, unfolding(qfs_model_meta::specs::Apply::is_that_copy, qfs_model_meta::specs::Slots::same_copy))]

@@ -21,6 +21,7 @@ use Rattle.qfs_laws_slots.specs.Losing.{condemned-slots}
 use Rattle.qfs_laws_slots.specs.Slots.{is_slot-is, not_slot, slot_at-here, slot_at-behind, total-placed}
 use Rattle.qfs_laws_tables.specs.InOrder.{change_rises}
 use Rattle.qfs_laws_tables.specs.Keys.{less-not}
+use Rattle.qfs_laws_tables.specs.Placed.{change_none}
 use Rattle.qfs_laws_tables.specs.Sums.{total}
 use Rattle.qfs_model_meta.specs.Apply.{apply, write_entry, with_slots, change_record, grant_slot, give_up, fail_grant, confirm_slot, empty_slot}
 use Rattle.qfs_model_meta.specs.Condemned.{condemn, condemn_any}
@@ -44,12 +45,6 @@ unfolding load_of
 left_load m server is = ap (λ (load : Load). load.count) (census_load m.servers m.slots server is)
 
 -- ---- one slot's record changes (the sum over the rows belongs to the laws of slots)
-
-unchanged : {X : Type 0} (test : X → Bool) (change : X → X) (rows : List X)
-    → Each (λ row. test row ≡ false) rows → change_where test change rows ≡ rows
-unchanged test change [] each = refl
-unchanged test change (row ∷ rows) each =
-    λ i. change_row change row (each.0 i) ∷ unchanged test change rows each.1 i
 
 -- the rows behind that of a slot are of other slots
 pub others_behind : (block : BlockId) (slot : ℕ) (row : SlotRow) (rows : List SlotRow)
@@ -87,7 +82,7 @@ total_changed w change block slot (row ∷ rows) rising same =
     ≡ w row.state + sum rows + w (change (slot_at (row ∷ rows) block slot))) [
       | true ↦ λ here.
           let at = slot_at-here block slot row rows here in
-          let stay = ap sum (unchanged test (change_state change) rows
+          let stay = ap sum (change_none test (change_state change) rows
           (others_behind block slot row rows here rising.0)) in
           let old = ap w at in
           let new = ap (λ s. w (change s)) at in

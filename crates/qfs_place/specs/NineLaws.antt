@@ -21,6 +21,7 @@ use Rattle.qfs_base.specs.declared.image.ServerView.{ServerView}
 use Rattle.qfs_base.specs.declared.image.SlotRecord.{SlotRecord}
 use Rattle.qfs_base.specs.declared.image.SlotRow.{SlotRow}
 use Rattle.qfs_laws_slots.specs.Slots.{of_block-is, slot_at-here, slot_at-behind, slot_at-none}
+use Rattle.qfs_laws_tables.specs.EachRow.{filter_none}
 use Rattle.qfs_laws_tables.specs.Keys.{key-is}
 use Rattle.qfs_model_meta.specs.Placing.{with_live_servers, barred_for_put, barred_for_block}
 use Rattle.qfs_model_meta.specs.Slots.{is_slot, is_of_block, slot_at, slot_cmp, never_granted, granted_copy}
@@ -44,12 +45,6 @@ slot_parts block k row =
       | Equal ↦ key-is k row.slot
       | Greater ↦ refl
     ]
-
-filter_none : {X : Type 0} (test : X → Bool) (xs : List X) → Each (λ x. test x ≡ false) xs
-    → filter test xs ≡ []
-filter_none test [] each = refl
-filter_none test (x ∷ xs) each =
-    ap (λ b. cond b (x ∷ filter test xs) (filter test xs)) each.0 ∙ filter_none test xs each.1
 
 -- the later rows of a block have higher slots
 higher : (block : BlockId) (row later : SlotRow) → is_of_block block row ≡ true

@@ -95,6 +95,7 @@ impl State {
 
     /// The first condemned copy above a number that may be ordered deleted: its server is up, it
     /// is live, and no live lease blocks it. Each copy above is passed once.
+    #[tactic(auto, using(crate::proofs::OrderLaws::next_alike))]
     pub fn next_to_go(&self, after: u64) -> Option<Condemned>
         ensures { result ≡ option_map (λ (row : CondemnedRow). row.condemned)
             (next_to_go self.now.image.servers after self.now.image.condemned) }
