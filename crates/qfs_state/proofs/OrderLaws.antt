@@ -42,12 +42,16 @@ next_alike servers leases after [] = refl
 next_alike servers leases after (entry ∷ entries) =
     ap (λ b. option_map condemned_of (cond (nat_lt after entry.condemned.number && b) (Some entry)
     (next_entry servers leases after entries))) (may_go_alike servers leases entry)
-    ∙ one (nat_lt after entry.condemned.number && may_go servers (row_of_entry leases entry))
+    ∙ one (next_alike servers leases after entries)
+    (nat_lt after entry.condemned.number && may_go servers (row_of_entry leases entry))
   where
-    one : (b : Bool)
+    one : option_map condemned_of (next_entry servers leases after entries)
+        ≡ option_map (λ (row : CondemnedRow). row.condemned)
+        (next_to_go servers after (rows_of_entries leases entries))
+        → (b : Bool)
         → option_map condemned_of (cond b (Some entry) (next_entry servers leases after entries))
         ≡ option_map (λ (row : CondemnedRow). row.condemned)
         (cond b (Some (row_of_entry leases entry))
         (next_to_go servers after (rows_of_entries leases entries)))
-    one true = refl
-    one false = next_alike servers leases after entries
+    one rest true = refl
+    one rest false = rest

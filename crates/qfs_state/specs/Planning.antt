@@ -1,6 +1,6 @@
 -- What a plan is: the changes that were decided on, each of which may be made when its turn comes,
 -- and the reply.
-use Rattle.std.specs.Prelude.{◌≡◌, ◌≤◌, ◌<◌, ◌+◌, ⊤, ℕ, List, [], ◌∷◌, length, map, foldr, None, IsSome}
+use Rattle.std.specs.Prelude.{◌≡◌, ◌≤◌, ◌<◌, ◌+◌, ⊤, ℕ, List, [], ◌∷◌, length, map, None, IsSome}
 use Rattle.qfs_base.specs.declared.change.Change.{Change}
 use Rattle.qfs_base.specs.declared.change.Change.TheVariants as Made
 use Rattle.qfs_base.specs.declared.history.Entry.{Entry}
