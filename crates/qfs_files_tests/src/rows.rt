@@ -40,7 +40,7 @@ impl Rows {
         }
     }
 
-    /// Takes a line, and gives what is to be printed. A line that is empty or a comment has nothing.
+    /// Takes a line, and gives what is to be printed: nothing for one that is empty or a comment.
     pub fn take(&mut self, alloc: Global, line: &str) -> Result<Vec<u8>, Bad> {
         let (word, rest) = cut(line);
         match word {
