@@ -1,2 +1,1 @@
 mod Gets
-mod Spelled

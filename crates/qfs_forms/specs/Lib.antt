@@ -1,3 +1,1 @@
-pub mod Meant
 pub mod Only
-pub mod Spelled

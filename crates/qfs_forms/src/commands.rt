@@ -4,11 +4,10 @@ ghost use Rattle.qfs_base.specs.declared.command.Command.TheVariants as Does;
 ghost use Rattle.qfs_base.specs.declared.command.FileCommand.TheVariants as File;
 ghost use Rattle.qfs_model_grammar.specs.CommandLines.{index_in, slot_in, server_in, budget_in, path_command, bare_command, budget_command, server_command, rename_command, recover_command, move_command, evacuate_command, hibernate_command, drop_command, command_of};
 ghost use Rattle.qfs_lexer.specs.Tells.{Tells};
-ghost use Rattle.qfs_forms.specs.Meant.{command_meant};
+ghost use Rattle.qfs_words.specs.Meant.{command_meant};
 ghost use Rattle.qfs_forms.specs.Only.{only_path, only_budget, only_server};
 
 use crate::puts::{get_command, put_command};
-use crate::words::CommandWord;
 use qfs_base::command::{Command, FileCommand};
 use qfs_base::numbers::{ActorId, ServerId, Slot};
 use qfs_base::path::Path;
@@ -17,6 +16,7 @@ use qfs_lexer::{
     MOST_ACTORS, MOST_TICKS, Refusal, Words, four_words, no_word, number_in, one_word, path_in,
     three_words, two_words,
 };
+use qfs_words::CommandWord;
 use std::alloc::Global;
 
 /// The last index of a block.
@@ -282,7 +282,7 @@ fn restart_command(words: &mut Words<'_>) -> Result<Command, ScriptCause>
 }
 
 /// The command that a line says by the words behind its first one, in a script of so many servers.
-#[tactic(auto, unfolding(qfs_model_grammar::specs::CommandLines::command_of, crate::specs::Meant::command_meant))]
+#[tactic(auto, unfolding(qfs_model_grammar::specs::CommandLines::command_of, qfs_words::specs::Meant::command_meant))]
 pub fn command_of(
     alloc: Global,
     servers: u16,

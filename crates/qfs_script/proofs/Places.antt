@@ -3,8 +3,8 @@ use Rattle.std.proofs.Common.{◌≡◌, ◌∙◌, sym, ap, refl, ℕ, Bool, tr
 use Rattle.std.specs.Prelude.{ok_or}
 use Rattle.std.specs.Option.{option_map}
 use Rattle.qfs_base.specs.declared.script.ScriptCause.TheVariants as Cause
-use Rattle.qfs_forms.specs.Meant.{first_meant}
-use Rattle.qfs_forms.specs.declared.words.FirstWord as F
+use Rattle.qfs_words.specs.Meant.{first_meant}
+use Rattle.qfs_words.specs.declared.words.FirstWord as F
 use Rattle.qfs_model_grammar.specs.FirstWord.{FirstWord}
 use Rattle.qfs_model_grammar.specs.FirstWords.{first_word, may_stand}
 use Rattle.qfs_model_grammar.specs.LinePlace.{LinePlace}

@@ -1,13 +1,13 @@
 //! Behind which line the next one stands, and which lines may stand there.
 ghost use Rattle.std.specs.Prelude.{◌≡◌, MatchResult};
-ghost use Rattle.qfs_forms.specs.Meant.{first_meant};
+ghost use Rattle.qfs_words.specs.Meant.{first_meant};
 ghost use Rattle.qfs_model_grammar.specs.FirstWords.{may_stand, may_be_last};
 ghost use Rattle.qfs_model_grammar.specs.ReadScript.{first_in};
 ghost use Rattle.qfs_script.specs.Meant.{place_meant};
 ghost use Rattle.qfs_script.specs.declared.place.LinePlace.TheVariants as At;
 
 use qfs_base::script::ScriptCause;
-use qfs_forms::{FirstWord, first_word};
+use qfs_words::{FirstWord, first_word};
 
 /// Behind which line the next one stands.
 #[derive(Clone, Copy, PartialEq, Eq)]
@@ -25,7 +25,7 @@ pub enum LinePlace {
 }
 
 /// Whether a line that begins so may stand where the text begins.
-#[tactic(auto, unfolding(qfs_model_grammar::specs::FirstWords::may_stand, crate::specs::Meant::place_meant, qfs_forms::specs::Meant::first_meant))]
+#[tactic(auto, unfolding(qfs_model_grammar::specs::FirstWords::may_stand, crate::specs::Meant::place_meant, qfs_words::specs::Meant::first_meant))]
 fn behind_start(first: FirstWord) -> bool
     ensures { result ≡ may_stand (place_meant At.Start) (first_meant first) }
 {
@@ -43,7 +43,7 @@ fn behind_start(first: FirstWord) -> bool
 }
 
 /// Whether a line that begins so may stand behind the line `qfs`.
-#[tactic(auto, unfolding(qfs_model_grammar::specs::FirstWords::may_stand, crate::specs::Meant::place_meant, qfs_forms::specs::Meant::first_meant))]
+#[tactic(auto, unfolding(qfs_model_grammar::specs::FirstWords::may_stand, crate::specs::Meant::place_meant, qfs_words::specs::Meant::first_meant))]
 fn behind_qfs(first: FirstWord) -> bool
     ensures { result ≡ may_stand (place_meant At.Qfs) (first_meant first) }
 {
@@ -61,7 +61,7 @@ fn behind_qfs(first: FirstWord) -> bool
 }
 
 /// Whether a line that begins so may stand behind the layout.
-#[tactic(auto, unfolding(qfs_model_grammar::specs::FirstWords::may_stand, crate::specs::Meant::place_meant, qfs_forms::specs::Meant::first_meant))]
+#[tactic(auto, unfolding(qfs_model_grammar::specs::FirstWords::may_stand, crate::specs::Meant::place_meant, qfs_words::specs::Meant::first_meant))]
 fn behind_layout(first: FirstWord) -> bool
     ensures { result ≡ may_stand (place_meant At.Layout) (first_meant first) }
 {
@@ -79,7 +79,7 @@ fn behind_layout(first: FirstWord) -> bool
 }
 
 /// Whether a line that begins so may stand behind the servers.
-#[tactic(auto, unfolding(qfs_model_grammar::specs::FirstWords::may_stand, crate::specs::Meant::place_meant, qfs_forms::specs::Meant::first_meant))]
+#[tactic(auto, unfolding(qfs_model_grammar::specs::FirstWords::may_stand, crate::specs::Meant::place_meant, qfs_words::specs::Meant::first_meant))]
 fn behind_servers(first: FirstWord) -> bool
     ensures { result ≡ may_stand (place_meant At.Servers) (first_meant first) }
 {
@@ -97,7 +97,7 @@ fn behind_servers(first: FirstWord) -> bool
 }
 
 /// Whether a line that begins so may stand behind the term.
-#[tactic(auto, unfolding(qfs_model_grammar::specs::FirstWords::may_stand, crate::specs::Meant::place_meant, qfs_forms::specs::Meant::first_meant))]
+#[tactic(auto, unfolding(qfs_model_grammar::specs::FirstWords::may_stand, crate::specs::Meant::place_meant, qfs_words::specs::Meant::first_meant))]
 fn behind_term(first: FirstWord) -> bool
     ensures { result ≡ may_stand (place_meant At.Term) (first_meant first) }
 {
@@ -115,7 +115,7 @@ fn behind_term(first: FirstWord) -> bool
 }
 
 /// Whether a line that begins so may stand behind the line `audit`.
-#[tactic(auto, unfolding(qfs_model_grammar::specs::FirstWords::may_stand, crate::specs::Meant::place_meant, qfs_forms::specs::Meant::first_meant))]
+#[tactic(auto, unfolding(qfs_model_grammar::specs::FirstWords::may_stand, crate::specs::Meant::place_meant, qfs_words::specs::Meant::first_meant))]
 fn behind_audit(first: FirstWord) -> bool
     ensures { result ≡ may_stand (place_meant At.Audit) (first_meant first) }
 {
@@ -133,7 +133,7 @@ fn behind_audit(first: FirstWord) -> bool
 }
 
 /// Whether a line that begins so may stand behind a phase.
-#[tactic(auto, unfolding(qfs_model_grammar::specs::FirstWords::may_stand, crate::specs::Meant::place_meant, qfs_forms::specs::Meant::first_meant))]
+#[tactic(auto, unfolding(qfs_model_grammar::specs::FirstWords::may_stand, crate::specs::Meant::place_meant, qfs_words::specs::Meant::first_meant))]
 fn behind_phase(first: FirstWord) -> bool
     ensures { result ≡ may_stand (place_meant At.Phase) (first_meant first) }
 {
@@ -151,7 +151,7 @@ fn behind_phase(first: FirstWord) -> bool
 }
 
 /// Whether a line that begins so may stand behind an actor or a command.
-#[tactic(auto, unfolding(qfs_model_grammar::specs::FirstWords::may_stand, crate::specs::Meant::place_meant, qfs_forms::specs::Meant::first_meant))]
+#[tactic(auto, unfolding(qfs_model_grammar::specs::FirstWords::may_stand, crate::specs::Meant::place_meant, qfs_words::specs::Meant::first_meant))]
 fn behind_actor(first: FirstWord) -> bool
     ensures { result ≡ may_stand (place_meant At.Actor) (first_meant first) }
 {
@@ -169,7 +169,7 @@ fn behind_actor(first: FirstWord) -> bool
 }
 
 /// Whether a line that begins so may stand behind that one.
-#[tactic(auto, unfolding(qfs_model_grammar::specs::FirstWords::may_stand, crate::specs::Meant::place_meant, qfs_forms::specs::Meant::first_meant))]
+#[tactic(auto, unfolding(qfs_model_grammar::specs::FirstWords::may_stand, crate::specs::Meant::place_meant, qfs_words::specs::Meant::first_meant))]
 fn may_stand(place: LinePlace, first: FirstWord) -> bool
     ensures { result ≡ may_stand (place_meant place) (first_meant first) }
 {

@@ -1,6 +1,6 @@
 //! What was read of a script so far, and how one more line goes on.
 ghost use Rattle.std.specs.Prelude.{◌≡◌};
-ghost use Rattle.qfs_forms.specs.Meant.{command_meant, first_meant};
+ghost use Rattle.qfs_words.specs.Meant.{command_meant, first_meant};
 ghost use Rattle.qfs_script.specs.Goes.{Goes};
 ghost use Rattle.qfs_script.specs.Meant.{place_meant};
 ghost use Rattle.qfs_model_grammar.specs.SoFar.{nothing_yet, take_qfs, take_layout, take_servers, take_term, take_audit, take_phase, take_actor, take_command, take_order, take_line};
@@ -13,10 +13,11 @@ use qfs_base::layout::Layout;
 use qfs_base::listing::Listing;
 use qfs_base::script::{Script, ScriptCause};
 use qfs_base::sizes::{MOST_ROWS, MOST_SERVERS};
-use qfs_forms::{CommandWord, FirstWord, command_of};
+use qfs_forms::command_of;
 use qfs_lexer::{
     MOST_ACTORS, MOST_TICKS, Refusal, Words, no_word, number_in, one_word, stripe_in, two_words,
 };
+use qfs_words::{CommandWord, FirstWord};
 use std::alloc::Global;
 use std::marker::Model;
 
@@ -214,7 +215,7 @@ impl SoFar {
     }
 
     /// A line of this first word, and of the words behind it.
-    #[tactic(auto, unfolding(qfs_model_grammar::specs::SoFar::take_line, qfs_forms::specs::Meant::first_meant))]
+    #[tactic(auto, unfolding(qfs_model_grammar::specs::SoFar::take_line, qfs_words::specs::Meant::first_meant))]
     pub fn take_line(
         &mut self,
         alloc: Global,

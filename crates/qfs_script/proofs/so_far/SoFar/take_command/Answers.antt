@@ -1,6 +1,6 @@
 use Rattle.std.proofs.Common.{◌≡◌, ◌∙◌, sym, ap, arith}
 use Rattle.qfs_model_grammar.specs.SoFar.{SoFar, with_head, take_command}
-use Rattle.qfs_forms.specs.Meant.{command_meant}
+use Rattle.qfs_words.specs.Meant.{command_meant}
 use Rattle.qfs_script.specs.Meant.{place_meant}
 use Rattle.qfs_script.proofs.Taken.{taken_command}
 use Rattle.qfs_script.proofs.so_far.SoFar.take_command.Goals as goal

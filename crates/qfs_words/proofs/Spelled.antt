@@ -1,18 +1,17 @@
 -- The words by which lines begin, found group by group.
 use Rattle.std.proofs.Common.{◌≡◌, ◌∙◌, sym, ap, refl, ℕ, Bool, true, false, cond, List, [], ◌∷◌, ◌++◌, Option, Some, None}
-use Rattle.std.specs.Prelude.{find, codes}
+use Rattle.std.specs.Prelude.{find}
 use Rattle.std.specs.Option.{option_map}
 use Rattle.std.specs.Str.{bytes_eq}
 use Rattle.std.proofs.lemmas.Bool.{both_ways, false_from_ne_true}
 use Rattle.std.proofs.lemmas.Slice.Eq.{bytes_eq-Decides}
 use Rattle.qfs_model_grammar.specs.FirstWord.{FirstWord}
-use Rattle.qfs_model_grammar.specs.FirstWord as First
 use Rattle.qfs_model_grammar.specs.FirstWords.{Spelling, spelled, first_word}
-use Rattle.qfs_forms.specs.declared.words.CommandWord as C
-use Rattle.qfs_forms.specs.declared.words.FirstWord as F
-use Rattle.qfs_forms.specs.declared.words.FirstWord.TheVariants as Begins
-use Rattle.qfs_forms.specs.Meant.{first_meant, of_command}
-use Rattle.qfs_forms.specs.Spelled.{word_among, head_spellings, path_spellings, other_spellings, command_spellings}
+use Rattle.qfs_words.specs.declared.words.CommandWord as C
+use Rattle.qfs_words.specs.declared.words.FirstWord as F
+use Rattle.qfs_words.specs.declared.words.FirstWord.TheVariants as Begins
+use Rattle.qfs_words.specs.Meant.{first_meant, of_command}
+use Rattle.qfs_words.specs.Spelled.{word_among, head_spellings, path_spellings, other_spellings, command_spellings}
 
 -- ---- two groups, one after the other
 

@@ -1,7 +1,7 @@
 use Rattle.std.proofs.Common.{rules}
-use Rattle.qfs_forms.specs.Meant.{command_meant, first_meant}
-use Rattle.qfs_forms.proofs.Spelled.{found_here, passed_here, none_here}
-use Rattle.qfs_forms.proofs.words.head_word.Goals as goal
+use Rattle.qfs_words.specs.Meant.{command_meant, first_meant}
+use Rattle.qfs_words.proofs.Spelled.{found_here, passed_here, none_here}
+use Rattle.qfs_words.proofs.words.head_word.Goals as goal
 
 pub returns-then-eq : goal.returns-then-eq
 unfolding command_meant first_meant

@@ -2,8 +2,8 @@
 ghost use Rattle.std.specs.Prelude.{◌≡◌};
 ghost use Rattle.std.specs.Option.{option_map};
 ghost use Rattle.qfs_model_grammar.specs.FirstWords.{first_word};
-ghost use Rattle.qfs_forms.specs.Meant.{first_meant, of_command};
-ghost use Rattle.qfs_forms.specs.Spelled.{word_among, head_spellings, path_spellings, other_spellings, command_spellings};
+ghost use Rattle.qfs_words.specs.Meant.{first_meant, of_command};
+ghost use Rattle.qfs_words.specs.Spelled.{word_among, head_spellings, path_spellings, other_spellings, command_spellings};
 
 /// The words by which commands begin.
 #[derive(Clone, Copy, PartialEq, Eq)]

@@ -3,10 +3,10 @@ use Rattle.qfs_model_grammar.specs.CommandWord as Does
 use Rattle.qfs_model_grammar.specs.CommandWord.{CommandWord}
 use Rattle.qfs_model_grammar.specs.FirstWord as First
 use Rattle.qfs_model_grammar.specs.FirstWord.{FirstWord}
-use Rattle.qfs_forms.specs.declared.words.CommandWord as C
-use Rattle.qfs_forms.specs.declared.words.CommandWord.TheVariants as Word
-use Rattle.qfs_forms.specs.declared.words.FirstWord as F
-use Rattle.qfs_forms.specs.declared.words.FirstWord.TheVariants as Begins
+use Rattle.qfs_words.specs.declared.words.CommandWord as C
+use Rattle.qfs_words.specs.declared.words.CommandWord.TheVariants as Word
+use Rattle.qfs_words.specs.declared.words.FirstWord as F
+use Rattle.qfs_words.specs.declared.words.FirstWord.TheVariants as Begins
 
 unfoldable pub command_meant : C.CommandWord → CommandWord
 command_meant Word.Mkdir = Does.Mkdir

@@ -1,7 +1,7 @@
 use Rattle.std.proofs.Common.{rules}
-use Rattle.qfs_forms.specs.Meant.{command_meant, first_meant}
-use Rattle.qfs_forms.proofs.Spelled.{found_here, passed_here, none_here}
-use Rattle.qfs_forms.proofs.words.other_command_word.Goals as goal
+use Rattle.qfs_words.specs.Meant.{command_meant, first_meant}
+use Rattle.qfs_words.proofs.Spelled.{found_here, passed_here, none_here}
+use Rattle.qfs_words.proofs.words.path_command_word.Goals as goal
 
 pub returns-then-eq : goal.returns-then-eq
 unfolding command_meant first_meant
@@ -84,9 +84,9 @@ returns-then-eq-9 c =
     passed_here _ _ _ _ _ (search rules) (
     found_here _ _ _ _ (search rules)))))))))
 
-pub returns-then-eq-10 : goal.returns-then-eq-10
+pub returns-else-eq-9 : goal.returns-else-eq-9
 unfolding command_meant first_meant
-returns-then-eq-10 c =
+returns-else-eq-9 c =
     passed_here _ _ _ _ _ (search rules) (
     passed_here _ _ _ _ _ (search rules) (
     passed_here _ _ _ _ _ (search rules) (
@@ -96,70 +96,4 @@ returns-then-eq-10 c =
     passed_here _ _ _ _ _ (search rules) (
     passed_here _ _ _ _ _ (search rules) (
     passed_here _ _ _ _ _ (search rules) (
-    found_here _ _ _ _ (search rules))))))))))
-
-pub returns-then-eq-11 : goal.returns-then-eq-11
-unfolding command_meant first_meant
-returns-then-eq-11 c =
-    passed_here _ _ _ _ _ (search rules) (
-    passed_here _ _ _ _ _ (search rules) (
-    passed_here _ _ _ _ _ (search rules) (
-    passed_here _ _ _ _ _ (search rules) (
-    passed_here _ _ _ _ _ (search rules) (
-    passed_here _ _ _ _ _ (search rules) (
-    passed_here _ _ _ _ _ (search rules) (
-    passed_here _ _ _ _ _ (search rules) (
-    passed_here _ _ _ _ _ (search rules) (
-    passed_here _ _ _ _ _ (search rules) (
-    found_here _ _ _ _ (search rules)))))))))))
-
-pub returns-then-eq-12 : goal.returns-then-eq-12
-unfolding command_meant first_meant
-returns-then-eq-12 c =
-    passed_here _ _ _ _ _ (search rules) (
-    passed_here _ _ _ _ _ (search rules) (
-    passed_here _ _ _ _ _ (search rules) (
-    passed_here _ _ _ _ _ (search rules) (
-    passed_here _ _ _ _ _ (search rules) (
-    passed_here _ _ _ _ _ (search rules) (
-    passed_here _ _ _ _ _ (search rules) (
-    passed_here _ _ _ _ _ (search rules) (
-    passed_here _ _ _ _ _ (search rules) (
-    passed_here _ _ _ _ _ (search rules) (
-    passed_here _ _ _ _ _ (search rules) (
-    found_here _ _ _ _ (search rules))))))))))))
-
-pub returns-then-eq-13 : goal.returns-then-eq-13
-unfolding command_meant first_meant
-returns-then-eq-13 c =
-    passed_here _ _ _ _ _ (search rules) (
-    passed_here _ _ _ _ _ (search rules) (
-    passed_here _ _ _ _ _ (search rules) (
-    passed_here _ _ _ _ _ (search rules) (
-    passed_here _ _ _ _ _ (search rules) (
-    passed_here _ _ _ _ _ (search rules) (
-    passed_here _ _ _ _ _ (search rules) (
-    passed_here _ _ _ _ _ (search rules) (
-    passed_here _ _ _ _ _ (search rules) (
-    passed_here _ _ _ _ _ (search rules) (
-    passed_here _ _ _ _ _ (search rules) (
-    passed_here _ _ _ _ _ (search rules) (
-    found_here _ _ _ _ (search rules)))))))))))))
-
-pub returns-else-eq-13 : goal.returns-else-eq-13
-unfolding command_meant first_meant
-returns-else-eq-13 c =
-    passed_here _ _ _ _ _ (search rules) (
-    passed_here _ _ _ _ _ (search rules) (
-    passed_here _ _ _ _ _ (search rules) (
-    passed_here _ _ _ _ _ (search rules) (
-    passed_here _ _ _ _ _ (search rules) (
-    passed_here _ _ _ _ _ (search rules) (
-    passed_here _ _ _ _ _ (search rules) (
-    passed_here _ _ _ _ _ (search rules) (
-    passed_here _ _ _ _ _ (search rules) (
-    passed_here _ _ _ _ _ (search rules) (
-    passed_here _ _ _ _ _ (search rules) (
-    passed_here _ _ _ _ _ (search rules) (
-    passed_here _ _ _ _ _ (search rules) (
-    none_here _)))))))))))))
+    none_here _)))))))))
