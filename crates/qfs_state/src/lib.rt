@@ -5,6 +5,7 @@
 
 mod prepared;
 mod reading;
+mod slots;
 mod state;
 
 pub use prepared::{Plan, Prepared, Unplanned};
