@@ -1,2 +1,3 @@
+pub mod CopyChanges
 pub mod OrderLaws
 pub mod SlotChanges

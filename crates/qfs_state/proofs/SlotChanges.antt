@@ -193,7 +193,7 @@ pub record IsMade (m : MetaImage) (spare : ℕ) (before after : BlockTables) (la
 
 module _ (m : MetaImage) (spare : ℕ) (before : BlockTables) (loads : List Load)
     (held : IsHeld m.servers before (leases_in m spare) m.dropped loads) where
-  fits : BlocksFit (length m.servers) m.next_lease before
+  pub fits : BlocksFit (length m.servers) m.next_lease before
   fits = record { slots = held.slots_fit; below = held.below }
 
   pub made : (change : Change) (after : BlockTables) (later : List Load)

@@ -3,8 +3,11 @@
 //! read it; one function a change changes it.
 #![tactic(auto)]
 
+mod copies;
+mod leases;
 mod prepared;
 mod reading;
+mod servers;
 mod slots;
 mod state;
 
