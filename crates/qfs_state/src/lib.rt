@@ -3,8 +3,12 @@
 //! read it; one function a change changes it.
 #![tactic(auto)]
 
+mod copies;
+mod leases;
 mod prepared;
 mod reading;
+mod servers;
+mod slots;
 mod state;
 
 pub use prepared::{Plan, Prepared, Unplanned};
