@@ -3,6 +3,7 @@
 //! read it; one function a change changes it.
 #![tactic(auto)]
 
+mod files;
 mod prepared;
 mod reading;
 mod state;
