@@ -1,3 +1,4 @@
 pub mod FileLaws
 pub mod OrderLaws
+pub mod RoomLaws
 pub mod SealLaws

@@ -6,6 +6,7 @@
 mod files;
 mod prepared;
 mod reading;
+mod room;
 mod state;
 
 pub use prepared::{Plan, Prepared, Unplanned};
