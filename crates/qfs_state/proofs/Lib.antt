@@ -1,4 +1,6 @@
+pub mod CopyChanges
 pub mod FileLaws
 pub mod OrderLaws
 pub mod RoomLaws
 pub mod SealLaws
+pub mod SlotChanges

@@ -46,7 +46,7 @@ impl State {
         requires may { MayMake self.old.image (Is.AddDirectory path entry) }
         requires room { HasRoom (needs (Is.AddDirectory path entry)) self.old }
         ensures image { self.new.image ≡ apply self.old.image (Made.AddDirectory path) }
-        ensures taken { TakesRoom (needs (Is.AddDirectory path entry)) self.old self.new }
+        ensures room { TakesRoom (needs (Is.AddDirectory path entry)) self.old self.new }
     {
         self.names.add_directory(path, entry);
     }
@@ -56,7 +56,7 @@ impl State {
         requires may { MayMake self.old.image (Is.TakeDirectory path entry) }
         requires room { HasRoom (needs (Is.TakeDirectory path entry)) self.old }
         ensures image { self.new.image ≡ apply self.old.image (Made.TakeDirectory path) }
-        ensures taken { TakesRoom (needs (Is.TakeDirectory path entry)) self.old self.new }
+        ensures room { TakesRoom (needs (Is.TakeDirectory path entry)) self.old self.new }
     {
         self.names.take_directory(&path, entry);
     }
@@ -76,7 +76,7 @@ impl State {
         requires room { HasRoom (needs (Is.AddFile path again actor command len entry)) self.old }
         ensures image { self.new.image
             ≡ apply self.old.image (Made.AddFile path actor command len) }
-        ensures taken { TakesRoom (needs (Is.AddFile path again actor command len entry))
+        ensures room { TakesRoom (needs (Is.AddFile path again actor command len entry))
             self.old self.new }
     {
         self.names.add_file(path, again, actor, command, len, entry);
@@ -89,7 +89,7 @@ impl State {
         requires room { HasRoom (needs (Is.CloseFile file actor command)) self.old }
         ensures image { self.new.image
             ≡ apply self.old.image (Made.CloseFile file actor command) }
-        ensures taken { TakesRoom (needs (Is.CloseFile file actor command)) self.old self.new }
+        ensures room { TakesRoom (needs (Is.CloseFile file actor command)) self.old self.new }
     {
         let rows = self.blocks.rows_of(file);
         uncount_current(&mut self.loads, &self.servers, rows);
@@ -103,7 +103,7 @@ impl State {
         requires may { MayMake self.old.image (Is.AbortFile file) }
         requires room { HasRoom (needs (Is.AbortFile file)) self.old }
         ensures image { self.new.image ≡ apply self.old.image (Made.AbortFile file) }
-        ensures taken { TakesRoom (needs (Is.AbortFile file)) self.old self.new }
+        ensures room { TakesRoom (needs (Is.AbortFile file)) self.old self.new }
     {
         let rows = self.blocks.rows_of(file);
         uncount_rows(&mut self.loads, &self.servers, rows);
@@ -117,7 +117,7 @@ impl State {
         requires may { MayMake self.old.image (Is.RemoveFile path file entry) }
         requires room { HasRoom (needs (Is.RemoveFile path file entry)) self.old }
         ensures image { self.new.image ≡ apply self.old.image (Made.RemoveFile path file) }
-        ensures taken { TakesRoom (needs (Is.RemoveFile path file entry)) self.old self.new }
+        ensures room { TakesRoom (needs (Is.RemoveFile path file entry)) self.old self.new }
     {
         let rows = self.blocks.rows_of(file);
         uncount_rows(&mut self.loads, &self.servers, rows);
@@ -130,7 +130,7 @@ impl State {
         requires may { MayMake self.old.image (Is.MovePath from to moved entry) }
         requires room { HasRoom (needs (Is.MovePath from to moved entry)) self.old }
         ensures image { self.new.image ≡ apply self.old.image (Made.MovePath from to) }
-        ensures taken { TakesRoom (needs (Is.MovePath from to moved entry)) self.old self.new }
+        ensures room { TakesRoom (needs (Is.MovePath from to moved entry)) self.old self.new }
     {
         self.names.move_path(&from, &to, moved, entry);
     }

@@ -3,10 +3,14 @@
 //! read it; one function a change changes it.
 #![tactic(auto)]
 
+mod copies;
 mod files;
+mod leases;
 mod prepared;
 mod reading;
 mod room;
+mod servers;
+mod slots;
 mod state;
 
 pub use prepared::{Plan, Prepared, Unplanned};
