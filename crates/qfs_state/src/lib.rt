@@ -6,6 +6,7 @@
 mod copies;
 mod files;
 mod leases;
+mod make;
 mod prepared;
 mod reading;
 mod room;
