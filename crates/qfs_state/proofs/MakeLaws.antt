@@ -5,9 +5,12 @@ use Rattle.std.specs.Prelude.{IsTrue}
 use Rattle.qfs_base.specs.declared.image.MetaImage.{MetaImage}
 use Rattle.qfs_model_meta.specs.Apply.{apply, apply_all}
 use Rattle.qfs_model_meta.specs.Counters.{counters_fit}
+use Rattle.qfs_model_meta.specs.Decision.{Decision}
+use Rattle.qfs_model_meta.specs.Step.{carry_out, next_turn, take_step}
+use Rattle.qfs_state.specs.declared.prepared.Plan.{Plan}
 use Rattle.qfs_state.specs.declared.prepared.Prepared.{Prepared}
 use Rattle.qfs_state.specs.Held.{Held, Room}
-use Rattle.qfs_state.specs.Planning.{MayMakeAll, change_of, changes_of}
+use Rattle.qfs_state.specs.Planning.{IsPlan, MayMakeAll, change_of, changes_of}
 use Rattle.qfs_state.specs.Rooms.{HasRoom, TakesRoom, add_room, needs, needs_all, no_room}
 
 -- the room for later changes is there still
@@ -78,3 +81,15 @@ pub made_all : (held : Held) (last : MetaImage) → AreLeft [] held last
     → (held.image ≡ last) × IsTrue (counters_fit held.image)
 unfolding apply_all
 made_all held last left = (left.lead, numbers_fit held left.room)
+
+-- what the definition does where it decided as the plan says
+pub carried : (m : MetaImage) (decision : Decision) (plan : Plan) → IsPlan m decision plan
+    → IsTrue (counters_fit (apply_all (changes_of plan.changes.items) m))
+    → carry_out m decision ≡ record {
+      meta = next_turn (apply_all (changes_of plan.changes.items) m);
+      reply = plan.reply;
+    }
+unfolding carry_out take_step
+carried m decision plan is fit =
+    let next : MetaImage = apply_all (changes_of plan.changes.items) m in
+    ap (carry_out m) is.decided ∙ ap (take_step m next plan.reply) fit
