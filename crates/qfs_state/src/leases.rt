@@ -1,8 +1,8 @@
 //! The changes of leases and of the actors that hold them.
-ghost use Rattle.std.specs.Prelude.{◌≡◌, nat_lt};
-ghost use Rattle.std.specs.List.{position_or_len};
-ghost use Rattle.qfs_base.specs.declared.image.DroppedActor.{DroppedActor};
+ghost use Rattle.std.specs.Prelude.{◌≡◌};
+ghost use Rattle.std.specs.List.{position, position_or_len};
 ghost use Rattle.qfs_model_meta.specs.Apply.{apply};
+ghost use Rattle.qfs_state.specs.DroppedActors.{is_above};
 ghost use Rattle.qfs_state.specs.Planning.{MayMake, change_of};
 ghost use Rattle.qfs_state.specs.Rooms.{HasRoom, TakesRoom, needs};
 ghost use Rattle.qfs_state.specs.declared.prepared.Prepared.TheVariants.{DropActor, EndLease, GiveLease};
@@ -11,15 +11,19 @@ use crate::state::State;
 use qfs_base::image::DroppedActor;
 use qfs_base::numbers::{ActorId, FileId, LeaseId};
 
-/// Where an actor that is dropped goes: before the first with a higher number, or at the end.
-fn place_of(dropped: &[DroppedActor], actor: ActorId) -> usize
-    ensures { result
-        ≡ position_or_len (λ (other : DroppedActor). nat_lt actor other.actor) dropped.now }
+/// The place of the first dropped actor with a higher number.
+fn first_above(dropped: &[DroppedActor], actor: ActorId) -> Option<usize>
+    ensures { result ≡ position (is_above actor) dropped.now }
 {
-    dropped
-        .iter()
-        .position(|other| actor < other.actor)
-        .unwrap_or(dropped.len())
+    dropped.iter().position(|other| actor < other.actor)
+}
+
+/// Where an actor that is dropped goes: before the first with a higher number, or at the end.
+#[tactic(auto, using(crate::proofs::LeaseChanges::place_or_end))]
+fn place_of(dropped: &[DroppedActor], actor: ActorId) -> usize
+    ensures { result ≡ position_or_len (is_above actor) dropped.now }
+{
+    first_above(dropped, actor).unwrap_or(dropped.len())
 }
 
 impl State {

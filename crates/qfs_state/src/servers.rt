@@ -101,6 +101,7 @@ impl State {
     }
 
     /// The clock goes on by one tick, and stays at its last reading.
+    #[tactic(auto, unfolding(qfs_model_meta::specs::Apply::apply))]
     pub fn tick(&mut self)
         ensures image { self.new.image ≡ apply self.old.image (change_of ClockTicks) }
         ensures room { TakesRoom (needs ClockTicks) self.old self.new }
