@@ -85,6 +85,7 @@ impl Namespace {
         ensures next_file { self.new.next_file ≡ self.old.next_file }
         ensures history { self.new.history ≡ self.old.history }
         ensures spare { self.new.spare ≡ self.old.spare }
+        ensures least { self.old.spare_entries ≤ self.new.spare_entries }
         ensures ok { OnOk result (more ≤ self.new.spare_entries) }
         ensures enough { more ≤ self.old.spare_entries → IsOk result }
         ensures err { OnErr result (self.new ≡ self.old) }

@@ -1,5 +1,9 @@
 pub mod CopyChanges
+pub mod FileLaws
 pub mod LeaseChanges
+pub mod MakeLaws
 pub mod OrderLaws
+pub mod RoomLaws
+pub mod SealLaws
 pub mod ServerChanges
 pub mod SlotChanges

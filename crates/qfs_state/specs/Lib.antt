@@ -2,4 +2,5 @@
 pub mod DroppedActors
 pub mod Held
 pub mod Planning
+pub mod Reserving
 pub mod Rooms

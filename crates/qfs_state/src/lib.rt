@@ -4,9 +4,12 @@
 #![tactic(auto)]
 
 mod copies;
+mod files;
 mod leases;
+mod make;
 mod prepared;
 mod reading;
+mod room;
 mod servers;
 mod slots;
 mod state;

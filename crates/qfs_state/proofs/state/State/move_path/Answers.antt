@@ -1,0 +1,16 @@
+-- What the check leaves to show of `state::State::move_path`.
+use Rattle.std.proofs.Common.{◌∙◌, ap}
+use Rattle.qfs_base.specs.declared.change.Change.TheVariants as Made
+use Rattle.qfs_model_meta.specs.Apply.{apply}
+use Rattle.qfs_state.specs.Held.{Held}
+use Rattle.qfs_state.proofs.FileLaws.{written_image}
+use Rattle.qfs_state.proofs.state.State.move_path.Goals as goal
+
+pub returns-clause-image : goal.returns-clause-image
+unfolding apply
+returns-clause-image c =
+    let it = c.self.inside in
+    written_image it.turn it.clock it.servers it.leases it.dropped.items it.names
+    c.move_path.new.self it.blocks _ _ _ _ c.move_path.ensures.written
+    c.move_path.ensures.next_file c.requires.may.entry_is
+    ∙ ap (λ (held : Held). apply held.image (Made.MovePath c.args.from c.args.to)) c.self.view_is
