@@ -1,11 +1,10 @@
 -- All rows of a block are read group by group.
-use Rattle.std.proofs.Common.{◌≡◌, ◌∙◌, refl, ap, sym, arith, ℕ, suc, ◌+◌, ◌-◌, ◌*◌, ◌<◌, ◌≤◌, max, min, [], ◌∷◌, map}
+use Rattle.std.proofs.Common.{◌≡◌, refl, ap, arith, ℕ, suc, ◌+◌, ◌-◌, ◌*◌, ◌<◌, ◌≤◌, max, min, [], ◌∷◌}
 use Rattle.std.specs.Int.{div_ceil}
-use Rattle.std.specs.List.{range_with_len}
 use Rattle.std.proofs.lemmas.Grind.{div_ceil_times}
 use Rattle.qfs_base.specs.Layout.{window_at, windows_of_rows}
 use Rattle.qfs_base.specs.declared.layout.Window.{Window}
-use Rattle.qfs_repair.specs.RowGroups.{windows_from, group_rows, group_window}
+use Rattle.qfs_repair.specs.RowGroups.{windows_from, group_window}
 
 -- all of them begin with the first group
 pub windows-all : (k rows : ℕ) → windows_of_rows k 0 rows ≡ windows_from k rows 0

@@ -1,5 +1,5 @@
 -- What is left of a command whose chunk is on its way under a grant.
-use Rattle.std.specs.Prelude.{ℕ, ◌<◌, ◌≤◌, length, IsTrue, ⊤}
+use Rattle.std.specs.Prelude.{◌<◌, ◌≤◌, length, IsTrue, ⊤}
 use Rattle.qfs_base.specs.Sizes.{SLOTS, MOST_CHUNK_BYTES}
 use Rattle.qfs_base.specs.declared.command.Reply.TheVariants as Report
 use Rattle.qfs_base.specs.declared.reply.ChunkAnswer.{ChunkAnswer}

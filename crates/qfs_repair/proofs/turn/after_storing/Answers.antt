@@ -1,5 +1,5 @@
 use Rattle.std.proofs.Common.{◌∙◌, sym}
-use Rattle.qfs_repair.specs.Deliveries.{rest_of_step, rest_of_delivery, rest_of_after}
+use Rattle.qfs_repair.specs.Deliveries.{rest_of_step}
 use Rattle.qfs_repair.proofs.Answered.{put-ends, put-goes_on}
 use Rattle.qfs_repair.proofs.turn.after_storing.Goals as goal
 
