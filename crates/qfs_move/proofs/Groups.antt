@@ -1,9 +1,6 @@
 -- What is left of a command that reads a copy group by group.
-use Rattle.std.proofs.Common.{◌≡◌, ◌≢◌, ◌∙◌, refl, ap, sym, arith, inl, inr, ℕ, ◌+◌, ◌-◌, ◌*◌, ◌<◌, ◌≤◌, ◌==◌, false, true, List, [], ◌++◌, length, take, replicate, Some}
-use Rattle.std.proofs.Math.Nat.{mul-le-mul_right}
-use Rattle.std.proofs.lemmas.Bool.{cases_lt}
+use Rattle.std.proofs.Common.{◌≡◌, ◌≢◌, refl, arith, ℕ, ◌+◌, ◌*◌, ◌<◌, ◌≤◌, ◌==◌, false, true, List, [], ◌++◌, length, replicate, Some}
 use Rattle.std.proofs.lemmas.Bool.Decides.{nat_tests}
-use Rattle.std.proofs.lemmas.Grind.{common_steps}
 use Rattle.qfs_base.specs.Shape.{Shape}
 use Rattle.qfs_base.specs.declared.lists.Cause.{Cause}
 use Rattle.qfs_base.specs.declared.reply.ChunkAnswer.{ChunkAnswer}
@@ -19,12 +16,12 @@ use Rattle.qfs_model_actor.specs.Hold.{granted, unnamed}
 use Rattle.qfs_model_actor.specs.Move.{copy_windows}
 use Rattle.qfs_model_actor.specs.Repair.{store_granted}
 use Rattle.qfs_model_actor.specs.Work.{Work, goes_on, node_of_request, request_in}
-use Rattle.qfs_move.specs.Rest.{copied, rest_of_copying, rest_of_groups}
+use Rattle.qfs_move.specs.Rest.{rest_of_copying, rest_of_groups}
 use Rattle.qfs_move.specs.Turns.{group_bytes, rest_if_filled, rest_of_failed, rest_with_group}
 use Rattle.qfs_move.specs.declared.stage.Copying.{Copying}
-use Rattle.qfs_repair.proofs.RowGroups.{windows-next, windows-end}
+use Rattle.qfs_repair.proofs.RowGroups.{filled-none, windows-next, windows-end}
 use Rattle.qfs_repair.specs.Deliveries.{Course}
-use Rattle.qfs_repair.specs.RowGroups.{group_rows}
+use Rattle.qfs_repair.specs.RowGroups.{filled_before}
 
 -- ---- the bytes of a group are asked for
 
@@ -86,38 +83,10 @@ fetched-other len given failed room Did.Absent b c d e f = absurd (e refl)
 fetched-other len given failed room Did.Fault b c d e f = absurd (f refl)
 fetched-other len given failed room answer b c d e f = refl
 
--- ---- where a group stands in its chunk
-
-pub within : (s rows group len whole : ℕ) → group * 16 < rows → len ≡ group_rows rows group * s → whole ≡ rows * s
-    → group * 16 * s + len ≤ whole
-within s rows group len whole more len_is whole_is =
-    let le : (group * 16 + group_rows rows group) * s ≤ rows * s = mul-le-mul_right s (omega (arith, more)) in
-    omega (arith, le, len_is, whole_is)
-
--- the first groups of a chunk, where one more was put there
-pub copied-more : (s rows group : ℕ) (old new room : List ℕ) → group * 16 < rows → length new ≡ rows * s → length room ≡ group_rows rows group * s
-    → take (group * 16 * s + length room) new ≡ take (group * 16 * s) old ++ room
-    → take ((group + 1) * 16 * s) new ≡ take (group * 16 * s) old ++ room
-copied-more s rows group old new room more whole len put =
-    elim (cases_lt rows ((group + 1) * 16)) [
-      | inl last ↦
-          let rest : group_rows rows group ≡ rows - group * 16 = omega (arith, last) in
-          let scaled : (group * 16 + (rows - group * 16)) * s ≡ rows * s = ap (λ n. n * s) (omega (arith, more)) in
-          let past : group * 16 * s + length room ≡ rows * s = omega (arith, len, ap (λ n. n * s) rest, scaled) in
-          let le : rows * s ≤ (group + 1) * 16 * s = mul-le-mul_right s (omega (arith, last)) in
-          let all : take ((group + 1) * 16 * s) new ≡ new = grind (arith, common_steps, le, whole) in
-          let same : take (group * 16 * s + length room) new ≡ new = grind (arith, common_steps, past, whole) in
-          all ∙ sym same ∙ put
-      | inr full ↦
-          let rest : group_rows rows group ≡ 16 = omega (arith, full) in
-          let here : group * 16 * s + length room ≡ (group + 1) * 16 * s = omega (arith, len, ap (λ n. n * s) rest) in
-          rw here at put
-    ]
-
 -- what is left at the next group
 pub next-group : (layout : Shape) (course : Course) (c after : Copying) (room : List ℕ)
     → after.grant ≡ c.grant → after.source ≡ c.source → after.group ≡ c.group + 1
-    → copied layout (c.group + 1) after.chunk.items ≡ copied layout c.group c.chunk.items ++ room
+    → filled_before layout.s (c.group + 1) after.chunk.items ≡ filled_before layout.s c.group c.chunk.items ++ room
     → rest_of_copying layout course after ≡ rest_with_group layout course c room
 unfolding rest_of_copying rest_with_group
 next-group layout course c after room grant source group got = rw (grant, source, group, got) refl
@@ -125,30 +94,21 @@ next-group layout course c after room grant source group got = rw (grant, source
 -- and behind the last one: the whole chunk is stored
 pub last-group : (layout : Shape) (course : Course) (c : Copying) (room : List ℕ)
     → c.grant.rows ≤ (c.group + 1) * 16
-    → store_granted (course.done c.grant) (course.failed c.grant) c.grant (copied layout c.group c.chunk.items ++ room)
+    → store_granted (course.done c.grant) (course.failed c.grant) c.grant (filled_before layout.s c.group c.chunk.items ++ room)
     ≡ rest_with_group layout course c room
 unfolding rest_with_group copy_windows
 last-group layout course c room past = rw (windows-end c.grant.block.index c.grant.rows (c.group + 1) past) refl
-
-pub all-copied : (s rows group : ℕ) (chunk : List ℕ) → rows ≤ group * 16 → length chunk ≡ rows * s → take (group * 16 * s) chunk ≡ chunk
-all-copied s rows group chunk past whole =
-    let le : rows * s ≤ group * 16 * s = mul-le-mul_right s past in grind (arith, common_steps, le, whole)
 
 -- with other room nothing that was read has changed
 pub other-room : (layout : Shape) (course : Course) (before after : Copying) → after ≡ record before { chunk = after.chunk } → before.group ≡ 0
     → rest_of_copying layout course after ≡ rest_of_copying layout course before
 unfolding rest_of_copying
 other-room layout course before after is none =
-    let nothing : before.group * 16 * layout.s ≡ 0 = rw none (omega arith) in rw (is, nothing) refl
-
--- no chunk is longer than one can be
-pub chunk-bound : (s rows : ℕ) (chunk : List ℕ) → length chunk ≡ rows * s → rows ≤ 1024 → s ≤ 65536 → length chunk ≤ 67108864
-chunk-bound s rows chunk whole few short =
-    let le : rows * s ≤ 1024 * s = mul-le-mul_right s few in omega (arith, whole, le, short)
+    rw (is, none, filled-none layout.s after.chunk.items, filled-none layout.s before.chunk.items) refl
 
 -- a copy is read from its first group on
 pub first-group : (layout : Shape) (course : Course) (c : Copying) → c.group ≡ 0
     → rest_of_copying layout course c ≡ rest_of_groups layout course c 0 []
 unfolding rest_of_copying
 first-group layout course c none =
-    let nothing : 0 * 16 * layout.s ≡ 0 = omega arith in rw (none, nothing) refl
+    rw (none, filled-none layout.s c.chunk.items) refl

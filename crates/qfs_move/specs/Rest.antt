@@ -1,5 +1,5 @@
 -- What is left of a command that moves copies at each of its stages.
-use Rattle.std.specs.Prelude.{◌≡◌, ℕ, suc, ◌+◌, ◌*◌, ◌<◌, ◌≤◌, ◌^◌, List, length, take, ◌⊎◌, ⊤}
+use Rattle.std.specs.Prelude.{◌≡◌, ℕ, suc, ◌+◌, ◌*◌, ◌<◌, ◌≤◌, ◌^◌, List, length, ◌⊎◌, ⊤}
 use Rattle.qfs_base.specs.Shape.{Shape}
 use Rattle.qfs_base.specs.Sizes.{SLOTS, MOST_ROWS, WINDOW_ROWS}
 use Rattle.qfs_base.specs.declared.chunk.Copy.{Copy}
@@ -20,7 +20,7 @@ use Rattle.qfs_move.specs.declared.stage.Progress.{Progress}
 use Rattle.qfs_move.specs.declared.stage.Stage.{Stage}
 use Rattle.qfs_move.specs.declared.stage.Stage.TheVariants as At
 use Rattle.qfs_repair.specs.Deliveries.{Course, report_of_failure, rest_of_delivery, HoldsChunk, IsDelivery}
-use Rattle.qfs_repair.specs.RowGroups.{windows_from}
+use Rattle.qfs_repair.specs.RowGroups.{filled_before, windows_from}
 
 -- the report of a command that ends so
 unfoldable pub report_of_move : MoveEnding → Report
@@ -61,10 +61,6 @@ course_of layout errand source =
       failed = λ g report. failed_of layout g report errand;
     }
 
--- the bytes of a chunk that were read before a group
-abbrev pub copied : Shape → ℕ → List ℕ → List ℕ
-copied layout group chunk = take (group * WINDOW_ROWS * layout.s) chunk
-
 -- what is left of a command that reads a copy from a group on, behind these bytes
 abbrev pub rest_of_groups : Shape → Course → Copying → ℕ → List ℕ → Work
 rest_of_groups layout course c group got =
@@ -81,7 +77,7 @@ rest_of_copy layout errand g source =
 -- what is left of a command that reads a copy
 unfoldable pub rest_of_copying : Shape → Course → Copying → Work
 rest_of_copying layout course c =
-    rest_of_groups layout course c c.group (copied layout c.group c.chunk.items)
+    rest_of_groups layout course c c.group (filled_before layout.s c.group c.chunk.items)
 
 -- what is left of a command
 unfoldable pub rest_of_move : Shape → Stage → Work

@@ -11,7 +11,7 @@ use Rattle.qfs_model_actor.specs.Hold.{unnamed}
 use Rattle.qfs_model_actor.specs.Move.{after_balance_next, after_evac_next, after_leave, after_move_at, evacuate_on, evacuated, move_slot, rebalance_on}
 use Rattle.qfs_model_actor.specs.Repair.{give_up}
 use Rattle.qfs_model_actor.specs.Work.{Work}
-use Rattle.qfs_move.specs.Rest.{copied, done_of, failed_of, leaving_of, rest_of_groups}
+use Rattle.qfs_move.specs.Rest.{done_of, failed_of, leaving_of, rest_of_groups}
 use Rattle.qfs_move.specs.declared.stage.Balancing.{Balancing}
 use Rattle.qfs_move.specs.declared.stage.Copying.{Copying}
 use Rattle.qfs_move.specs.declared.stage.Errand.{Errand}
@@ -19,7 +19,7 @@ use Rattle.qfs_move.specs.declared.stage.Evacuating.{Evacuating}
 use Rattle.qfs_move.specs.declared.stage.Stage.{Stage}
 use Rattle.qfs_move.specs.declared.stage.Stage.TheVariants as At
 use Rattle.qfs_repair.specs.Deliveries.{Course}
-use Rattle.qfs_repair.specs.RowGroups.{group_rows}
+use Rattle.qfs_repair.specs.RowGroups.{filled_before, group_rows}
 
 -- what is left once the slot of a grant is to be moved for an errand
 abbrev pub rest_of_grant : Shape → Errand → Granted → Work
@@ -34,7 +34,7 @@ group_bytes layout c = group_rows c.grant.rows c.group * layout.s
 -- what is left once a group was read, and once its source failed
 unfoldable pub rest_with_group : Shape → Course → Copying → List ℕ → Work
 rest_with_group layout course c room =
-    rest_of_groups layout course c (c.group + 1) (copied layout c.group c.chunk.items ++ room)
+    rest_of_groups layout course c (c.group + 1) (filled_before layout.s c.group c.chunk.items ++ room)
 
 unfoldable pub rest_if_filled : Shape → Course → Copying → List ℕ → Work
 rest_if_filled layout course c room =

@@ -21,58 +21,18 @@ use qfs_base::reply::{ChunkAnswer, ChunkReply, NodeReply};
 use qfs_base::request::{ChunkRequest, NodeRequest};
 use qfs_base::sizes::WINDOW_ROWS;
 use qfs_machine::Ending;
-use qfs_repair::{After, Chunk, Delivery, Failure};
+use qfs_repair::{
+    After, Chunk, Delivery, Failure, group_bytes, group_start, make_chunk_room, zeros,
+};
 use qfs_stripe::Layout;
 use std::alloc::{AllocError, Global};
 
-/// The bytes of a stripe.
-fn stripe(layout: &Layout) -> u32
-    ensures value { result ≡ layout.now.s }
-    ensures most { result ≤ 65536 }
-{
-    layout.s
-}
-
-/// How many bytes the whole chunk has.
-fn chunk_bytes(layout: &Layout, rows: u32) -> usize
-    requires { rows ≤ MOST_ROWS }
-    ensures value { result ≡ rows * layout.now.s }
-    ensures most { result ≤ 67108864 }
-{
-    rows as usize * stripe(layout) as usize
-}
-
-/// Which byte of its chunk a group begins with.
-fn group_start(layout: &Layout, group: u32) -> u32
-    requires { group * WINDOW_ROWS < MOST_ROWS }
-    ensures value { result ≡ group * WINDOW_ROWS * layout.now.s }
-    ensures stripe { layout.now.s ≤ 65536 }
-{
-    group * WINDOW_ROWS * stripe(layout)
-}
-
-/// How many bytes a group has.
-fn group_bytes(layout: &Layout, copying: &Copying) -> usize
+/// How many bytes the present group has.
+fn size_of_group(layout: &Layout, copying: &Copying) -> usize
     requires { IsCopying layout.now copying.now }
-    ensures value { result ≡ group_bytes layout.now copying.now }
-    ensures most { result ≤ 1048576 }
+    ensures { result ≡ group_bytes layout.now copying.now }
 {
-    let rows = WINDOW_ROWS.min(copying.grant.rows - copying.group * WINDOW_ROWS);
-    rows as usize * stripe(layout) as usize
-}
-
-/// So many zeros.
-fn zeros(alloc: Global, len: usize) -> Result<Vec<u8>, AllocError>
-    ensures { IfOk result (λ zeros. zeros.items ≡ replicate len 0) }
-{
-    vec![in alloc; 0; len]
-}
-
-/// Whether there is room for so many bytes, and for no more.
-fn has_room(chunk: &Vec<u8>, len: usize) -> bool
-    ensures { IsTrue result ↔ (length chunk.now.items ≡ len) }
-{
-    chunk.len() == len
+    group_bytes(layout, copying.grant.rows, copying.group)
 }
 
 /// Takes room for the whole chunk, unless it is there.
@@ -84,11 +44,7 @@ pub fn make_room(alloc: Global, layout: &Layout, copying: &mut Copying) -> Resul
     ensures room { OnOk result (HasRoom layout.now copying.new) }
     ensures source { copying.new.source ≡ copying.old.source }
 {
-    let len = chunk_bytes(layout, copying.grant.rows);
-    if !has_room(&copying.chunk, len) {
-        copying.chunk = zeros(alloc, len)?;
-    }
-    Ok(())
+    make_chunk_room(alloc, layout, copying.grant.rows, &mut copying.chunk)
 }
 
 /// The request for the bytes of a group.
@@ -102,7 +58,7 @@ pub fn fetch_request(
         → Asks (rest_of_copying layout.now course copying.now) request) }
     ensures askable { IfOk result IsAskedByRepair }
 {
-    let room = zeros(alloc, group_bytes(layout, copying))?;
+    let room = zeros(alloc, size_of_group(layout, copying))?;
     let grant = &copying.grant;
     let key = ChunkKey {
         block: grant.block,
@@ -197,7 +153,7 @@ fn taken(layout: &Layout, errand: Errand, copying: Copying, room: &[u8]) -> Stag
     ensures at { IsMoveStage layout.now result }
     ensures holds { HoldsNext result }
 {
-    if room.len() != group_bytes(layout, &copying) {
+    if room.len() != size_of_group(layout, &copying) {
         return ended(Ending::Unnamed);
     }
     given(layout, errand, copying, room)

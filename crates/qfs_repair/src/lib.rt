@@ -5,9 +5,11 @@
 mod chunk;
 mod delivery;
 mod failure;
+mod groups;
 mod turn;
 
 pub use chunk::Chunk;
-pub use delivery::{After, Delivery};
+pub use delivery::{After, Delivery, abandon_request};
 pub use failure::Failure;
-pub use turn::{Step, step_after};
+pub use groups::{group_bytes, group_rows, group_start, make_chunk_room, stripe, zeros};
+pub use turn::{Step, give_up, step_after};

@@ -1,7 +1,8 @@
 use Rattle.std.proofs.Common.{◌∙◌, refl, sym, arith, length, ◌*◌, ◌+◌, ◌≤◌}
 use Rattle.qfs_move.specs.Rest.{course_of, rest_of_move}
 use Rattle.qfs_repair.specs.Deliveries.{rest_of_delivery}
-use Rattle.qfs_move.proofs.Groups.{within, copied-more, next-group, last-group, all-copied, chunk-bound}
+use Rattle.qfs_move.proofs.Groups.{last-group, next-group}
+use Rattle.qfs_repair.proofs.RowGroups.{chunk-bound, filled-all, filled-more, within}
 use Rattle.qfs_move.proofs.copying.given.Goals as goal
 
 pub put_group-requires : goal.put_group-requires
@@ -15,7 +16,7 @@ returns-then-copying-clause-rest c =
     let layout = c.args.layout.now in
     let copying = c.args.copying in
     let put = rw c.group_start-start.ensures.value at c.put_group.ensures.put in
-    let got = copied-more layout.s copying.grant.rows copying.group copying.chunk.items c.put_group.new.chunk.items c.args.bytes.now c.requires.at.more
+    let got = filled-more layout.s copying.grant.rows copying.group (length c.args.bytes.now) copying.chunk.items c.put_group.new.chunk.items c.args.bytes.now c.requires.at.more
     (c.put_group.ensures.len ∙ c.requires.room) c.requires.bytes put in
     next-group layout (course_of layout c.args.errand copying.source) copying _ c.args.bytes.now refl refl refl got
 
@@ -27,9 +28,9 @@ returns-clause-rest c =
     let past : copying.grant.rows ≤ (copying.group + 1) * 16 = omega (arith, c.if-copying.false) in
     let whole = c.put_group.ensures.len ∙ c.requires.room in
     let put = rw c.group_start-start.ensures.value at c.put_group.ensures.put in
-    let got = copied-more layout.s copying.grant.rows copying.group copying.chunk.items c.put_group.new.chunk.items c.args.bytes.now c.requires.at.more
+    let got = filled-more layout.s copying.grant.rows copying.group (length c.args.bytes.now) copying.chunk.items c.put_group.new.chunk.items c.args.bytes.now c.requires.at.more
     whole c.requires.bytes put in
-    let all = sym (all-copied layout.s copying.grant.rows (copying.group + 1) c.put_group.new.chunk.items past whole) ∙ got in
+    let all = sym (filled-all layout.s copying.grant.rows (copying.group + 1) c.put_group.new.chunk.items past whole) ∙ got in
     rw (c.new-chunk.ensures.bytes, c.from_vec.ensures, all)
     (last-group layout (course_of layout c.args.errand copying.source) copying c.args.bytes.now past)
 

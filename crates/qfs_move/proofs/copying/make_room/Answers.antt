@@ -1,11 +1,19 @@
-use Rattle.std.proofs.Common.{◌≡◌, ◌∙◌, refl, sym, inl, inr}
+use Rattle.std.proofs.Common.{refl, inl, inr}
 use Rattle.qfs_move.proofs.Groups.{other-room}
 use Rattle.qfs_move.proofs.copying.make_room.Goals as goal
 
-pub returns-in_ok-copying-clause-rest : goal.returns-in_ok-copying-clause-rest
-returns-in_ok-copying-clause-rest c = λ course.
-    let none : c.args.copying.now.group ≡ 0 = elim c.requires.room [
-      | inl none ↦ none
-      | inr there ↦ absurd (cc (c.has_room.ensures.1 (there ∙ sym c.chunk_bytes-len.ensures.value), c.if-not-has_room.true))
-    ] in
-    other-room c.args.layout.now course c.args.copying.now _ refl none
+pub returns-clause-rest : goal.returns-clause-rest
+returns-clause-rest c = λ course.
+    elim c.requires.room [
+      | inl none ↦ other-room c.args.layout.now course c.args.copying.now _ refl none
+      | inr there ↦ rw (c.make_chunk_room.ensures.there there) refl
+    ]
+
+pub returns-clause-at : goal.returns-clause-at
+returns-clause-at c =
+    record {
+      slot = c.requires.slot;
+      rows = c.requires.rows;
+      more = c.requires.more;
+      room = elim c.requires.room [ inl none ↦ inl none | inr there ↦ inr (rw (c.make_chunk_room.ensures.there there) there) ];
+    }
