@@ -1,28 +1,12 @@
-//! Which grants a move goes on with.
-#![tactic(auto, unfolding(qfs_model_actor::specs::Grants::is_grant_of, qfs_model_actor::specs::Grants::is_in_range, qfs_model_actor::specs::Grants::copy_if, crate::specs::Sources::sole_of))]
+//! The copy that a move is made of.
+#![tactic(auto, unfolding(qfs_model_actor::specs::Grants::copy_if, crate::specs::Sources::sole_of))]
 
 ghost use Rattle.std.specs.Prelude.{◌≡◌, ◌<◌, length, slice_get, Some};
-ghost use Rattle.qfs_model_actor.specs.Grants.{copy_if, is_grant_of, is_in_range, source_of};
+ghost use Rattle.qfs_model_actor.specs.Grants.{copy_if, source_of};
 ghost use Rattle.qfs_move.specs.Sources.{listed_in, with_listed};
 
 use qfs_base::chunk::Copy;
-use qfs_base::numbers::Slot;
 use qfs_base::reply::Granted;
-use qfs_base::sizes::{MOST_ROWS, SLOTS};
-
-/// Whether a grant is one of the block and slot that were asked for.
-pub fn is_grant_of(index: u32, slot: Slot, grant: &Granted) -> bool
-    ensures { result ≡ is_grant_of index slot grant.now }
-{
-    grant.block.index == index && grant.slot == slot
-}
-
-/// Whether a grant is one of nine slots, of no more rows than a chunk can have.
-pub fn is_in_range(grant: &Granted) -> bool
-    ensures { result ≡ is_in_range grant.now }
-{
-    grant.slot < SLOTS && grant.rows <= MOST_ROWS
-}
 
 /// Which slots of a grant list a copy.
 #[derive(Clone, Copy)]

@@ -13,7 +13,7 @@ ghost use Rattle.qfs_move.specs.Turns.{AsksMeta};
 
 use crate::copying::{after_copying, ended};
 use crate::ending::MoveEnding;
-use crate::grant::{is_grant_of, is_in_range, source_of};
+use crate::grant::source_of;
 use crate::stage::{Balancing, Copying, Errand, Evacuating, OneMove, Progress, Stage};
 use crate::step::{after_step, balanced, evacuate_on};
 use qfs_base::chunk::Copy;
@@ -21,7 +21,7 @@ use qfs_base::listing::Listing;
 use qfs_base::numbers::ServerId;
 use qfs_base::reply::{Granted, MetaReply, NodeReply};
 use qfs_machine::Ending;
-use qfs_repair::{Chunk, Delivery, step_after};
+use qfs_repair::{Chunk, Delivery, is_grant_of, is_in_range, step_after};
 use qfs_stripe::Layout;
 use std::alloc::Global;
 

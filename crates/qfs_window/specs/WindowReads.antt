@@ -2,6 +2,7 @@
 use Rattle.std.specs.Prelude.{◌≡◌, ℕ, suc, ◌+◌, ◌-◌, ◌*◌, ◌<◌, ◌≤◌, ◌==◌, List, [], length, take, count_by, is_ok, false, Some, Ok, Err, slice_get, slice_set, ⊤, ◌⊎◌}
 use Rattle.qfs_base.specs.Sizes.{DATA_SLOTS, SLOTS, WINDOW_ROWS}
 use Rattle.qfs_base.specs.declared.chunk.Copy.{Copy}
+use Rattle.qfs_base.specs.declared.layout.Window.{Window}
 use Rattle.qfs_base.specs.declared.lists.Cause.{Cause}
 use Rattle.qfs_base.specs.declared.reply.ChunkReply.{ChunkReply}
 use Rattle.qfs_base.specs.declared.request.ChunkRequest.TheVariants as Serve
@@ -123,11 +124,11 @@ IsWindowStep stripe (Comes.Goes r) = IsRead stripe r
 IsWindowStep stripe (Comes.Six r) = IsSix stripe r
 IsWindowStep stripe other = ⊤
 
--- the same window of the same block is read
-abbrev pub StaysAt : WindowRead → WindowStep → Type 0
-StaysAt old (Comes.Goes r) = r.window ≡ old.window
-StaysAt old (Comes.Six r) = r.window ≡ old.window
-StaysAt old other = ⊤
+-- this window is read still
+abbrev pub IsStepOf : Window → WindowStep → Type 0
+IsStepOf w (Comes.Goes r) = r.window ≡ w
+IsStepOf w (Comes.Six r) = r.window ≡ w
+IsStepOf w other = ⊤
 
 -- a request for bytes of a slot
 abbrev pub IsFetch : NodeRequest → Type 0

@@ -11,7 +11,7 @@ ghost use Rattle.qfs_window.specs.WindowReads.{after_slot, rest_from_slot, rest_
 ghost use Rattle.qfs_window.specs.WindowReads.{rest_of_read, rest_of_step, rest_with_piece};
 ghost use Rattle.qfs_window.specs.WindowReads.{rest_without, slot_bytes, Behind, HasRoom, IsFetch};
 ghost use Rattle.qfs_window.specs.WindowReads.{HasRoomOnceGiven, IsRead, IsWindowStep};
-ghost use Rattle.qfs_window.specs.WindowReads.{StaysAt, WantsMore};
+ghost use Rattle.qfs_window.specs.WindowReads.{IsStepOf, WantsMore};
 
 use crate::parts::keep_part;
 use crate::sources::{Sources, are_too_few, next_source};
@@ -158,7 +158,7 @@ fn next_slot(stripe: u32, read: WindowRead) -> WindowStep
     ensures rest { (reading : Reading) (behind : Behind) → rest_of_step reading behind result
         ≡ rest_from_slot reading behind read (read.slot + 1) }
     ensures at { IsWindowStep stripe result }
-    ensures window { StaysAt read result }
+    ensures window { IsStepOf read.window result }
 {
     let _ = stripe;
     let mut read = read;
@@ -174,7 +174,7 @@ fn failed(stripe: u32, read: WindowRead, cause: Cause) -> WindowStep
     ensures rest { (reading : Reading) (behind : Behind)
         → rest_of_step reading behind result ≡ rest_without reading behind read cause }
     ensures at { IsWindowStep stripe result }
-    ensures window { StaysAt read result }
+    ensures window { IsStepOf read.window result }
 {
     let mut read = read;
     read.sources[read.slot as usize] = Err(cause);
@@ -192,7 +192,7 @@ fn given(stripe: u32, read: WindowRead, bytes: &[u8]) -> WindowStep
     ensures rest { (reading : Reading) (behind : Behind) → reading.stripe ≡ stripe
         → rest_of_step reading behind result ≡ rest_with_piece reading behind read bytes.now }
     ensures at { IsWindowStep stripe result }
-    ensures window { StaysAt read result }
+    ensures window { IsStepOf read.window result }
 {
     let mut read = read;
     read.have = keep_part(&mut read.nine, bytes.len(), read.have, read.slot, bytes);
@@ -210,7 +210,7 @@ fn taken(stripe: u32, read: WindowRead, room: &[u8]) -> WindowStep
     ensures rest { (reading : Reading) (behind : Behind) → reading.stripe ≡ stripe
         → rest_of_step reading behind result ≡ rest_if_filled reading behind read room.now }
     ensures at { IsWindowStep stripe result }
-    ensures window { StaysAt read result }
+    ensures window { IsStepOf read.window result }
 {
     if room.len() != slot_bytes(stripe, &read) {
         return WindowStep::Ended(Ending::Unnamed);
@@ -226,7 +226,7 @@ fn answered(stripe: u32, read: WindowRead, reply: &ChunkReply) -> WindowStep
     ensures rest { (reading : Reading) (behind : Behind) → reading.stripe ≡ stripe
         → rest_of_step reading behind result ≡ after_slot reading behind read reply.now }
     ensures at { IsWindowStep stripe result }
-    ensures window { StaysAt read result }
+    ensures window { IsStepOf read.window result }
 {
     match &reply.answer {
         ChunkAnswer::Fetched => taken(stripe, read, reply.room.as_slice()),
@@ -253,7 +253,7 @@ fn fetched(stripe: u32, read: WindowRead, reply: &ChunkReply) -> WindowStep
         → rest_of_step reading behind result
         ≡ goes_on (rest_of_read reading behind read) (NodeReply.Chunk reply.now) }
     ensures at { IsWindowStep stripe result }
-    ensures window { StaysAt read result }
+    ensures window { IsStepOf read.window result }
 {
     match Ending::of_chunk(&reply.answer) {
         Some(ending) => WindowStep::GivesUp(ending),
@@ -270,7 +270,7 @@ pub fn step_after(stripe: u32, read: WindowRead, reply: &NodeReply) -> WindowSte
     ensures rest { (reading : Reading) (behind : Behind) → reading.stripe ≡ stripe
         → rest_of_step reading behind result ≡ goes_on (rest_of_read reading behind read) reply.now }
     ensures at { IsWindowStep stripe result }
-    ensures window { StaysAt read result }
+    ensures window { IsStepOf read.window result }
 {
     match reply {
         NodeReply::Chunk(reply) => fetched(stripe, read, reply),
