@@ -1,3 +1,3 @@
 mod Passing
 mod Slots
-mod Fetches
+pub mod Fetches
