@@ -1,8 +1,7 @@
 -- What becomes of a node's reply at each stage of a command that recovers slots.
-use Rattle.std.proofs.Common.{◌≡◌, ◌∙◌, refl, ap, sym, arith, ℕ, suc, ◌+◌, ◌<◌, ◌≤◌, false, true, List, [], Option, None, Some, take, ◌*◌}
+use Rattle.std.proofs.Common.{◌≡◌, ◌∙◌, refl, sym, arith, ℕ, ◌<◌, ◌≤◌, false, true, List, [], None, Some, take, ◌*◌}
 use Rattle.std.proofs.lemmas.Bool.Decides.{nat_tests}
 use Rattle.qfs_base.specs.Shape.{Shape}
-use Rattle.qfs_base.specs.declared.lists.SlotCause.{SlotCause}
 use Rattle.qfs_base.specs.declared.reply.ChunkReply.{ChunkReply}
 use Rattle.qfs_base.specs.declared.reply.Granted.{Granted}
 use Rattle.qfs_base.specs.declared.reply.MetaReply.{MetaReply}
@@ -14,14 +13,14 @@ use Rattle.qfs_machine.specs.Asking.{node_asked}
 use Rattle.qfs_machine.specs.Endings.{ending_of_meta, report_of_ending}
 use Rattle.qfs_machine.specs.declared.ending.Ending.{Ending}
 use Rattle.qfs_machine.proofs.Endings.{on_answer-nothing, on_answer-none, on_answer-some}
-use Rattle.qfs_model_actor.specs.Ask.{ask, ask_server, fetch}
+use Rattle.qfs_model_actor.specs.Ask.{ask, ask_server}
 use Rattle.qfs_model_actor.specs.Grants.{if_meant, is_grant_of, is_in_range, with_grant_of, with_proper}
 use Rattle.qfs_model_actor.specs.Hold.{nothing, unnamed, ask_or, end_with, give_back, on_answer, on_meta, was_given_back}
-use Rattle.qfs_model_actor.specs.Read.{Source, are_too_few, causes_of, go_on_or_stop, read_block, read_windows, sources_of, with_enough}
+use Rattle.qfs_model_actor.specs.Read.{Source, are_too_few, go_on_or_stop, read_block, read_windows, sources_of, with_enough}
 use Rattle.qfs_model_actor.specs.Recover.{after_recover_at, heal_on, reading_for, recover_slot, recover_work, restore_chunk}
 use Rattle.qfs_model_actor.specs.Repair.{confirm, give_up, store_granted}
 use Rattle.qfs_model_actor.specs.Work.{ends, goes_on, node_of_request, request_in}
-use Rattle.qfs_recover.specs.Rest.{course_of, done_of, failed_of, reading_in, report_of_recovery, rest_of_chunk, rest_of_groups, rest_of_recovery, rest_of_restoring, rest_of_starving, IsRecoveryStage}
+use Rattle.qfs_recover.specs.Rest.{course_of, done_of, failed_of, reading_in, rest_of_chunk, rest_of_groups, rest_of_recovery, rest_of_restoring, rest_of_starving, IsRecoveryStage}
 use Rattle.qfs_recover.specs.Turns.{after_answer, on_starved, rest_of_grant, rest_starved, AsksMeta}
 use Rattle.qfs_recover.specs.declared.ending.RecoveryEnding.{RecoveryEnding}
 use Rattle.qfs_recover.specs.declared.stage.Errand.{Errand}
@@ -45,7 +44,7 @@ unfolding rest_of_recovery after_answer recover_work heal_on ask ask_or on_meta 
 meta_goes layout (At.Asking one) answer asks = refl
 meta_goes layout (At.Healing at) answer asks = refl
 meta_goes layout (At.Restoring errand c) answer asks = absurd asks
-meta_goes layout (At.Starving errand g sources causes) answer asks = absurd asks
+meta_goes layout (At.Starving errand starving) answer asks = absurd asks
 meta_goes layout (At.Delivering errand delivery) answer asks = absurd asks
 meta_goes layout (At.Ended ending) answer asks = absurd asks
 
@@ -68,7 +67,7 @@ unfolding rest_of_recovery recover_work heal_on ask ask_or on_meta goes_on
 strange_server layout (At.Asking one) reply asks = refl
 strange_server layout (At.Healing at) reply asks = refl
 strange_server layout (At.Restoring errand c) reply asks = absurd asks
-strange_server layout (At.Starving errand g sources causes) reply asks = absurd asks
+strange_server layout (At.Starving errand starving) reply asks = absurd asks
 strange_server layout (At.Delivering errand delivery) reply asks = absurd asks
 strange_server layout (At.Ended ending) reply asks = absurd asks
 
@@ -156,8 +155,8 @@ has_ended layout (At.Asking one) at none other = absurd (cc)
 has_ended layout (At.Healing h) at none other = absurd (cc)
 has_ended layout (At.Restoring errand c) at none other =
     let asks = rw (read-asks (reading_in layout (course_of layout errand) c.grant) _ c.read at.1.read.readable) at none in absurd (cc)
-has_ended layout (At.Starving errand g sources causes) at none other =
-    let asks = rw (starving-asks (course_of layout errand) g sources) at none in absurd (cc)
+has_ended layout (At.Starving errand starving) at none other =
+    let asks = rw (starving-asks (course_of layout errand) starving.grant starving.sources) at none in absurd (cc)
 has_ended layout (At.Delivering errand (Under.Storing g chunk)) at none other = absurd (cc)
 has_ended layout (At.Delivering errand (Under.Confirming g)) at none other = absurd (cc)
 has_ended layout (At.Delivering errand (Under.Abandoning g after)) at none other = absurd (cc)
@@ -178,6 +177,6 @@ unfolding rest_of_recovery rest_of_starving give_up give_back recover_work heal_
 meta-node layout (At.Asking one) x y z = refl
 meta-node layout (At.Healing at) x y z = refl
 meta-node layout (At.Restoring errand c) x y z = absurd (x errand c refl)
-meta-node layout (At.Starving errand g sources causes) x y z = refl
+meta-node layout (At.Starving errand starving) x y z = refl
 meta-node layout (At.Delivering errand delivery) x y z = absurd (y errand delivery refl)
 meta-node layout (At.Ended ending) x y z = absurd (z ending refl)

@@ -3,12 +3,11 @@ use Rattle.std.specs.Prelude.{◌≡◌, ℕ, suc, ◌+◌, ◌*◌, ◌<◌, �
 use Rattle.qfs_base.specs.Shape.{Shape}
 use Rattle.qfs_base.specs.Sizes.{SLOTS, MOST_ROWS, WINDOW_ROWS}
 use Rattle.qfs_base.specs.declared.command.Reply.TheVariants as Report
-use Rattle.qfs_base.specs.declared.lists.SlotCause.{SlotCause}
 use Rattle.qfs_base.specs.declared.reply.Granted.{Granted}
 use Rattle.qfs_machine.specs.Endings.{report_of_ending}
 use Rattle.qfs_machine.specs.declared.machine.Readiness.{Readiness}
 use Rattle.qfs_machine.specs.declared.machine.Readiness.TheVariants.{Unready, Ready, Out}
-use Rattle.qfs_model_actor.specs.Pieces.{Piece, restored_slot}
+use Rattle.qfs_model_actor.specs.Pieces.{restored_slot}
 use Rattle.qfs_model_actor.specs.Read.{Reading, Source, causes_of, read_windows}
 use Rattle.qfs_model_actor.specs.Recover.{Healing, heal_on, one_healed, one_not_healed, reading_for, recover_work, recovered, restore_chunk}
 use Rattle.qfs_model_actor.specs.Repair.{give_up, store_granted}
@@ -20,6 +19,7 @@ use Rattle.qfs_recover.specs.declared.stage.Errand.TheVariants as For
 use Rattle.qfs_recover.specs.declared.stage.Heal.{Heal}
 use Rattle.qfs_recover.specs.declared.stage.Restoring.{Restoring}
 use Rattle.qfs_recover.specs.declared.stage.Stage.{Stage}
+use Rattle.qfs_recover.specs.declared.stage.Starving.{Starving}
 use Rattle.qfs_recover.specs.declared.stage.Stage.TheVariants as At
 use Rattle.qfs_repair.specs.Deliveries.{Course, report_of_failure, rest_of_delivery, HoldsChunk, IsDelivery}
 use Rattle.qfs_repair.specs.RowGroups.{filled_before, group_window, windows_from}
@@ -101,8 +101,8 @@ rest_of_recovery layout (At.Asking one) = recover_work layout one.path one.index
 rest_of_recovery layout (At.Healing at) = heal_on layout (suc at.more) (healing_of at)
 rest_of_recovery layout (At.Restoring errand c) =
     rest_of_restoring layout (course_of layout errand) c
-rest_of_recovery layout (At.Starving errand g sources causes) =
-    rest_of_starving (course_of layout errand) g sources
+rest_of_recovery layout (At.Starving errand starving) =
+    rest_of_starving (course_of layout errand) starving.grant starving.sources
 rest_of_recovery layout (At.Delivering errand delivery) =
     rest_of_delivery (course_of layout errand) delivery
 rest_of_recovery layout (At.Ended ending) = ends (report_of_recovery ending)
@@ -128,13 +128,16 @@ pub record IsRestoring (layout : Shape) (c : Restoring) : Type 0 where
   pub read : IsRead layout.s c.read
   pub room : (c.group ≡ 0) ⊎ HasChunkRoom layout c
 
+-- the causes that are listed are those of its sources
+abbrev pub IsStarving : Starving → Type 0
+IsStarving starving = IfSome starving.causes (λ list. list ≡ causes_of starving.sources)
+
 -- what holds at each stage
 abbrev pub IsRecoveryStage : Shape → Stage → Type 0
 IsRecoveryStage layout (At.Asking one) = ⊤
 IsRecoveryStage layout (At.Healing at) = IsHeal at
 IsRecoveryStage layout (At.Restoring errand c) = IsErrand errand × IsRestoring layout c
-IsRecoveryStage layout (At.Starving errand g sources causes) =
-    IsErrand errand × IfSome causes (λ list. list ≡ causes_of sources)
+IsRecoveryStage layout (At.Starving errand starving) = IsErrand errand × IsStarving starving
 IsRecoveryStage layout (At.Delivering errand delivery) = IsErrand errand × IsDelivery delivery
 IsRecoveryStage layout (At.Ended ending) = ⊤
 
@@ -146,7 +149,7 @@ HoldsNext stage = ⊤
 -- the memory for the reply to a stage's request is there
 abbrev pub IsSupplied : Shape → Stage → Type 0
 IsSupplied layout (At.Restoring errand c) = HasChunkRoom layout c × HasRoom layout.s c.read
-IsSupplied layout (At.Starving errand g sources causes) = IsSome causes
+IsSupplied layout (At.Starving errand starving) = IsSome starving.causes
 IsSupplied layout stage = ⊤
 
 -- a chunk is at hand before its request is prepared, and the memory for a reply from then on

@@ -11,7 +11,6 @@ use Rattle.qfs_model_actor.specs.Work.{Work, ends}
 use Rattle.qfs_recover.specs.Rest.{behind_group, done_of, failed_of, healing_of, reading_in}
 use Rattle.qfs_recover.specs.declared.stage.Errand.{Errand}
 use Rattle.qfs_recover.specs.declared.stage.Heal.{Heal}
-use Rattle.qfs_recover.specs.declared.stage.Restoring.{Restoring}
 use Rattle.qfs_recover.specs.declared.stage.Stage.{Stage}
 use Rattle.qfs_recover.specs.declared.stage.Stage.TheVariants as At
 use Rattle.qfs_repair.specs.Deliveries.{Course}

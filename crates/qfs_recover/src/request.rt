@@ -1,23 +1,20 @@
 //! What a command that recovers slots asks at each stage.
 #![tactic(auto, unfolding(crate::specs::Rest::rest_of_recovery, qfs_model_actor::specs::Recover::recover_work, qfs_model_actor::specs::Recover::heal_on, qfs_model_actor::specs::Ask::ask, qfs_model_actor::specs::Hold::ask_or, qfs_model_actor::specs::Work::request_in, qfs_model_actor::specs::Work::node_of_request))]
 
-ghost use Rattle.std.specs.Prelude.{◌≡◌, ℕ, List, IfOk, IfSome, IsSome, OnErr, OnOk};
+ghost use Rattle.std.specs.Prelude.{◌≡◌, IfOk, IfSome, IsSome, OnErr, OnOk};
 ghost use Rattle.qfs_base.specs.Shape.{Shape};
 ghost use Rattle.qfs_machine.specs.Asking.{Asks, AsksNext, node_asked};
-ghost use Rattle.qfs_model_actor.specs.Read.{causes_of};
 ghost use Rattle.qfs_recover.specs.Rest.{rest_of_recovery, rest_of_starving};
-ghost use Rattle.qfs_recover.specs.Rest.{HoldsNext, IsRecoveryStage, IsSupplied};
+ghost use Rattle.qfs_recover.specs.Rest.{HoldsNext, IsRecoveryStage, IsStarving, IsSupplied};
 ghost use Rattle.qfs_repair.specs.Deliveries.{Course, IsAskedByRepair};
 
 use crate::restoring::slot_request;
-use crate::stage::{Heal, OneRecovery, Stage};
+use crate::stage::{Heal, OneRecovery, Stage, Starving};
 use qfs_base::layout::Layout;
-use qfs_base::lists::CauseList;
 use qfs_base::numbers::NodeId;
-use qfs_base::reply::Granted;
 use qfs_base::request::{MetaRequest, NodeRequest};
 use qfs_repair::abandon_request;
-use qfs_window::{Sources, causes_of};
+use qfs_window::causes_of;
 use std::alloc::{AllocError, Global};
 
 /// The node number of the metaserver.
@@ -47,22 +44,19 @@ fn heal_request(at: Heal) -> NodeRequest
 
 /// The request that gives a grant up since too few slots can be read, for which the causes are
 /// listed.
-fn starving_request(
-    alloc: Global,
-    grant: &Granted,
-    sources: &Sources,
-    causes: &mut Option<CauseList>,
-) -> Result<NodeRequest, AllocError>
-    requires { IfSome causes.old (λ list. list ≡ causes_of sources.now) }
+fn starving_request(alloc: Global, starving: &mut Starving) -> Result<NodeRequest, AllocError>
+    requires { IsStarving starving.old }
     ensures request { IfOk result (λ request. (course : Course)
-        → Asks (rest_of_starving course grant.now sources.now) request) }
+        → Asks (rest_of_starving course starving.old.grant starving.old.sources) request) }
     ensures askable { IfOk result IsAskedByRepair }
-    ensures listed { IfSome causes.new (λ list. list ≡ causes_of sources.now) }
-    ensures some { OnOk result (IsSome causes.new) }
+    ensures grant { starving.new.grant ≡ starving.old.grant }
+    ensures sources { starving.new.sources ≡ starving.old.sources }
+    ensures at { IsStarving starving.new }
+    ensures some { OnOk result (IsSome starving.new.causes) }
 {
-    let list = causes_of(alloc, sources)?;
-    *causes = Some(list);
-    Ok(abandon_request(grant))
+    let list = causes_of(alloc, &starving.sources)?;
+    starving.causes = Some(list);
+    Ok(abandon_request(&starving.grant))
 }
 
 /// Prepares the next request of a command, or that it has ended: takes the memory for it and for
@@ -85,9 +79,7 @@ pub fn prepare(
         Stage::Asking(one) => one_request(one)?,
         Stage::Healing(at) => heal_request(*at),
         Stage::Restoring(_, restoring) => slot_request(alloc, layout, restoring)?,
-        Stage::Starving(_, grant, sources, causes) => {
-            starving_request(alloc, grant, sources, causes)?
-        }
+        Stage::Starving(_, starving) => starving_request(alloc, starving)?,
         Stage::Delivering(_, delivery) => delivery.request(),
         Stage::Ended(_) => return Ok(None),
     };

@@ -1,7 +1,7 @@
 //! How a chunk is made anew from six other slots of its block.
 #![tactic(auto, unfolding(crate::specs::Rest::rest_of_recovery, crate::specs::Rest::report_of_recovery, qfs_window::specs::WindowReads::rest_of_step, qfs_machine::specs::Endings::report_of_ending))]
 
-ghost use Rattle.std.specs.Prelude.{◌≡◌, ◌+◌, ◌*◌, ◌<◌, ◌≤◌, ◌++◌, ◌⊎◌, length, take, false, IfOk, OnOk};
+ghost use Rattle.std.specs.Prelude.{◌≡◌, ◌+◌, ◌*◌, ◌<◌, ◌≤◌, ◌++◌, ◌⊎◌, length, take, false, None, IfOk, OnOk};
 ghost use Rattle.qfs_base.specs.Sizes.{MOST_ROWS, SLOTS, WINDOW_ROWS};
 ghost use Rattle.qfs_machine.specs.Asking.{Asks};
 ghost use Rattle.qfs_model_actor.specs.Pieces.{restored_slot};
@@ -19,7 +19,7 @@ ghost use Rattle.qfs_window.specs.Parts.{pieces_of, AreBelow};
 ghost use Rattle.qfs_window.specs.WindowReads.{pieces_in, HasRoom, IsSix, IsStepOf, IsWindowStep};
 
 use crate::ending::RecoveryEnding;
-use crate::stage::{Errand, Restoring, Stage};
+use crate::stage::{Errand, Restoring, Stage, Starving};
 use qfs_base::layout::{Layout, Window};
 use qfs_base::listing::Listing;
 use qfs_base::mask::Mask;
@@ -287,6 +287,19 @@ pub fn ended(ending: Ending) -> Stage
     Stage::Ended(RecoveryEnding::Common(ending))
 }
 
+/// The stage of a command that finds too few slots of a block.
+pub fn starve(errand: Errand, grant: Granted, sources: Sources) -> Stage
+    ensures { result ≡ Stage.Starving errand
+        (record { grant = grant; sources = sources; causes = None }) }
+{
+    let starving = Starving {
+        grant,
+        sources,
+        causes: None,
+    };
+    Stage::Starving(errand, starving)
+}
+
 /// The stage behind what came of a read.
 fn after_window(
     layout: &Layout,
@@ -319,7 +332,7 @@ fn after_window(
             Stage::Restoring(errand, restoring)
         }
         WindowStep::Six(read) => six_read(layout, errand, grant, chunk, group, read),
-        WindowStep::TooFew(read) => Stage::Starving(errand, grant, read.sources, None),
+        WindowStep::TooFew(read) => starve(errand, grant, read.sources),
         WindowStep::GivesUp(ending) => {
             Stage::Delivering(errand, Delivery::Abandoning(grant, After::Ended(ending)))
         }

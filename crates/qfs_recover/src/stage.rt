@@ -48,6 +48,15 @@ pub struct Restoring {
     pub read: WindowRead,
 }
 
+/// A grant that is given up since too few slots of its block can be read. The causes are there once
+/// the request is prepared.
+#[derive(Drop)]
+pub struct Starving {
+    pub grant: Granted,
+    pub sources: Sources,
+    pub causes: Option<CauseList>,
+}
+
 /// What such a command waits for.
 #[derive(Drop)]
 pub enum Stage {
@@ -57,9 +66,8 @@ pub enum Stage {
     Healing(Heal),
     /// It reads the other slots of the block.
     Restoring(Errand, Restoring),
-    /// Too few of them can be read, and the grant is given up. The causes are there once the request
-    /// is prepared.
-    Starving(Errand, Granted, Sources, Option<CauseList>),
+    /// Too few of them can be read, and the grant is given up.
+    Starving(Errand, Starving),
     /// It stores the chunk that was made anew.
     Delivering(Errand, Delivery),
     /// It has ended.

@@ -1,7 +1,7 @@
 //! How a command that recovers slots goes on when a node has answered.
 #![tactic(auto, unfolding(crate::specs::Rest::rest_of_recovery, crate::specs::Rest::report_of_recovery, crate::specs::Turns::after_answer, qfs_model_actor::specs::Recover::after_recover_at, qfs_model_actor::specs::Recover::after_heal_next, qfs_model_actor::specs::Hold::was_given_back, qfs_machine::specs::Endings::report_of_ending))]
 
-ghost use Rattle.std.specs.Prelude.{◌≡◌, ℕ, true};
+ghost use Rattle.std.specs.Prelude.{◌≡◌, ℕ, true, IsSome};
 ghost use Rattle.qfs_base.specs.Shape.{Shape};
 ghost use Rattle.qfs_model_actor.specs.Grants.{is_in_range};
 ghost use Rattle.qfs_model_actor.specs.Hold.{was_given_back};
@@ -10,13 +10,13 @@ ghost use Rattle.qfs_model_actor.specs.Recover.{after_recover_at};
 ghost use Rattle.qfs_model_actor.specs.Work.{goes_on};
 ghost use Rattle.qfs_recover.specs.Rest.{course_of, rest_of_chunk, rest_of_recovery};
 ghost use Rattle.qfs_recover.specs.Rest.{rest_of_starving, HoldsNext, IsErrand, IsHeal};
-ghost use Rattle.qfs_recover.specs.Rest.{IsRecoveryStage, IsSupplied};
+ghost use Rattle.qfs_recover.specs.Rest.{IsRecoveryStage, IsStarving, IsSupplied};
 ghost use Rattle.qfs_recover.specs.Turns.{after_answer, after_heal, on_starved, rest_of_grant};
 ghost use Rattle.qfs_recover.specs.Turns.{rest_starved, AsksMeta};
 
 use crate::ending::RecoveryEnding;
-use crate::restoring::{after_restoring, begin_group, ended};
-use crate::stage::{Errand, Heal, OneRecovery, Stage};
+use crate::restoring::{after_restoring, begin_group, ended, starve};
+use crate::stage::{Errand, Heal, OneRecovery, Stage, Starving};
 use crate::step::{after_step, starved};
 use qfs_base::layout::Layout;
 use qfs_base::listing::Listing;
@@ -37,7 +37,7 @@ fn begin_chunk(alloc: Global, layout: &Layout, errand: Errand, grant: Granted) -
 {
     let sources = sources_of(grant.sources.as_slice());
     if are_too_few(&sources) {
-        return Stage::Starving(errand, grant, sources, None);
+        return starve(errand, grant, sources);
     }
     if grant.rows == 0 {
         let chunk = Chunk::new(Listing::new(alloc));
@@ -247,6 +247,28 @@ fn after_starving(
     }
 }
 
+/// The same, of a grant for whose causes there is the memory.
+fn starved_by(layout: &Layout, errand: Errand, starving: Starving, reply: &NodeReply) -> Stage
+    requires errand { IsErrand errand }
+    requires at { IsStarving starving }
+    requires some { IsSome starving.causes }
+    ensures rest { rest_of_recovery layout.now result
+        ≡ goes_on (rest_of_starving (course_of layout.now errand) starving.grant starving.sources)
+        reply.now }
+    ensures at { IsRecoveryStage layout.now result }
+    ensures holds { HoldsNext result }
+{
+    let Starving {
+        grant,
+        sources,
+        causes,
+    } = starving;
+    match causes {
+        Some(causes) => after_starving(layout, errand, &grant, &sources, causes, reply),
+        None => unreachable!(),
+    }
+}
+
 /// The stage behind a node's reply, for which there is the memory. A command that has ended stays
 /// so.
 pub fn stage_after(alloc: Global, layout: &Layout, stage: Stage, reply: NodeReply) -> Stage
@@ -259,10 +281,7 @@ pub fn stage_after(alloc: Global, layout: &Layout, stage: Stage, reply: NodeRepl
 {
     match stage {
         Stage::Restoring(errand, restoring) => after_restoring(layout, errand, restoring, &reply),
-        Stage::Starving(errand, grant, sources, causes) => match causes {
-            Some(causes) => after_starving(layout, errand, &grant, &sources, causes, &reply),
-            None => unreachable!(),
-        },
+        Stage::Starving(errand, starving) => starved_by(layout, errand, starving, &reply),
         Stage::Delivering(errand, delivery) => {
             after_step(layout, errand, step_after(delivery, &reply))
         }

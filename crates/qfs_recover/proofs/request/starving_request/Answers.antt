@@ -6,5 +6,5 @@ use Rattle.qfs_repair.specs.declared.delivery.After.TheVariants as Then
 
 pub returns-clause-request : goal.returns-clause-request
 returns-clause-request c = λ course.
-    starving-same course c.args.grant.now c.args.sources.now (Then.Ended By.NoMemory)
+    starving-same course c.args.starving.now.grant c.args.starving.now.sources (Then.Ended By.NoMemory)
     ∙ c.abandon_request.ensures.request course (Then.Ended By.NoMemory)

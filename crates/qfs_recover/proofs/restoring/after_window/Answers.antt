@@ -16,7 +16,7 @@ returns-in-Six-clause-rest c = rw c.in-Six.is c.six_read.ensures.rest
 
 pub returns-in-TooFew-clause-rest : goal.returns-in-TooFew-clause-rest
 unfolding rest_of_recovery rest_of_step rest_of_starving reading_for
-returns-in-TooFew-clause-rest c = rw c.in-TooFew.is refl
+returns-in-TooFew-clause-rest c = rw (c.starve.ensures, c.in-TooFew.is) refl
 
 pub returns-in-GivesUp-clause-rest : goal.returns-in-GivesUp-clause-rest
 unfolding rest_of_recovery rest_of_step rest_of_delivery rest_of_after end_with reading_for

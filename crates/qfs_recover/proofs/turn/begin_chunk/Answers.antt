@@ -10,7 +10,7 @@ unfolding rest_of_recovery
 returns-then-are_too_few-clause-rest c =
     let listed = c.sources_of-sources.ensures ∙ ap sources_of c.as_slice.ensures in
     let few : are_too_few (sources_of c.args.grant.sources) ≡ true = ap are_too_few (sym listed) ∙ sym c.if-are_too_few.ensures in
-    rw listed (chunk-stops c.args.layout.now c.args.errand c.args.grant few)
+    rw (c.starve.ensures, listed) (chunk-stops c.args.layout.now c.args.errand c.args.grant few)
 
 pub returns-then-grant-eq0-clause-rest : goal.returns-then-grant-eq0-clause-rest
 unfolding rest_of_recovery rest_of_delivery
