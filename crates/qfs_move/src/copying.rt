@@ -1,8 +1,8 @@
 //! How a copy is read whole from its server.
 #![tactic(auto, unfolding(crate::specs::Rest::rest_of_move, crate::specs::Rest::report_of_move, crate::specs::Turns::rest_if_filled, qfs_model_actor::specs::Ask::after_fetch, qfs_machine::specs::Endings::report_of_ending))]
 
-ghost use Rattle.std.specs.Prelude.{◌≡◌, ◌+◌, ◌*◌, ◌<◌, ◌≤◌, ◌++◌, length, replicate, take, ◌↔◌, IfOk, IsTrue, OnOk};
-ghost use Rattle.qfs_base.specs.Sizes.{MOST_ROWS, WINDOW_ROWS};
+ghost use Rattle.std.specs.Prelude.{◌≡◌, ◌+◌, ◌*◌, ◌<◌, ◌≤◌, ◌++◌, length, take, IfOk, OnOk};
+ghost use Rattle.qfs_base.specs.Sizes.{WINDOW_ROWS};
 ghost use Rattle.qfs_machine.specs.Asking.{Asks};
 ghost use Rattle.qfs_model_actor.specs.Work.{goes_on};
 ghost use Rattle.qfs_move.specs.Rest.{course_of, rest_of_copying, rest_of_move};
@@ -10,7 +10,6 @@ ghost use Rattle.qfs_move.specs.Rest.{HasRoom, HoldsNext, IsCopying, IsErrand, I
 ghost use Rattle.qfs_move.specs.Turns.{after_group, group_bytes};
 ghost use Rattle.qfs_move.specs.Turns.{rest_if_filled, rest_of_failed, rest_with_group};
 ghost use Rattle.qfs_repair.specs.Deliveries.{Course, IsAskedByRepair};
-ghost use Rattle.qfs_repair.specs.RowGroups.{group_rows};
 
 use crate::ending::MoveEnding;
 use crate::stage::{Copying, Errand, Stage};

@@ -1,6 +1,6 @@
 //! The machine of moves.
 
-ghost use Rattle.std.specs.Prelude.{◌≡◌, ◌<◌, ◌^◌, None};
+ghost use Rattle.std.specs.Prelude.{◌≡◌, None};
 ghost use Rattle.qfs_machine.specs.declared.machine.Readiness.{Readiness};
 ghost use Rattle.qfs_model_actor.specs.Move.{evacuate_work, move_work, rebalance_work};
 ghost use Rattle.qfs_model_actor.specs.Work.{ends, request_in};

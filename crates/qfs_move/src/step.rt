@@ -1,7 +1,7 @@
 //! How a command goes on behind a copy that was moved, or could not be.
 #![tactic(auto, unfolding(crate::specs::Rest::rest_of_move, crate::specs::Rest::report_of_move, crate::specs::Rest::done_of, crate::specs::Rest::failed_of, qfs_repair::specs::Deliveries::rest_of_step, qfs_repair::specs::Deliveries::report_of_failure, qfs_machine::specs::Endings::report_of_ending))]
 
-ghost use Rattle.std.specs.Prelude.{◌≡◌, ◌+◌, ◌<◌, ◌≤◌, ◌^◌};
+ghost use Rattle.std.specs.Prelude.{◌≡◌, ◌+◌, ◌<◌, ◌^◌};
 ghost use Rattle.qfs_base.specs.Shape.{Shape};
 ghost use Rattle.qfs_model_actor.specs.Move.{evacuate_on, rebalance_on};
 ghost use Rattle.qfs_move.specs.Rest.{course_of, done_of, failed_of, leaving_of, rest_of_move};
@@ -105,8 +105,8 @@ fn done(layout: &Layout, errand: Errand, source: Copy, grant: &Granted) -> Stage
     }
 }
 
-/// The stage behind a copy that could not be moved: a rebalancing ends there, and an evacuation goes
-/// on.
+/// The stage behind a copy that could not be moved: a rebalancing ends there, and an evacuation
+/// goes on.
 fn not_done(layout: &Layout, errand: Errand, grant: &Granted, failure: Failure) -> Stage
     requires { IsErrand errand }
     ensures rest { rest_of_move layout.now result

@@ -1,7 +1,7 @@
 //! How a command that moves copies goes on when a node has answered.
 #![tactic(auto, unfolding(crate::specs::Rest::rest_of_move, crate::specs::Rest::report_of_move, crate::specs::Turns::after_answer, qfs_model_actor::specs::Move::after_move_at, qfs_model_actor::specs::Move::after_balance_next, qfs_model_actor::specs::Move::after_evac_next, qfs_model_actor::specs::Move::after_leave, qfs_model_actor::specs::Move::evacuated, qfs_machine::specs::Endings::report_of_ending))]
 
-ghost use Rattle.std.specs.Prelude.{◌≡◌, ◌+◌, ◌<◌, ◌≤◌, ◌^◌, ℕ, true};
+ghost use Rattle.std.specs.Prelude.{◌≡◌, ℕ, true};
 ghost use Rattle.qfs_base.specs.Shape.{Shape};
 ghost use Rattle.qfs_model_actor.specs.Grants.{is_in_range};
 ghost use Rattle.qfs_model_actor.specs.Move.{after_leave, after_move_at, evacuated};

@@ -28,8 +28,8 @@ use std::mem;
 /// waits for, and how it stands to its next request. What is left of it is a tree of questions, by
 /// the definition of the command.
 ///
-/// It holds one window of nine slots and one chunk beside it, and hands the chunk on with no copy of
-/// it.
+/// It holds one window of nine slots and one chunk beside it, and hands the chunk on with no copy
+/// of it.
 #[derive(Drop)]
 pub struct Recovery {
     alloc: Global,

@@ -36,8 +36,8 @@ pub enum Errand {
     Heal(Heal),
 }
 
-/// A chunk that is made anew under a grant, group by group of its rows, each from six other slots of
-/// its block. Those groups before the present one are there.
+/// A chunk that is made anew under a grant, group by group of its rows, each from six other slots
+/// of its block. Those groups before the present one are there.
 #[derive(Drop)]
 pub struct Restoring {
     pub grant: Granted,

@@ -3,7 +3,7 @@
 
 ghost use Rattle.std.specs.Prelude.{◌≡◌, List, ℕ};
 ghost use Rattle.qfs_machine.specs.Endings.{ended_by, report_of_ending};
-ghost use Rattle.qfs_model_actor.specs.Hold.{end_with, give_back, granted, was_given_back};
+ghost use Rattle.qfs_model_actor.specs.Hold.{end_with, granted, was_given_back};
 ghost use Rattle.qfs_model_actor.specs.Repair.{after_confirm};
 ghost use Rattle.qfs_model_actor.specs.Work.{goes_on};
 ghost use Rattle.qfs_repair.specs.Deliveries.{Course, rest_of_after, rest_of_delivery, rest_of_step};
