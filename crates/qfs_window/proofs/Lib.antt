@@ -1,0 +1,3 @@
+mod Passing
+mod Slots
+pub mod Fetches
