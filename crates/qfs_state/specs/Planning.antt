@@ -1,12 +1,11 @@
 -- What a plan is: the changes that were decided on, each of which may be made when its turn comes,
 -- and the reply.
-use Rattle.std.specs.Prelude.{◌≡◌, ◌≤◌, ◌<◌, ◌+◌, ⊤, ℕ, List, [], ◌∷◌, length, map, None, IsSome}
+use Rattle.std.specs.Prelude.{◌≡◌, ◌<◌, ⊤, ℕ, List, [], ◌∷◌, length, map, None, IsSome}
 use Rattle.qfs_base.specs.declared.change.Change.{Change}
 use Rattle.qfs_base.specs.declared.change.Change.TheVariants as Made
 use Rattle.qfs_base.specs.declared.history.Entry.{Entry}
 use Rattle.qfs_base.specs.declared.history.Entry.TheVariants as Wrote
 use Rattle.qfs_base.specs.declared.image.MetaImage.{MetaImage}
-use Rattle.qfs_base.specs.declared.reply.MetaReply.TheVariants as Told
 use Rattle.qfs_base.specs.declared.request.SlotId.{SlotId}
 use Rattle.qfs_base.specs.NameTree.{PathNames, add_refusal, look_refusal, rename_refusal, rmdir_refusal}
 use Rattle.qfs_base.specs.Sizes.{LAST_U32, SLOTS}
@@ -25,7 +24,6 @@ use Rattle.qfs_state.specs.declared.prepared.Prepared.{Prepared}
 use Rattle.qfs_state.specs.declared.prepared.Prepared.TheVariants.{AddDirectory, TakeDirectory, AddFile, CloseFile, AbortFile, RemoveFile, MovePath, GrantSlot, FailGrant, GiveUp, ConfirmSlot, EmptySlot, GiveLease, EndLease, MarkOrdered, TakeCondemned, CondemnStray, ServerUp, ServerDown, ServerLeaves, ServerSleeps, ClockTicks, DropActor}
 use Rattle.qfs_state.specs.declared.prepared.Unplanned.{Unplanned}
 use Rattle.qfs_state.specs.declared.prepared.Unplanned.TheVariants as Is
-use Rattle.qfs_state.specs.Held.{Room}
 
 -- the change that was prepared
 abbrev pub change_of : Prepared → Change

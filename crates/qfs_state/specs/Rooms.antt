@@ -1,9 +1,8 @@
 -- The room that changes take.
-use Rattle.std.specs.Prelude.{◌≤◌, ◌+◌, ℕ, List, [], ◌∷◌, length}
-use Rattle.qfs_base.specs.declared.image.MetaImage.{MetaImage}
+use Rattle.std.specs.Prelude.{◌≤◌, ◌+◌, List, [], ◌∷◌, length}
 use Rattle.qfs_base.specs.Sizes.{LAST_U32, LAST_U64}
 use Rattle.qfs_state.specs.declared.prepared.Prepared.{Prepared}
-use Rattle.qfs_state.specs.declared.prepared.Prepared.TheVariants.{AddDirectory, TakeDirectory, AddFile, CloseFile, AbortFile, RemoveFile, MovePath, GrantSlot, FailGrant, GiveUp, ConfirmSlot, EmptySlot, GiveLease, EndLease, MarkOrdered, TakeCondemned, CondemnStray, ServerUp, ServerDown, ServerLeaves, ServerSleeps, ClockTicks, DropActor}
+use Rattle.qfs_state.specs.declared.prepared.Prepared.TheVariants.{AddDirectory, TakeDirectory, AddFile, CloseFile, AbortFile, RemoveFile, MovePath, GrantSlot, FailGrant, GiveUp, ConfirmSlot, EmptySlot, GiveLease, CondemnStray, DropActor}
 use Rattle.qfs_state.specs.Held.{Held, Room}
 
 -- no room, and that of two lists of changes together
