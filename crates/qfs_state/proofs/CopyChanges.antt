@@ -1,22 +1,16 @@
 -- What the changes of condemned copies leave: they keep slots and loads.
-use Rattle.std.proofs.Common.{◌≡◌, ◌≤◌, refl, ℕ, Bool, true, false, List, Option, Some}
-use Rattle.qfs_base.specs.declared.change.Change.TheVariants.{CondemnStray, MarkOrdered, TakeCondemned}
-use Rattle.qfs_base.specs.declared.chunk.BlockId.{BlockId}
-use Rattle.qfs_base.specs.declared.chunk.ChunkKey.{ChunkKey}
-use Rattle.qfs_base.specs.declared.chunk.Copy.{Copy}
-use Rattle.qfs_base.specs.declared.image.CondemnedEntry.{CondemnedEntry}
+use Rattle.std.proofs.Common.{ℕ, List}
+use Rattle.qfs_base.specs.declared.change.Change.TheVariants.{MarkOrdered, TakeCondemned}
 use Rattle.qfs_base.specs.declared.image.Load.{Load}
 use Rattle.qfs_base.specs.declared.image.MetaImage.{MetaImage}
 use Rattle.qfs_base.specs.EachLaws.{each_filter}
-use Rattle.qfs_base.specs.Table.{Each}
-use Rattle.qfs_blocks.specs.BlockTables.{BlockTables, is_known, unknown_condemned}
+use Rattle.qfs_blocks.specs.BlockTables.{BlockTables}
 use Rattle.qfs_blocks.specs.Entries.{mark_entry, ordered_entry, sweep_entry}
-use Rattle.qfs_blocks.specs.ImageLaws.{marked_is, swept_is, with_blocks}
-use Rattle.qfs_blocks.specs.LeaseLaws.{stray_is}
+use Rattle.qfs_blocks.specs.ImageLaws.{marked_is, swept_is}
 use Rattle.qfs_laws_tables.specs.EachRow.{each_change}
 use Rattle.qfs_model_meta.specs.Apply.{apply}
 use Rattle.qfs_state.specs.Held.{IsHeld}
-use Rattle.qfs_state.proofs.SlotChanges.{IsMade, fits, leases_in, made}
+use Rattle.qfs_state.proofs.SlotChanges.{IsMade, leases_in, made}
 
 module _ (m : MetaImage) (spare : ℕ) (before : BlockTables) (loads : List Load)
     (held : IsHeld m.servers before (leases_in m spare) m.dropped loads) where

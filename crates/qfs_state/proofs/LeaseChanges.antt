@@ -1,6 +1,6 @@
 -- What the changes of leases and of dropped actors leave: the next lease is above all, and dropped
 -- actors stay in order.
-use Rattle.std.proofs.Common.{◌≡◌, ◌≤◌, ◌<◌, ◌+◌, ◌∙◌, ap, subst, sym, refl, arith, ℕ, suc, nat_lt, ◌==◌, Bool, true, false, cond, List, [], ◌∷◌, length, Option, Some, None}
+use Rattle.std.proofs.Common.{◌≡◌, ◌≤◌, ◌<◌, ◌+◌, ◌∙◌, ap, subst, sym, refl, arith, ℕ, suc, nat_lt, ◌==◌, Bool, true, false, cond, List, [], ◌∷◌, length, Some, None}
 use Rattle.std.proofs.lemmas.List.Sums.{prefix_len-le-length}
 use Rattle.std.proofs.lemmas.Bool.Decides.{nat_tests}
 use Rattle.std.specs.Cmp.{IsTotalOrder, nat_cmp_total, on_total}
@@ -8,7 +8,6 @@ use Rattle.std.specs.List.{insert, position, position_or_len}
 use Rattle.std.specs.Option.{option_map}
 use Rattle.std.specs.Prelude.{find, not, unwrap_or}
 use Rattle.qfs_base.specs.declared.change.Change.TheVariants.{EndLease, GiveLease}
-use Rattle.qfs_base.specs.declared.image.CondemnedEntry.{CondemnedEntry}
 use Rattle.qfs_base.specs.declared.image.DroppedActor.{DroppedActor}
 use Rattle.qfs_base.specs.declared.image.Lease.{Lease}
 use Rattle.qfs_base.specs.declared.image.Load.{Load}

@@ -18,7 +18,7 @@ use Rattle.qfs_model_meta.specs.Servers.{change_server, server_asleep, server_at
 use Rattle.qfs_place.specs.ChangeLaws.{census_of}
 use Rattle.qfs_place.specs.Loads.{change_load, counted_as, seen_as}
 use Rattle.qfs_place.specs.ServerLaws.{asleep_census, down_census, leaving_census, up_anew_census}
-use Rattle.qfs_state.specs.Held.{AreServers, AreSlots, IsHeld}
+use Rattle.qfs_state.specs.Held.{AreSlots, IsHeld}
 use Rattle.qfs_state.specs.Planning.{MayComeUp}
 use Rattle.qfs_state.proofs.SlotChanges.{leases_in}
 

@@ -1,6 +1,6 @@
 -- What the changes of slots leave: slots in order on servers that are there, condemned copies below
 -- the next lease, and loads that are counted.
-use Rattle.std.proofs.Common.{◌≡◌, ◌∙◌, ◌≤◌, ◌<◌, ◌+◌, ap, sym, subst, refl, arith, ℕ, Bool, true, false, List, [], ◌∷◌, length, Option, Some, None}
+use Rattle.std.proofs.Common.{◌≡◌, ◌∙◌, ◌≤◌, ◌<◌, ◌+◌, ap, sym, refl, arith, ℕ, Bool, true, false, List, [], ◌∷◌, length, Option, Some, None}
 use Rattle.std.specs.Option.{IfSome}
 use Rattle.std.specs.declared.cmp.Ordering.{Ordering}
 use Rattle.std.specs.declared.cmp.Ordering.TheVariants.{Less, Equal, Greater}
@@ -18,7 +18,7 @@ use Rattle.qfs_base.specs.declared.image.SlotRow.{SlotRow}
 use Rattle.qfs_base.specs.declared.request.SlotId.{SlotId}
 use Rattle.qfs_base.specs.EachLaws.{each_weaker}
 use Rattle.qfs_base.specs.Sizes.{SLOTS}
-use Rattle.qfs_base.specs.Table.{Each, IsRising, place, place_before}
+use Rattle.qfs_base.specs.Table.{Each, place, place_before}
 use Rattle.qfs_blocks.specs.BlockTables.{BlockTables, copy_condemned, entry_listed, grant_confirmed, grant_failed, grant_given_up, record_changed, slot_emptied}
 use Rattle.qfs_blocks.specs.Entries.{new_entry}
 use Rattle.qfs_blocks.specs.ImageLaws.{confirmed_is, emptied_is, failed_is, given_up_is, with_blocks}
@@ -32,7 +32,7 @@ use Rattle.qfs_model_meta.specs.Servers.{is_live, server_at}
 use Rattle.qfs_model_meta.specs.Slots.{change_slot, change_state, confirmed_slot, emptied_slot, failed_slot, granted_copy, granted_slot, never_granted, slot_at, slot_cmp, ungranted_slot, with_slot}
 use Rattle.qfs_place.specs.ChangeLaws.{census_of, confirmed_census, emptied_census, failed_grant_census, gave_up_census, granted_census}
 use Rattle.qfs_place.specs.Loads.{change_load, one_more, uncount_live}
-use Rattle.qfs_state.specs.Held.{AreServers, AreSlots, IsHeld}
+use Rattle.qfs_state.specs.Held.{AreSlots, IsHeld}
 use Rattle.qfs_state.specs.Planning.{MayGrant}
 
 -- ---- what blocks have to be beside servers and leases

@@ -55,6 +55,7 @@ impl State {
     {
         let at = place_of(self.dropped.as_slice(), actor);
         let turn = self.turn;
-        self.dropped.insert_reserved(at, DroppedActor { actor, turn });
+        self.dropped
+            .insert_reserved(at, DroppedActor { actor, turn });
     }
 }

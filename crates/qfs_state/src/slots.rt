@@ -76,7 +76,9 @@ impl State {
     {
         let state = self.blocks.slot_at(id.block, id.slot);
         self.blocks.empty_slot(id, &self.leases, &self.servers);
-        self.loads.uncount_live(self.servers.as_slice(), state.current);
-        self.loads.uncount_live(self.servers.as_slice(), granted_copy(state.grant));
+        self.loads
+            .uncount_live(self.servers.as_slice(), state.current);
+        self.loads
+            .uncount_live(self.servers.as_slice(), granted_copy(state.grant));
     }
 }

@@ -1,11 +1,8 @@
 -- What the check leaves to show of `state::State::carry_out`.
-use Rattle.std.proofs.Common.{◌≡◌, ◌∙◌, ap, sym}
-use Rattle.qfs_base.specs.declared.image.MetaImage.{MetaImage}
-use Rattle.qfs_model_meta.specs.Apply.{apply_all}
+use Rattle.std.proofs.Common.{◌∙◌, ap, sym}
 use Rattle.qfs_model_meta.specs.Counters.{counters_fit}
-use Rattle.qfs_model_meta.specs.Step.{Served, next_turn}
+use Rattle.qfs_model_meta.specs.Step.{next_turn}
 use Rattle.qfs_state.specs.Held.{Held, image_of}
-use Rattle.qfs_state.specs.Planning.{changes_of}
 use Rattle.qfs_state.proofs.MakeLaws.{carried}
 use Rattle.qfs_state.proofs.state.State.carry_out.Goals as goal
 

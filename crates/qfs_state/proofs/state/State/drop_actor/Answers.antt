@@ -1,5 +1,5 @@
 -- What the check leaves to show of `state::State::drop_actor`.
-use Rattle.std.proofs.Common.{◌≡◌, ◌∙◌, ◌≤◌, ap, sym, subst, length}
+use Rattle.std.proofs.Common.{◌≡◌, ◌∙◌, ap, sym, subst}
 use Rattle.std.proofs.lemmas.List.Sums.{prefix_len-le-length}
 use Rattle.std.specs.List.{insert, position_or_len}
 use Rattle.std.specs.Prelude.{not, None}
@@ -7,7 +7,7 @@ use Rattle.qfs_base.specs.declared.change.Change.TheVariants.{DropActor}
 use Rattle.qfs_model_meta.specs.Apply.{apply}
 use Rattle.qfs_model_meta.specs.Dropped.{add_dropped, dropped_at}
 use Rattle.qfs_state.specs.DroppedActors.{is_above}
-use Rattle.qfs_state.specs.Held.{Held, IsHeld, image_of}
+use Rattle.qfs_state.specs.Held.{Held, image_of}
 use Rattle.qfs_state.proofs.LeaseChanges.{dropped_held, placed_above}
 use Rattle.qfs_state.proofs.state.State.drop_actor.Goals as goal
 

@@ -1,5 +1,5 @@
 -- What the check leaves to show of `state::State::fail_grant`.
-use Rattle.std.proofs.Common.{◌≡◌, ◌∙◌, ◌≤◌, ap, sym, arith, length}
+use Rattle.std.proofs.Common.{◌∙◌, ap, arith, length}
 use Rattle.std.proofs.lemmas.Option.{IfSome_then}
 use Rattle.qfs_base.specs.declared.change.Change.TheVariants.{FailGrant}
 use Rattle.qfs_blocks.specs.ImageLaws.{with_blocks}

@@ -1,5 +1,5 @@
 -- What the check leaves to show of `state::State::give_lease`.
-use Rattle.std.proofs.Common.{◌≡◌, ◌∙◌, ap}
+use Rattle.std.proofs.Common.{◌∙◌, ap}
 use Rattle.qfs_base.specs.declared.change.Change.TheVariants.{GiveLease}
 use Rattle.qfs_model_meta.specs.Apply.{apply}
 use Rattle.qfs_state.specs.Held.{Held, image_of}

@@ -1,5 +1,5 @@
 -- What the check leaves to show of `state::State::give_up`.
-use Rattle.std.proofs.Common.{◌≡◌, ◌∙◌, ap, sym}
+use Rattle.std.proofs.Common.{◌∙◌, ap}
 use Rattle.qfs_base.specs.declared.change.Change.TheVariants.{GiveUp}
 use Rattle.qfs_blocks.specs.ImageLaws.{with_blocks}
 use Rattle.qfs_model_meta.specs.Apply.{apply}

@@ -1,8 +1,7 @@
 -- What the check leaves to show of `state::State::grant_slot`.
-use Rattle.std.proofs.Common.{◌≡◌, ◌∙◌, ◌≤◌, ◌+◌, ap, sym, subst, arith, length}
+use Rattle.std.proofs.Common.{◌≡◌, ◌∙◌, ap, sym, subst, arith, length}
 use Rattle.qfs_base.specs.declared.change.Change.TheVariants.{GrantSlot}
 use Rattle.qfs_blocks.specs.BlockTables.{BlockTables}
-use Rattle.qfs_blocks.specs.ImageLaws.{with_blocks}
 use Rattle.qfs_model_meta.specs.Apply.{apply}
 use Rattle.qfs_model_meta.specs.Servers.{server_at}
 use Rattle.qfs_base.specs.declared.image.SlotRow.{SlotRow}

@@ -1,5 +1,5 @@
 -- What the check leaves to show of `state::State::make_all`.
-use Rattle.std.proofs.Common.{◌∙◌, List, [], refl, subst, sym}
+use Rattle.std.proofs.Common.{◌∙◌, List, refl, subst, sym}
 use Rattle.std.proofs.lemmas.List.{nil_from_length}
 use Rattle.std.specs.Vec.Iter.{into_iter_items}
 use Rattle.qfs_base.specs.declared.image.MetaImage.{MetaImage}

@@ -1,5 +1,5 @@
 -- What the check leaves to show of `state::State::take_condemned`.
-use Rattle.std.proofs.Common.{◌≡◌, ◌∙◌, ap}
+use Rattle.std.proofs.Common.{◌∙◌, ap}
 use Rattle.qfs_base.specs.declared.change.Change.TheVariants.{TakeCondemned}
 use Rattle.qfs_blocks.specs.ImageLaws.{with_blocks}
 use Rattle.qfs_model_meta.specs.Apply.{apply}
