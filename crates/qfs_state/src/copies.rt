@@ -12,7 +12,7 @@ use qfs_base::request::SlotId;
 
 impl State {
     /// The deletion of a condemned copy is ordered, if it is there.
-    pub fn mark_ordered(&mut self, number: u64)
+    pub(crate) fn mark_ordered(&mut self, number: u64)
         ensures image { self.new.image ≡ apply self.old.image (change_of (MarkOrdered number)) }
         ensures room { TakesRoom (needs (MarkOrdered number)) self.old self.new }
     {
@@ -20,7 +20,7 @@ impl State {
     }
 
     /// A condemned copy is gone, if it is there and its deletion was ordered.
-    pub fn take_condemned(&mut self, number: u64)
+    pub(crate) fn take_condemned(&mut self, number: u64)
         ensures image { self.new.image ≡ apply self.old.image (change_of (TakeCondemned number)) }
         ensures room { TakesRoom (needs (TakeCondemned number)) self.old self.new }
     {
@@ -29,7 +29,7 @@ impl State {
 
     /// What a server was found to store in a life is condemned, if it is live and neither the
     /// current nor the granted nor a condemned copy of its slot.
-    pub fn condemn_stray(&mut self, server: ServerId, life: Life, key: ChunkKey)
+    pub(crate) fn condemn_stray(&mut self, server: ServerId, life: Life, key: ChunkKey)
         requires room { HasRoom (needs (CondemnStray server life key)) self.old }
         ensures image { self.new.image
             ≡ apply self.old.image (change_of (CondemnStray server life key)) }

@@ -29,7 +29,7 @@ fn place_of(dropped: &[DroppedActor], actor: ActorId) -> usize
 impl State {
     /// An actor gets the next lease, on a file. It ends with the tick that brings the clock to
     /// `until`, or lasts until it is given back where that is 0.
-    pub fn give_lease(&mut self, actor: ActorId, file: FileId, until: u64)
+    pub(crate) fn give_lease(&mut self, actor: ActorId, file: FileId, until: u64)
         requires room { HasRoom (needs (GiveLease actor file until)) self.old }
         ensures image { self.new.image
             ≡ apply self.old.image (change_of (GiveLease actor file until)) }
@@ -39,7 +39,7 @@ impl State {
     }
 
     /// A lease ends, if it is live, and blocks no condemned copy any more.
-    pub fn end_lease(&mut self, lease: LeaseId)
+    pub(crate) fn end_lease(&mut self, lease: LeaseId)
         ensures image { self.new.image ≡ apply self.old.image (change_of (EndLease lease)) }
         ensures room { TakesRoom (needs (EndLease lease)) self.old self.new }
     {
@@ -47,7 +47,7 @@ impl State {
     }
 
     /// An actor that wasn't dropped before is dropped at the turn that is now.
-    pub fn drop_actor(&mut self, actor: ActorId)
+    pub(crate) fn drop_actor(&mut self, actor: ActorId)
         requires may { MayMake self.old.image (DropActor actor) }
         requires room { HasRoom (needs (DropActor actor)) self.old }
         ensures image { self.new.image ≡ apply self.old.image (change_of (DropActor actor)) }

@@ -37,7 +37,7 @@ fn forget_if_risen(blocks: &mut Blocks, server: ServerId, rose: bool)
 impl State {
     /// A server is up, in a life in which so many copies and grants stand on it. Where that is a
     /// new life, the condemned copies on it are gone.
-    pub fn server_up(&mut self, server: ServerId, life: Life, count: u32)
+    pub(crate) fn server_up(&mut self, server: ServerId, life: Life, count: u32)
         requires may { MayMake self.old.image (ServerUp server life count) }
         ensures image { self.new.image
             ≡ apply self.old.image (change_of (ServerUp server life count)) }
@@ -56,7 +56,7 @@ impl State {
     }
 
     /// A server is down. Its copies and its load stay.
-    pub fn server_down(&mut self, server: ServerId)
+    pub(crate) fn server_down(&mut self, server: ServerId)
         requires may { MayMake self.old.image (ServerDown server) }
         ensures image { self.new.image ≡ apply self.old.image (change_of (ServerDown server)) }
         ensures room { TakesRoom (needs (ServerDown server)) self.old self.new }
@@ -68,7 +68,7 @@ impl State {
     }
 
     /// A server is leaving for good. Its copies and its load stay.
-    pub fn server_leaves(&mut self, server: ServerId)
+    pub(crate) fn server_leaves(&mut self, server: ServerId)
         requires may { MayMake self.old.image (ServerLeaves server) }
         ensures image { self.new.image ≡ apply self.old.image (change_of (ServerLeaves server)) }
         ensures room { TakesRoom (needs (ServerLeaves server)) self.old self.new }
@@ -84,7 +84,7 @@ impl State {
 
     /// A server is down, and hibernates until the clock reads `until`. Its copies and its load
     /// stay.
-    pub fn server_sleeps(&mut self, server: ServerId, until: u64)
+    pub(crate) fn server_sleeps(&mut self, server: ServerId, until: u64)
         requires may { MayMake self.old.image (ServerSleeps server until) }
         ensures image { self.new.image
             ≡ apply self.old.image (change_of (ServerSleeps server until)) }
@@ -102,7 +102,7 @@ impl State {
 
     /// The clock goes on by one tick, and stays at its last reading.
     #[tactic(auto, unfolding(qfs_model_meta::specs::Apply::apply))]
-    pub fn tick(&mut self)
+    pub(crate) fn tick(&mut self)
         ensures image { self.new.image ≡ apply self.old.image (change_of ClockTicks) }
         ensures room { TakesRoom (needs ClockTicks) self.old self.new }
     {

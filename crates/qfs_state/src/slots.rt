@@ -15,7 +15,7 @@ use qfs_place::{granted_copy, server_at};
 impl State {
     /// A slot gets a grant of its next version on a server, in the life that is known of it, and
     /// the server's load rises by one. `lease` is 0 for a put. No grant of the slot is pending.
-    pub fn grant_slot(&mut self, id: SlotId, server: ServerId, actor: ActorId, lease: LeaseId)
+    pub(crate) fn grant_slot(&mut self, id: SlotId, server: ServerId, actor: ActorId, lease: LeaseId)
         requires may { MayMake self.old.image (GrantSlot id server actor lease) }
         requires room { HasRoom (needs (GrantSlot id server actor lease)) self.old }
         ensures image { self.new.image
@@ -35,7 +35,7 @@ impl State {
 
     /// The pending grant of a slot is condemned and gone, if there is one, and its slot remembers
     /// its server, which failed the put.
-    pub fn fail_grant(&mut self, id: SlotId)
+    pub(crate) fn fail_grant(&mut self, id: SlotId)
         requires room { HasRoom (needs (FailGrant id)) self.old }
         ensures image { self.new.image ≡ apply self.old.image (change_of (FailGrant id)) }
         ensures room { TakesRoom (needs (FailGrant id)) self.old self.new }
@@ -46,7 +46,7 @@ impl State {
     }
 
     /// The pending grant of a slot is condemned and gone, if there is one.
-    pub fn give_up(&mut self, id: SlotId)
+    pub(crate) fn give_up(&mut self, id: SlotId)
         requires room { HasRoom (needs (GiveUp id)) self.old }
         ensures image { self.new.image ≡ apply self.old.image (change_of (GiveUp id)) }
         ensures room { TakesRoom (needs (GiveUp id)) self.old self.new }
@@ -58,7 +58,7 @@ impl State {
 
     /// The pending grant of a slot becomes current, and the copy before it is condemned. Where no
     /// grant is pending the slot has no current copy after it.
-    pub fn confirm_slot(&mut self, id: SlotId)
+    pub(crate) fn confirm_slot(&mut self, id: SlotId)
         requires room { HasRoom (needs (ConfirmSlot id)) self.old }
         ensures image { self.new.image ≡ apply self.old.image (change_of (ConfirmSlot id)) }
         ensures room { TakesRoom (needs (ConfirmSlot id)) self.old self.new }
@@ -69,7 +69,7 @@ impl State {
     }
 
     /// The current copy of a slot is condemned, and then its pending grant.
-    pub fn empty_slot(&mut self, id: SlotId)
+    pub(crate) fn empty_slot(&mut self, id: SlotId)
         requires room { HasRoom (needs (EmptySlot id)) self.old }
         ensures image { self.new.image ≡ apply self.old.image (change_of (EmptySlot id)) }
         ensures room { TakesRoom (needs (EmptySlot id)) self.old self.new }
