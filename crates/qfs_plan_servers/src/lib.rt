@@ -2,6 +2,8 @@
 //! and tells what it changes and what it answers, or why there is no plan.
 #![tactic(auto)]
 
+mod hello;
 mod standing;
 
+pub use hello::plan_hello;
 pub use standing::{plan_bye, plan_hibernate, plan_leave, plan_left_on};
