@@ -14,7 +14,7 @@ use crate::view::LeaseView;
 use qfs_base::image::{Lease, LeaseList};
 use qfs_base::listing::Listing;
 use qfs_base::numbers::{ActorId, FileId, LeaseId};
-use qfs_table::Table;
+use qfs_table::{Run, Table};
 use std::alloc::{AllocError, Global};
 use std::marker::Model;
 
@@ -83,6 +83,13 @@ impl Leases {
         }
         leases.next = next;
         Ok(leases)
+    }
+
+    /// The live leases as rows, by number.
+    pub fn rows(&self) -> Run<'_, LeaseRow>
+        ensures { result ≡ self.now.leases }
+    {
+        self.by_number.iter()
     }
 
     /// All live leases, by number.

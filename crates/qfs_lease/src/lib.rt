@@ -8,4 +8,5 @@ mod row;
 mod view;
 
 pub use leases::Leases;
+pub use row::LeaseRow;
 pub use view::LeaseView;

@@ -131,9 +131,12 @@ pub enum Unplanned {
 }
 
 impl From<AllocError> for Unplanned {
-    fn from(_: AllocError) -> Unplanned
-        ensures { result ≡ Unplanned.NoMemory }
-    {
+    ghost use Rattle.std.specs.Prelude.{◌≡◌};
+    ghost use Rattle.qfs_state.specs.declared.prepared.Unplanned.TheVariants as Is;
+
+    ghost from_gives = { λ _ e. e ≡ Is.NoMemory };
+
+    fn from(_: AllocError) -> Unplanned {
         Unplanned::NoMemory
     }
 }
