@@ -15,7 +15,13 @@ use qfs_place::{granted_copy, server_at};
 impl State {
     /// A slot gets a grant of its next version on a server, in the life that is known of it, and
     /// the server's load rises by one. `lease` is 0 for a put. No grant of the slot is pending.
-    pub(crate) fn grant_slot(&mut self, id: SlotId, server: ServerId, actor: ActorId, lease: LeaseId)
+    pub(crate) fn grant_slot(
+        &mut self,
+        id: SlotId,
+        server: ServerId,
+        actor: ActorId,
+        lease: LeaseId,
+    )
         requires may { MayMake self.old.image (GrantSlot id server actor lease) }
         requires room { HasRoom (needs (GrantSlot id server actor lease)) self.old }
         ensures image { self.new.image
