@@ -71,7 +71,8 @@ left_of : Decision → ℕ
 left_of (Tells (Told.Left count)) = count
 left_of other = 0
 
-pub left_counted : (m : MetaImage) (server life count : ℕ) → life ≡ (server_at m.servers server).life
+pub left_counted : (m : MetaImage) (server life count : ℕ)
+    → life ≡ (server_at m.servers server).life
     → decide_left_on server m ≡ Tells (Told.Left count) → count_on server life m.slots ≡ count
 unfolding decide_left_on left_of
 left_counted m server life count same is =
