@@ -1,0 +1,4 @@
+mod Bars
+mod Found
+mod LeasedPlans
+mod Rows
