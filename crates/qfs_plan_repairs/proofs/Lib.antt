@@ -1,0 +1,5 @@
+mod Bars
+mod Found
+mod LeasedPlans
+mod Refusals
+mod Rows
