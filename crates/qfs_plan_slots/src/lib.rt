@@ -1,0 +1,8 @@
+//! Plans of the requests on slots: what ends a recovery or move, sweeps, and the grants of a put.
+//! Each request reads the state and tells what it changes and what it answers, or why there is no
+//! plan.
+#![tactic(auto)]
+
+mod sweeps;
+
+pub use sweeps::{plan_order, plan_swept};
