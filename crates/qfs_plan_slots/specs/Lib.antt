@@ -1,1 +1,2 @@
 -- What the contracts of the plans cite.
+pub mod Ends

@@ -3,6 +3,9 @@
 //! plan.
 #![tactic(auto)]
 
+mod ending;
+mod settling;
 mod sweeps;
 
+pub use settling::{plan_abandon, plan_confirm};
 pub use sweeps::{plan_order, plan_swept};
