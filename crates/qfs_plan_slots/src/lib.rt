@@ -3,9 +3,12 @@
 //! plan.
 #![tactic(auto)]
 
+mod barred;
 mod ending;
+mod granting;
 mod settling;
 mod sweeps;
 
+pub use granting::plan_grant;
 pub use settling::{plan_abandon, plan_confirm};
 pub use sweeps::{plan_order, plan_swept};
