@@ -151,7 +151,8 @@ fn taken_refusal(again: bool, pending: Option<Grant>) -> Option<MetaReply>
 /// Grants a server for a slot of a file that the actor hasn't closed yet (Gone where there is
 /// none, NoBlock where it has no such block). `again` says that the server of the pending grant
 /// failed the put: that grant is condemned, and its server barred (without `again` Taken, with the
-/// version of the grant). NoServer where no server is open for the slot.
+/// version of the grant). NoServer where no server is open for the slot, and no memory where the
+/// load of the chosen one is the last number of 32 bits.
 pub fn plan_grant(
     alloc: Global,
     layout: &Layout,
