@@ -1,0 +1,5 @@
+mod Bars
+mod Ended
+mod Found
+mod Opening
+mod Regrant

@@ -1,0 +1,3 @@
+-- What the contracts of the plans cite.
+pub mod Ends
+pub mod Steps
