@@ -4,11 +4,13 @@
 #![tactic(auto)]
 
 mod barred;
+mod evacuation;
 mod granting;
 mod moves;
 mod repairs;
 mod sources;
 
+pub use evacuation::plan_evacuate;
 pub use granting::{plan_chosen, plan_leased, plan_recovery};
 pub use moves::plan_move;
 pub use repairs::plan_recover;
