@@ -3,3 +3,4 @@ mod Found
 mod LeasedPlans
 mod Refusals
 mod Rows
+mod ToMove

@@ -1,6 +1,7 @@
 //! The copies that a recovery or move reads.
 ghost use Rattle.std.specs.Prelude.{◌≡◌, ◌<◌, IfOk};
 ghost use Rattle.qfs_base.specs.Sizes.{SLOTS};
+ghost use Rattle.qfs_model_meta.specs.LeasedGrants.{move_source};
 ghost use Rattle.qfs_model_meta.specs.Lists.{listed_nine, listed_others, no_sources, one_source};
 
 use qfs_base::chunk::{BlockId, Copy};
@@ -29,6 +30,18 @@ pub fn one_source(alloc: Global, slot: Slot, copy: Copy) -> Result<Nine, AllocEr
     let mut nine = no_sources(alloc)?;
     nine.set(slot as usize, Some(copy));
     Ok(nine)
+}
+
+/// What a move of a slot's current copy reads: that copy alone.
+#[tactic(auto, unfolding(qfs_model_meta::specs::LeasedGrants::move_source))]
+pub fn move_source(alloc: Global, slot: Slot, current: Option<Copy>) -> Result<Nine, AllocError>
+    requires { slot < SLOTS }
+    ensures { IfOk result (λ nine. nine ≡ move_source slot current) }
+{
+    match current {
+        Some(copy) => one_source(alloc, slot, copy),
+        None => no_sources(alloc),
+    }
 }
 
 /// The listed copies of a block.
