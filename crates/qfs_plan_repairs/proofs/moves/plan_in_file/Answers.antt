@@ -30,7 +30,8 @@ returns-clause-ok c =
     c.if-index-blocks_of.false))))
     (subst (λ (it : KnownFile). IfOk c.plan_slot.result (IsPlan c.args.state.now.image
     (move_current c.args.layout.now c.args.term c.args.actor
-    (record { block = record { file = it.file; index = c.args.index }; slot = c.args.slot }) c.args.to
+    (record { block = record { file = it.file; index = c.args.index }; slot = c.args.slot })
+    c.args.to
     c.args.state.now.image))) known c.plan_slot.ensures.ok)
 
 pub returns-clause-err : goal.returns-clause-err
@@ -44,5 +45,6 @@ returns-clause-err c =
     c.if-index-blocks_of.false))))
     (subst (λ (it : KnownFile). IfErr c.plan_slot.result (IsUnplanned
     (move_current c.args.layout.now c.args.term c.args.actor
-    (record { block = record { file = it.file; index = c.args.index }; slot = c.args.slot }) c.args.to
+    (record { block = record { file = it.file; index = c.args.index }; slot = c.args.slot })
+    c.args.to
     c.args.state.now.image))) known c.plan_slot.ensures.err)
